@@ -1,10 +1,9 @@
 -- Who has crashed stays so.
 use Rattle.std.proofs.Common.{◌≡◌, ◌⊎◌, ℕ, true, false, List, [], ◌∷◌, sym, ◌∙◌, subst, inl, inr}
-use Rattle.rc_model.specs.Model.{ServerId, Event, is_up, has_crashed, World, opening, step, replay_from, replay, Take, Create, Split}
+use Rattle.rc_model.specs.Model.{ServerId, Event, is_up, has_crashed, World, opening, step, replay_from, replay}
 use Rattle.rc_step_laws.proofs.Servers.{crashed-not-up}
 use Rattle.rc_model.proofs.Replays.{replay_from-push}
-use Rattle.rc_model.specs.Nodes.{Ask, Tick, Stop, Start, Suspect, Decide}
-use Rattle.rc_log_laws.proofs.Granted.{grants-takes, grants-ticks, grants-suspects, grants-decides, grants-creates, grants-splits}
+use Rattle.rc_log_laws.proofs.Granted.{grants-step}
 use Rattle.rc_log_laws.proofs.Replays.{GoodWorld, GoodStep, led-step, good-world}
 use Rattle.rc_log_laws.specs.CommitClaims.{CrashedIsNeverUp, WasCommitted, EachGrantGoesToTheUp, GrantsGoToTheUp, CrashedAreGrantedNoMore}
 use Rattle.rc_log_laws.proofs.Since.{replay_from-append}
@@ -27,15 +26,7 @@ crashed-is-never-up setup events more m e =
 -- Grants
 
 pub each-grant-goes-to-the-up : EachGrantGoesToTheUp
-each-grant-goes-to-the-up c (Take message) m s e at = grants-takes c message.from message.body m s e at
-each-grant-goes-to-the-up c (Tick addr) m s e at = grants-ticks c m s e at
-each-grant-goes-to-the-up c (Suspect id) m s e at = grants-suspects c id m s e at
-each-grant-goes-to-the-up c (Decide id) m s e at = grants-decides c id m s e at
-each-grant-goes-to-the-up c (Create table owner) m s e at = grants-creates c table owner m s e at
-each-grant-goes-to-the-up c (Split table key) m s e at = grants-splits c table key m s e at
-each-grant-goes-to-the-up c (Ask to asked) m s e at = absurd at
-each-grant-goes-to-the-up c (Stop id) m s e at = absurd at
-each-grant-goes-to-the-up c (Start kept) m s e at = absurd at
+each-grant-goes-to-the-up = grants-step
 
 pub grants-go-to-the-up : GrantsGoToTheUp
 grants-go-to-the-up setup events one m s e at =

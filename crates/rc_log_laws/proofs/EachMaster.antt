@@ -2,20 +2,19 @@
 use Rattle.std.proofs.Common.{◌≡◌, ℕ, ◌+◌, Bool, true, false, List, [], ◌∷◌, ◌++◌, Option, Some}
 use Rattle.std.proofs.Common.{None, refl, sym, ap, ◌∙◌, subst, inl, inr, arith}
 use Rattle.rc_model.specs.Model.{ServerId, Addr, Server, Outside, Setup, Event, Message, Body}
-use Rattle.rc_model.specs.Model.{Data, Stored, Replicas, Enlist, same_id, is_server, put_id, to_coordinator}
+use Rattle.rc_model.specs.Model.{Data, Stored, Replicas, Enlist, same_id, put_id, to_coordinator}
 use Rattle.rc_model.specs.Model.{Backup, backup_takes}
-use Rattle.rc_model.specs.Model.{Master, new_master, master_takes, master_ticks, Work, Take, Create, Split}
-use Rattle.rc_model.specs.Model.{HostNode, master_setup, outside_sends, coordinator_step, server_of, host_step, is_for_backup}
-use Rattle.rc_model.specs.Model.{with_backup, with_master, server_takes, takes_if_running, ticks_if_running, starts_host, next_server}
+use Rattle.rc_model.specs.Model.{Master, new_master, master_takes, master_ticks, Work}
+use Rattle.rc_model.specs.Model.{HostNode, master_setup, outside_sends, coordinator_step, server_of, host_step}
+use Rattle.rc_model.specs.Model.{with_backup, with_master, starts_host, next_server}
 use Rattle.rc_model.specs.Model.{World, opening, NodeName, TheOutside, TheCoordinator, TheHost, Job, work_of, is_possible, with_last_view}
 use Rattle.rc_model.specs.Model.{node_done, job_done, step, replay_from, replay, In}
 use Rattle.rc_types.specs.declared.ids.Addr.TheVariants.{Coordinator as AtCoordinator}
-use Rattle.rc_model.specs.Nodes.{Ask, Tick, Stop, Start, Suspect, Decide}
+use Rattle.rc_model.specs.Nodes.{Ask}
 use Rattle.rc_step_laws.specs.All.{GoodMaster, GoodHost, MasterMoved}
-use Rattle.rc_step_laws.proofs.MasterSteps.{master_takes_keeps, master_ticks_keeps}
-use Rattle.rc_step_laws.proofs.CoordinatorSteps as coordinator
-use Rattle.rc_log_laws.proofs.Replays.{GoodWorld, IsGiven, is-good, is-fine, hears, is_server-true, work_of-given}
-use Rattle.rc_log_laws.proofs.Replays.{may-hear, to-coordinator-is, good-step, good-opening}
+use Rattle.rc_log_laws.proofs.NodeWalk.{walked-host}
+use Rattle.rc_log_laws.proofs.Replays.{GoodWorld, IsGiven, is-good, work_of-given}
+use Rattle.rc_log_laws.proofs.Replays.{coordinator-moved, good-step, good-opening}
 use Rattle.rc_model.proofs.Sending.{Each, each-none, each-one}
 use Rattle.rc_model.proofs.Telling.{each-told}
 use Rattle.rc_model.proofs.Ids.{same_id-true, same_id-refl, server-same}
@@ -63,18 +62,7 @@ others-backup backup from body = each-told BySelf backup (λ x s e len closed. r
 
 pub coordinator-from : (world : World) (work : Work) → GoodWorld world → IsGiven world.sent TheCoordinator work →
     (message : Message) → In message (coordinator_step world.coordinator work).1 → message.from ≡ AtCoordinator
-coordinator-from world (Take taken) good given =
-    (coordinator.moved-takes world.sent world.coordinator good.coordinator taken.from taken.body
-    (may-hear world.sent world.masters world.hosts world.coordinator good taken.from taken.body
-    (subst (λ (to : Addr). In (record { from = taken.from; to = to; body = taken.body }) world.sent)
-    (to-coordinator-is taken.to given.1) given.0))).from
-coordinator-from world (Tick addr) good given = (coordinator.moved-ticks world.sent world.coordinator good.coordinator).from
-coordinator-from world (Suspect id) good given = (coordinator.moved-suspects world.sent world.coordinator good.coordinator id).from
-coordinator-from world (Decide id) good given = (coordinator.moved-decides world.sent world.coordinator good.coordinator id).from
-coordinator-from world (Create table owner) good given =
-    (coordinator.moved-creates world.sent world.coordinator good.coordinator table owner).from
-coordinator-from world (Split table at) good given = (coordinator.moved-splits world.sent world.coordinator good.coordinator table at).from
-coordinator-from world _ good given = λ message at. absurd at
+coordinator-from world work good given = (coordinator-moved world work good given).from
 
 abbrev pub OfAll : (List Message → ServerId → Master → Type 0) → List Message → (ServerId → Master) → Type 0
 OfAll P sent masters = (m : ServerId) → P sent m (masters m)
@@ -142,41 +130,8 @@ module _ (P Q : List Message → ServerId → Master → Type 0) (led : IsLed P 
     mine : (master : Master) → (world.hosts i).master ≡ Some master → P world.sent (server_of (world.hosts i)) master
     mine master e = subst (P world.sent (server_of (world.hosts i))) ((good.hosts_are i).runs master e) (p (server_of (world.hosts i)))
 
-    done-server : (master : Master) → (world.hosts i).master ≡ Some master → (message : Message) →
-        In (record { from = message.from; to = Server (server_of (world.hosts i)); body = message.body }) world.sent →
-        Done (server_takes (world.hosts i) master message)
-    done-server master e message at =
-        either Done (is_for_backup message.body)
-        (with_backup (world.hosts i) (backup_takes (world.hosts i).backup message.from message.body))
-        (with_master (world.hosts i) (master_takes master message.from message.body))
-        (λ _. as_backup (backup_takes (world.hosts i).backup message.from message.body)
-        (others-backup (world.hosts i).backup message.from message.body))
-        (λ _. done-moved master e (master_takes master message.from message.body)
-        (master_takes_keeps world.sent (server_of (world.hosts i)) master message.from message.body
-        (is-good world one i good master e) (is-fine world one i good master e)
-        (hears world one i good message.from message.body at))
-        (led.takes world.sent (server_of (world.hosts i)) master message.from message.body
-        (is-good world one i good master e) (mine master e) at))
-      where
-        as_backup : (after : Backup × List Message) → Each BySelf after.1 → Done (with_backup (world.hosts i) after)
-        as_backup (backup, messages) soft = done-quiet (record (world.hosts i) { backup = backup }) messages refl soft
-
-    done-takes : (found : Option Master) → (world.hosts i).master ≡ found → (message : Message) →
-        In message world.sent → Done (takes_if_running (world.hosts i) found message)
-    done-takes None e message at = done-quiet (world.hosts i) [] refl (each-none BySelf)
-    done-takes (Some master) e message at =
-        either Done (is_server (server_of (world.hosts i)) message.to) (server_takes (world.hosts i) master message) (world.hosts i, [])
-        (λ is. done-server master e message
-        (subst (λ (to : Addr). In (record { from = message.from; to = to; body = message.body }) world.sent)
-        (is_server-true world one i good (server_of (world.hosts i)) message.to is) at))
-        (λ _. done-quiet (world.hosts i) [] refl (each-none BySelf))
-
-    done-ticks : (found : Option Master) → (world.hosts i).master ≡ found → Done (ticks_if_running (world.hosts i) found)
-    done-ticks None e = done-quiet (world.hosts i) [] refl (each-none BySelf)
-    done-ticks (Some master) e =
-        done-moved master e (master_ticks master) (master_ticks_keeps world.sent (server_of (world.hosts i)) master
-        (is-good world one i good master e) (is-fine world one i good master e))
-        (led.ticks world.sent (server_of (world.hosts i)) master (is-good world one i good master e) (mine master e))
+    done-backup : (after : Backup × List Message) → Each BySelf after.1 → Done (with_backup (world.hosts i) after)
+    done-backup (backup, messages) soft = done-quiet (record (world.hosts i) { backup = backup }) messages refl soft
 
     done-starts : (list : List (ServerId × ℕ)) → Done (starts_host (world.hosts i) (next_server (world.hosts i)) list)
     done-starts list =
@@ -198,11 +153,17 @@ module _ (P Q : List Message → ServerId → Master → Type 0) (led : IsLed P 
             (was.unstarted ((world.hosts i).generation + 1) (omega arith))
 
     done-host : (work : Work) → IsGiven world.sent (TheHost i) work → Done (host_step (world.hosts i) work)
-    done-host (Take message) given = done-takes (world.hosts i).master refl message given.0
-    done-host (Tick addr) given = done-ticks (world.hosts i).master refl
-    done-host (Stop id) given = quiet-all world.sent [] world.masters p (λ m message at. absurd at)
-    done-host (Start list) given = done-starts list
-    done-host _ given = done-quiet (world.hosts i) [] refl (each-none BySelf)
+    done-host work given = walked-host world one i good Done (record {
+      still = done-quiet (world.hosts i) [] refl (each-none BySelf);
+      backs = λ master e from says at moved. done-backup (backup_takes (world.hosts i).backup from says)
+          (others-backup (world.hosts i).backup from says);
+      takes = λ master e from says at moved. done-moved master e (master_takes master from says) moved
+          (led.takes world.sent (server_of (world.hosts i)) master from says (is-good world one i good master e) (mine master e) at);
+      ticks = λ master e moved. done-moved master e (master_ticks master) moved
+          (led.ticks world.sent (server_of (world.hosts i)) master (is-good world one i good master e) (mine master e));
+      stops = quiet-all world.sent [] world.masters p (λ m message at. absurd at);
+      starts = done-starts;
+    }) work given
 
   abbrev Before : World → Type 0
   Before world = OfAll P world.sent world.masters

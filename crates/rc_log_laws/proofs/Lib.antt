@@ -7,6 +7,7 @@ pub mod Granted
 pub mod Worlds
 pub mod MasterWorlds
 pub mod HostWorlds
+pub mod NodeWalk
 pub mod Replays
 pub mod Since
 pub mod Stored
@@ -18,7 +19,7 @@ pub mod EachMaster
 pub mod Keeping
 pub mod KeptWorlds
 pub mod Crashing
-mod LeastPairs
+pub mod LeastPairs
 pub mod Silent
 pub mod Stays
 pub mod Walk

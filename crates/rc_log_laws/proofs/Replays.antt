@@ -3,12 +3,12 @@ use Rattle.std.proofs.Common.{◌≡◌, ℕ, ◌+◌, Bool, true, nat_eq, List,
 use Rattle.std.proofs.Common.{refl, sym, ap, ◌∙◌, subst, inl, inr, arith}
 use Rattle.std.proofs.lemmas.Bool.{and_parts, eqb-true}
 use Rattle.std.proofs.Math.Path.{fun_ext}
-use Rattle.rc_model.specs.Model.{ServerId, Addr, Server, Outside, Entry, Setup, Event, Message, Body, same_id, is_server, put, put_id}
-use Rattle.rc_model.specs.Model.{between, to_coordinator, Backup, backup_takes, Master, new_master, master_takes, master_ticks, suspects}
-use Rattle.rc_model.specs.Model.{decides, creates, splits, coordinator_ticks, coordinator_takes, Work, Take, Create, Split, HostNode}
-use Rattle.rc_model.specs.Model.{master_setup, is_for_clients, outside_can, coordinator_can, server_of, host_can, is_for_backup}
-use Rattle.rc_model.specs.Model.{with_backup, with_master, server_takes, takes_if_running, ticks_if_running, next_server, starts_host}
-use Rattle.rc_model.specs.Model.{World, opening, NodeName, TheOutside, TheCoordinator, TheHost, Job, node_of, delivery, work_of, node_can}
+use Rattle.rc_model.specs.Model.{ServerId, Server, Outside, Entry, Setup, Event, Message, Body, same_id, put, put_id}
+use Rattle.rc_model.specs.Model.{between, to_coordinator, Backup, backup_takes, Master, new_master, master_takes, master_ticks}
+use Rattle.rc_model.specs.Model.{Work, Take, Create, Split, HostNode}
+use Rattle.rc_model.specs.Model.{master_setup, is_for_clients, outside_can, server_of}
+use Rattle.rc_model.specs.Model.{with_backup, with_master, next_server, starts_host}
+use Rattle.rc_model.specs.Model.{coordinator_step, World, opening, NodeName, TheOutside, TheCoordinator, TheHost, Job, node_of, delivery, work_of, node_can}
 use Rattle.rc_model.specs.Model.{is_possible_job, is_possible, with_last_view, host_done, node_done, job_done, step, replay_from, replay}
 use Rattle.rc_model.specs.Model.{In, NothingIsMissing, NothingIsInvented}
 use Rattle.rc_types.specs.declared.ids.Addr.TheVariants.{Coordinator as AtCoordinator}
@@ -17,26 +17,22 @@ use Rattle.rc_types.specs.declared.messages.Body.TheVariants as body
 use Rattle.rc_model.specs.Coordinator.{Coordinator}
 use Rattle.rc_model.specs.Nodes.{Ask, Tick, Stop, Start, Suspect, Decide}
 use Rattle.rc_model.proofs.Members.{In-get}
-use Rattle.rc_step_laws.specs.Facts.{GoodMaster, GoodHost, Good, body_fine, Fine}
-use Rattle.rc_step_laws.specs.Moves.{OwnFine, MasterMoved, MayHear, CoordinatorMayHear, BackupMoved}
-use Rattle.rc_step_laws.proofs.MasterSteps.{master_takes_keeps, master_ticks_keeps, new_master_is_good}
+use Rattle.rc_step_laws.specs.Facts.{GoodHost, Good, body_fine, Fine}
+use Rattle.rc_step_laws.specs.Moves.{MasterMoved, BackupMoved}
+use Rattle.rc_step_laws.proofs.MasterSteps.{new_master_is_good}
 use Rattle.rc_step_laws.proofs.Attempting.{new-good}
-use Rattle.rc_step_laws.proofs.CoordinatorSteps.{moved-takes, moved-suspects, moved-decides, moved-creates, moved-splits, moved-ticks}
-use Rattle.rc_step_laws.proofs.Backups.{Quiet, quiet-none, own-fine, moved-backup, moved-restart, server-is}
+use Rattle.rc_step_laws.proofs.Backups.{Quiet, quiet-none, own-fine, moved-restart, server-is}
 use Rattle.rc_log_laws.proofs.Clauses.{nothing-missing, nothing-invented}
-use Rattle.rc_log_laws.proofs.Granted.{GrantsUp, grants-takes, grants-ticks, grants-suspects, grants-decides}
-use Rattle.rc_log_laws.proofs.Granted.{grants-creates, grants-splits}
+use Rattle.rc_log_laws.proofs.Granted.{GrantsUp, grants-step}
+pub use Rattle.rc_log_laws.proofs.NodeWalk.{GoodWorld, IsGiven, may-hear, to-coordinator-is, taken-at, coordinator-moved}
+pub use Rattle.rc_log_laws.proofs.NodeWalk.{is-good, is-fine, hears, is_server-true}
+use Rattle.rc_log_laws.proofs.NodeWalk.{walked-host}
 use Rattle.rc_log_laws.proofs.Unmoved.{unmoved-grown}
 use Rattle.rc_log_laws.proofs.Worlds.{Led, host_later-refl, coordinator_later-refl, good-quiet, good-coordinator}
 use Rattle.rc_log_laws.proofs.MasterWorlds.{good-master}
 use Rattle.rc_log_laws.proofs.HostWorlds.{coordinator-still, good-backup, good-host}
-use Rattle.rc_model.proofs.Tables.{put-same}
 use Rattle.rc_model.proofs.Ids.{same_id-true}
 use Rattle.rc_model.proofs.Tests.{true_false, either}
-
--- all facts, of a world
-abbrev pub GoodWorld : World → Type 0
-GoodWorld world = Good world.sent world.masters world.hosts world.coordinator
 
 -- a good world after another, and what it has more
 abbrev pub GoodStep : World → World → Type 0
@@ -114,55 +110,11 @@ good-outside world one (Split table at) good can = true_false (sym can)
 
 -- The coordinator
 
--- what reaches the coordinator was sent to it
-pub may-hear : (sent : List Message) (masters : ServerId → Master) (hosts : ℕ → HostNode) (c : Coordinator) →
-    Good sent masters hosts c → (from : Addr) (says : Body) →
-    In (record { from = from; to = AtCoordinator; body = says }) sent → CoordinatorMayHear sent from says
-may-hear sent masters hosts c good (Server y) (body.Replicas number rows) at = at
-may-hear sent masters hosts c good from _ at = tt
-
--- what a node is given was sent to it
-abbrev pub IsGiven : List Message → NodeName → Work → Type 0
-IsGiven sent node (Take message) = In message sent × (node_of message.to ≡ node)
-IsGiven sent node _ = Unit {0}
-
--- an address of the coordinator, and one of a host's server
-pub to-coordinator-is : (to : Addr) → node_of to ≡ TheCoordinator → to ≡ AtCoordinator
-to-coordinator-is (Server id) e = cc
-to-coordinator-is AtCoordinator e = refl
-to-coordinator-is Outside e = cc
-
 good-coordinator-node : (world : World) (one : Event) (work : Work) → GoodWorld world →
-    IsGiven world.sent TheCoordinator work → coordinator_can work ≡ true →
-    GoodStep world (node_done world one TheCoordinator work)
-good-coordinator-node world one (Take message) good given can =
-    good-coordinator world.sent world.masters world.hosts world.coordinator
-    (coordinator_takes world.coordinator message.from message.body) good
-    (moved-takes world.sent world.coordinator good.coordinator message.from message.body
-    (may-hear world.sent world.masters world.hosts world.coordinator good message.from message.body
-    (subst (λ (to : Addr). In (record { from = message.from; to = to; body = message.body }) world.sent)
-    (to-coordinator-is message.to given.1) given.0)))
-    (grants-takes world.coordinator message.from message.body)
-good-coordinator-node world one (Tick addr) good given can =
-    good-coordinator world.sent world.masters world.hosts world.coordinator
-    (world.coordinator, coordinator_ticks world.coordinator) good
-    (moved-ticks world.sent world.coordinator good.coordinator) (grants-ticks world.coordinator)
-good-coordinator-node world one (Suspect id) good given can =
-    good-coordinator world.sent world.masters world.hosts world.coordinator (suspects world.coordinator id) good
-    (moved-suspects world.sent world.coordinator good.coordinator id) (grants-suspects world.coordinator id)
-good-coordinator-node world one (Decide id) good given can =
-    good-coordinator world.sent world.masters world.hosts world.coordinator (decides world.coordinator id) good
-    (moved-decides world.sent world.coordinator good.coordinator id) (grants-decides world.coordinator id)
-good-coordinator-node world one (Create table owner) good given can =
-    good-coordinator world.sent world.masters world.hosts world.coordinator (creates world.coordinator table owner) good
-    (moved-creates world.sent world.coordinator good.coordinator table owner)
-    (grants-creates world.coordinator table owner)
-good-coordinator-node world one (Split table at) good given can =
-    good-coordinator world.sent world.masters world.hosts world.coordinator (splits world.coordinator table at) good
-    (moved-splits world.sent world.coordinator good.coordinator table at) (grants-splits world.coordinator table at)
-good-coordinator-node world one (Ask to asked) good given can = true_false (sym can)
-good-coordinator-node world one (Stop id) good given can = true_false (sym can)
-good-coordinator-node world one (Start kept) good given can = true_false (sym can)
+    IsGiven world.sent TheCoordinator work → GoodStep world (node_done world one TheCoordinator work)
+good-coordinator-node world one work good given =
+    good-coordinator world.sent world.masters world.hosts world.coordinator (coordinator_step world.coordinator work) good
+    (coordinator-moved world work good given) (grants-step world.coordinator work)
 
 -- Hosts
 
@@ -220,95 +172,17 @@ module _ (world : World) (one : Event) (i : ℕ) (good : GoodWorld world) where
       (subst (λ (old : Master). MasterMoved world.sent (server_of (world.hosts i)) old after)
       (sym ((good.hosts_are i).runs master e)) moved))
 
-  -- the master of a host, with what is known of it
-  pub is-good : (master : Master) → (world.hosts i).master ≡ Some master → GoodMaster world.sent (server_of (world.hosts i)) master
-  is-good master e = subst (GoodMaster world.sent (server_of (world.hosts i))) ((good.hosts_are i).runs master e)
-      (good.masters_are (server_of (world.hosts i)))
-
-  pub is-fine : (master : Master) → (world.hosts i).master ≡ Some master → OwnFine world.sent (server_of (world.hosts i)) master.log
-  is-fine master e = subst (λ (one : Master). OwnFine world.sent (server_of (world.hosts i)) one.log)
-      ((good.hosts_are i).runs master e) (own-fine world.sent world.masters world.hosts world.coordinator good
-      (server_of (world.hosts i)))
-
-  -- what a master hears was sent to it
-  pub hears : (from : Addr) (says : Body) →
-      In (record { from = from; to = Server (server_of (world.hosts i)); body = says }) world.sent →
-      MayHear world.sent (server_of (world.hosts i)) from says
-  hears (Server x) (body.Stored s e len closed) at = at
-  hears AtCoordinator (body.CommitOk s e) at = at
-  hears (Server x) (body.CommitOk s e) at =
-      absurd (good.messages (record {
-        from = Server x;
-        to = Server (server_of (world.hosts i));
-        body = body.CommitOk s e;
-      }) at)
-  hears Outside (body.CommitOk s e) at =
-      absurd (good.messages (record {
-        from = Outside;
-        to = Server (server_of (world.hosts i));
-        body = body.CommitOk s e;
-      }) at)
-  hears from (body.List version rows) at =
-      good.messages (record { from = from; to = Server (server_of (world.hosts i)); body = body.List version rows }) at
-  hears from _ at = tt
-
-  -- a message to the running server
-  good-server : (master : Master) → (world.hosts i).master ≡ Some master → (message : Message) →
-      In (record { from = message.from; to = Server (server_of (world.hosts i)); body = message.body }) world.sent →
-      GoodStep world (host_done world one i (server_takes (world.hosts i) master message))
-  good-server master e message at =
-      either (λ (after : HostNode × List Message). GoodStep world (host_done world one i after))
-      (is_for_backup message.body)
-      (with_backup (world.hosts i) (backup_takes (world.hosts i).backup message.from message.body))
-      (with_master (world.hosts i) (master_takes master message.from message.body))
-      (λ _. as_backup (backup_takes (world.hosts i).backup message.from message.body)
-      (moved-backup world.sent world.masters world.hosts
-      (put world.hosts i (record (world.hosts i)
-      { backup = (backup_takes (world.hosts i).backup message.from message.body).0 })) world.coordinator i
-      message.from message.body good at
-      (ap (put world.hosts i (record (world.hosts i)
-      { backup = (backup_takes (world.hosts i).backup message.from message.body).0 })) (good.hosts_are i).index ∙
-      put-same world.hosts i (record (world.hosts i)
-      { backup = (backup_takes (world.hosts i).backup message.from message.body).0 }))))
-      (λ _. good-moved master e (master_takes master message.from message.body)
-      (master_takes_keeps world.sent (server_of (world.hosts i)) master message.from message.body (is-good master e)
-      (is-fine master e) (hears message.from message.body at)))
-    where
-      as_backup : (after : Backup × List Message) →
-          BackupMoved world.sent world.masters (put world.hosts i (record (world.hosts i) { backup = after.0 }))
-          world.coordinator (world.hosts i) after →
-          GoodStep world (host_done world one i (with_backup (world.hosts i) after))
-      as_backup after moved =
-          good-same world (world.sent ++ after.1) world.masters (with_last_view world.masters (world.hosts i).master)
-          (put world.hosts i (record (world.hosts i) { backup = after.0 }))
-          (put world.hosts i (record (world.hosts i) { backup = after.0 })) world.coordinator
-          (last-view world.sent world.masters world.hosts world.coordinator good i (world.hosts i).master refl) refl
-          (good-backup world.sent world.masters world.hosts world.coordinator good i after.0 after.1 moved)
-
-  -- the test of an address
-  pub is_server-true : (id : ServerId) (to : Addr) → is_server id to ≡ true → to ≡ Server id
-  is_server-true id (Server other) e = ap Server (sym (same_id-true id other e))
-  is_server-true id AtCoordinator e = true_false (sym e)
-  is_server-true id Outside e = true_false (sym e)
-
-  -- a message to the host, by whether its master runs
-  good-takes : (found : Option Master) → (world.hosts i).master ≡ found → (message : Message) → In message world.sent →
-      GoodStep world (host_done world one i (takes_if_running (world.hosts i) found message))
-  good-takes None e message at = good-still
-  good-takes (Some master) e message at =
-      either (λ (after : HostNode × List Message). GoodStep world (host_done world one i after))
-      (is_server (server_of (world.hosts i)) message.to) (server_takes (world.hosts i) master message)
-      (world.hosts i, [])
-      (λ is. good-server master e message
-      (subst (λ (to : Addr). In (record { from = message.from; to = to; body = message.body }) world.sent)
-      (is_server-true (server_of (world.hosts i)) message.to is) at))
-      (λ _. good-still)
-
-  good-ticks : (found : Option Master) → (world.hosts i).master ≡ found →
-      GoodStep world (host_done world one i (ticks_if_running (world.hosts i) found))
-  good-ticks None e = good-still
-  good-ticks (Some master) e = good-moved master e (master_ticks master)
-      (master_ticks_keeps world.sent (server_of (world.hosts i)) master (is-good master e) (is-fine master e))
+  -- its backup moves
+  good-backs : (after : Backup × List Message) →
+      BackupMoved world.sent world.masters (put world.hosts i (record (world.hosts i) { backup = after.0 }))
+      world.coordinator (world.hosts i) after →
+      GoodStep world (host_done world one i (with_backup (world.hosts i) after))
+  good-backs after moved =
+      good-same world (world.sent ++ after.1) world.masters (with_last_view world.masters (world.hosts i).master)
+      (put world.hosts i (record (world.hosts i) { backup = after.0 }))
+      (put world.hosts i (record (world.hosts i) { backup = after.0 })) world.coordinator
+      (last-view world.sent world.masters world.hosts world.coordinator good i (world.hosts i).master refl) refl
+      (good-backup world.sent world.masters world.hosts world.coordinator good i after.0 after.1 moved)
 
   -- a stop
   good-stops : GoodStep world (host_done world one i (record (world.hosts i) { master = None }, []))
@@ -398,17 +272,15 @@ module _ (world : World) (one : Event) (i : ℕ) (good : GoodWorld world) where
           world.coordinator one) (sym same) tt
       fine message (inr never) = absurd never
 
-  good-host-node : (work : Work) → IsGiven world.sent (TheHost i) work → host_can (world.hosts i) work ≡ true →
-      GoodStep world (node_done world one (TheHost i) work)
-  good-host-node (Take message) given can = good-takes (world.hosts i).master refl message given.0
-  good-host-node (Tick addr) given can = good-ticks (world.hosts i).master refl
-  good-host-node (Stop id) given can = good-stops
-  good-host-node (Start kept) given can = good-starts kept
-  good-host-node (Ask to asked) given can = good-still
-  good-host-node (Suspect id) given can = good-still
-  good-host-node (Decide id) given can = good-still
-  good-host-node (Create table owner) given can = good-still
-  good-host-node (Split table at) given can = good-still
+  good-host-node : (work : Work) → IsGiven world.sent (TheHost i) work → GoodStep world (node_done world one (TheHost i) work)
+  good-host-node work given = walked-host world one i good (λ after. GoodStep world (host_done world one i after)) (record {
+    still = good-still;
+    backs = λ master e from says at moved. good-backs (backup_takes (world.hosts i).backup from says) moved;
+    takes = λ master e from says at moved. good-moved master e (master_takes master from says) moved;
+    ticks = λ master e moved. good-moved master e (master_ticks master) moved;
+    stops = good-stops;
+    starts = good-starts;
+  }) work given
 
 -- Events
 
@@ -456,8 +328,8 @@ work_of-given sent (event.Split table at) job e = of-job sent _ job tt e
 good-node : (world : World) (one : Event) (node : NodeName) (work : Work) → GoodWorld world →
     IsGiven world.sent node work → node_can world node work ≡ true → GoodStep world (node_done world one node work)
 good-node world one TheOutside work good given can = good-outside world one work good can
-good-node world one TheCoordinator work good given can = good-coordinator-node world one work good given can
-good-node world one (TheHost i) work good given can = good-host-node world one i good work given can
+good-node world one TheCoordinator work good given can = good-coordinator-node world one work good given
+good-node world one (TheHost i) work good given can = good-host-node world one i good work given
 
 good-job : (world : World) (one : Event) (found : Option Job) → work_of world.sent one ≡ found → GoodWorld world →
     is_possible_job world found ≡ true → GoodStep world (job_done world one found)

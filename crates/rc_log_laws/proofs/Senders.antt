@@ -2,18 +2,19 @@
 use Rattle.std.proofs.Common.{◌≡◌, ℕ, true, List, [], ◌∷◌, ◌++◌, length, drop, Option, Some, None, refl, sym, ap, ◌∙◌}
 use Rattle.std.proofs.Common.{subst, inl, inr}
 use Rattle.std.proofs.Math.Seq.{drop-append_seam, drop-length}
-use Rattle.rc_model.specs.Model.{ServerId, Addr, Server, Outside, Event, Message, Body, Enlist, is_server, put_id}
+use Rattle.rc_model.specs.Model.{ServerId, Server, Outside, Event, Message, Body, Enlist, put_id}
 use Rattle.rc_model.specs.Model.{to_coordinator, Backup, backup_takes, Master, master_takes, master_ticks, Work, Take, Create}
-use Rattle.rc_model.specs.Model.{Split, HostNode, outside_sends, coordinator_step, server_of, host_step, is_for_backup, with_backup}
-use Rattle.rc_model.specs.Model.{with_master, server_takes, takes_if_running, ticks_if_running, next_server, starts_host, World, NodeName}
+use Rattle.rc_model.specs.Model.{Split, HostNode, outside_sends, coordinator_step, server_of, host_step, with_backup}
+use Rattle.rc_model.specs.Model.{with_master, next_server, starts_host, World, NodeName}
 use Rattle.rc_model.specs.Model.{TheOutside, TheCoordinator, TheHost, Job, work_of, is_possible, host_done, node_done}
 use Rattle.rc_model.specs.Model.{job_done, step, In, is_for_clients, outside_can, node_can, is_possible_job}
 use Rattle.std.proofs.lemmas.Bool.{and_parts}
 use Rattle.rc_model.specs.Nodes.{Ask, Tick, Stop, Start, Suspect, Decide}
 use Rattle.rc_model.proofs.Tests.{either}
 use Rattle.rc_model.proofs.Tables.{put-same, put_id-same}
-use Rattle.rc_step_laws.proofs.MasterSteps.{master_takes_keeps, master_ticks_keeps}
-use Rattle.rc_log_laws.proofs.Replays.{GoodWorld, IsGiven, is-good, is-fine, hears, is_server-true, work_of-given}
+use Rattle.rc_step_laws.specs.Moves.{MasterMoved}
+use Rattle.rc_log_laws.proofs.NodeWalk.{walked-host}
+use Rattle.rc_log_laws.proofs.Replays.{GoodWorld, IsGiven, work_of-given}
 
 -- what holds of each message by who sends it, in the world after the event
 pub record EachSender (world : World) (P : World → Message → Type 0) : Type 0 where
@@ -104,13 +105,10 @@ module _ (world : World) (one : Event) (good : GoodWorld world) (P : World → M
         put_id-same world.masters (server_of (world.hosts i)) after
 
     of_takes : (master : Master) → (world.hosts i).master ≡ Some master → (given : Message) → In given world.sent →
-        given.to ≡ Server (server_of (world.hosts i)) → Done (with_master (world.hosts i) (master_takes master given.from given.body))
-    of_takes master e given at to =
-        by (master_takes master given.from given.body) refl
-        (master_takes_keeps world.sent (server_of (world.hosts i)) master given.from given.body
-        (is-good world one i good master e) (is-fine world one i good master e)
-        (hears world one i good given.from given.body
-        (subst (λ (to : Addr). In (record { from = given.from; to = to; body = given.body }) world.sent) to at))).good.own
+        given.to ≡ Server (server_of (world.hosts i)) →
+        MasterMoved world.sent (server_of (world.hosts i)) master (master_takes master given.from given.body) →
+        Done (with_master (world.hosts i) (master_takes master given.from given.body))
+    of_takes master e given at to moved = by (master_takes master given.from given.body) refl moved.good.own
       where
         by : (after : Master × List Message) → master_takes master given.from given.body ≡ after →
             (master_takes master given.from given.body).0.log.own ≡ server_of (world.hosts i) → Done (with_master (world.hosts i) after)
@@ -120,28 +118,10 @@ module _ (world : World) (one : Event) (good : GoodWorld world) (P : World → M
             ap (λ (after : Master × List Message). after.0) (sym is))
             (subst (λ (after : Master × List Message). In message after.1) (sym is) (new world.sent messages message there))
 
-    of_server : (master : Master) → (world.hosts i).master ≡ Some master → (given : Message) → In given world.sent →
-        given.to ≡ Server (server_of (world.hosts i)) → Done (server_takes (world.hosts i) master given)
-    of_server master e given at to =
-        either Done (is_for_backup given.body)
-        (with_backup (world.hosts i) (backup_takes (world.hosts i).backup given.from given.body))
-        (with_master (world.hosts i) (master_takes master given.from given.body))
-        (λ _. of_backup given at to) (λ _. of_takes master e given at to)
-
-    of_delivery : (found : Option Master) → (world.hosts i).master ≡ found → (given : Message) → In given world.sent →
-        Done (takes_if_running (world.hosts i) found given)
-    of_delivery None e given at = quiet (world.hosts i)
-    of_delivery (Some master) e given at =
-        either Done (is_server (server_of (world.hosts i)) given.to) (server_takes (world.hosts i) master given) (world.hosts i, [])
-        (λ is. of_server master e given at (is_server-true world one i good (server_of (world.hosts i)) given.to is))
-        (λ _. quiet (world.hosts i))
-
-    of_ticks : (found : Option Master) → (world.hosts i).master ≡ found → Done (ticks_if_running (world.hosts i) found)
-    of_ticks None e = quiet (world.hosts i)
-    of_ticks (Some master) e =
-        by (master_ticks master) refl
-        (master_ticks_keeps world.sent (server_of (world.hosts i)) master (is-good world one i good master e)
-        (is-fine world one i good master e)).good.own
+    of_ticks : (master : Master) → (world.hosts i).master ≡ Some master →
+        MasterMoved world.sent (server_of (world.hosts i)) master (master_ticks master) →
+        Done (with_master (world.hosts i) (master_ticks master))
+    of_ticks master e moved = by (master_ticks master) refl moved.good.own
       where
         by : (after : Master × List Message) → master_ticks master ≡ after →
             (master_ticks master).0.log.own ≡ server_of (world.hosts i) → Done (with_master (world.hosts i) after)
@@ -162,11 +142,16 @@ module _ (world : World) (one : Event) (good : GoodWorld world) (P : World → M
         by (inr never) = absurd never
 
     of_host : (work : Work) → IsGiven world.sent (TheHost i) work → Done (host_step (world.hosts i) work)
-    of_host (Take message) given = of_delivery (world.hosts i).master refl message given.0
-    of_host (Tick addr) given = of_ticks (world.hosts i).master refl
-    of_host (Stop id) given = quiet (record (world.hosts i) { master = None })
-    of_host (Start kept) given = of_starts kept
-    of_host _ given = quiet (world.hosts i)
+    of_host work given = walked-host world one i good Done (record {
+      still = quiet (world.hosts i);
+      backs = λ master e from says at moved.
+          of_backup (record { from = from; to = Server (server_of (world.hosts i)); body = says }) at refl;
+      takes = λ master e from says at moved.
+          of_takes master e (record { from = from; to = Server (server_of (world.hosts i)); body = says }) at refl moved;
+      ticks = of_ticks;
+      stops = quiet (record (world.hosts i) { master = None });
+      starts = of_starts;
+    }) work given
 
   of_node : (node : NodeName) (work : Work) → IsGiven world.sent node work → node_can world node work ≡ true →
       Since (node_done world one node work)

@@ -29,4 +29,5 @@ pub mod Closing
 pub mod LogSteps
 pub mod StepSends
 pub mod Telling
+pub mod CoordinatorWalk
 pub mod GrantsUp

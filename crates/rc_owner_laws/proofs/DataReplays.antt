@@ -11,9 +11,11 @@ use Rattle.rc_model.specs.Coordinator.{Coordinator}
 use Rattle.rc_model.specs.Nodes.{Ask, Tick, Start, Suspect, Decide}
 use Rattle.rc_step_laws.specs.Moves.{MasterMoved, CoordinatorMoved, body_said, coordinator_body_said}
 use Rattle.rc_step_laws.proofs.MasterSteps.{master_takes_keeps, master_ticks_keeps}
-use Rattle.rc_step_laws.proofs.CoordinatorSteps as coordinator
+use Rattle.rc_model.specs.Model.{next_server, to_coordinator}
+use Rattle.rc_model.proofs.Sending.{each-one}
+use Rattle.rc_log_laws.proofs.NodeWalk.{walked-host}
 use Rattle.rc_log_laws.proofs.Replays.{GoodWorld, GoodStep, IsGiven, is-good, is-fine, hears, is_server-true}
-use Rattle.rc_log_laws.proofs.Replays.{work_of-given, may-hear, to-coordinator-is, led-step, good-step, good-opening}
+use Rattle.rc_log_laws.proofs.Replays.{work_of-given, coordinator-moved, led-step, good-step, good-opening}
 use Rattle.rc_owner_laws.specs.Data.{data_fine, DataAreCuts}
 use Rattle.rc_owner_laws.proofs.DataCuts.{data-later, IsNoData, no-data-fine, backup-fine}
 use Rattle.rc_model.proofs.Tests.{true_false, either}
@@ -59,25 +61,8 @@ fine-moved world after is message at = no-data-fine world.sent world.masters mes
 
 fine-coordinator : (world : World) (work : Work) → GoodWorld world → IsGiven world.sent TheCoordinator work →
     AllFine world (coordinator_step world.coordinator work).1
-fine-coordinator world (Take message) good given =
-    fine-moved world (coordinator_step world.coordinator (Take message))
-    (coordinator.moved-takes world.sent world.coordinator good.coordinator message.from message.body
-    (may-hear world.sent world.masters world.hosts world.coordinator good message.from message.body
-    (subst (λ (to : Addr). In (record { from = message.from; to = to; body = message.body }) world.sent)
-    (to-coordinator-is message.to given.1) given.0)))
-fine-coordinator world (Suspect id) good given = fine-moved world (coordinator_step world.coordinator (Suspect id))
-    (coordinator.moved-suspects world.sent world.coordinator good.coordinator id)
-fine-coordinator world (Decide id) good given = fine-moved world (coordinator_step world.coordinator (Decide id))
-    (coordinator.moved-decides world.sent world.coordinator good.coordinator id)
-fine-coordinator world (Create table owner) good given =
-    fine-moved world (coordinator_step world.coordinator (Create table owner))
-    (coordinator.moved-creates world.sent world.coordinator good.coordinator table owner)
-fine-coordinator world (Split table at) good given =
-    fine-moved world (coordinator_step world.coordinator (Split table at))
-    (coordinator.moved-splits world.sent world.coordinator good.coordinator table at)
-fine-coordinator world (Tick addr) good given = fine-moved world (coordinator_step world.coordinator (Tick addr))
-    (coordinator.moved-ticks world.sent world.coordinator good.coordinator)
-fine-coordinator world _ good given = fine-none world
+fine-coordinator world work good given =
+    fine-moved world (coordinator_step world.coordinator work) (coordinator-moved world work good given)
 
 -- Hosts
 
@@ -89,50 +74,19 @@ module _ (world : World) (one : Event) (i : ℕ) (good : GoodWorld world) where
       (by_master world.sent (world.sent ++ after.1) (server_of (world.hosts i)) master.log after.0.log message.to
       message.body (is.says message at).says)
 
-  fine-server : (master : Master) → (world.hosts i).master ≡ Some master → (message : Message) →
-      In (record { from = message.from; to = Server (server_of (world.hosts i)); body = message.body }) world.sent →
-      AllFine world (server_takes (world.hosts i) master message).1
-  fine-server master e message at =
-      either (λ (after : HostNode × List Message). AllFine world after.1) (is_for_backup message.body)
-      (with_backup (world.hosts i) (backup_takes (world.hosts i).backup message.from message.body))
-      (with_master (world.hosts i) (master_takes master message.from message.body))
-      (λ _. backup-fine world.sent world.masters i (world.hosts i).generation (world.hosts i).backup
-      (good.hosts_are i).held message.from message.body
-      (subst (λ (id : ServerId). In (record { from = message.from; to = Server id; body = message.body }) world.sent)
-      (sym (good.hosts_are i).own) at))
-      (λ _. fine-master master (master_takes master message.from message.body)
-      (master_takes_keeps world.sent (server_of (world.hosts i)) master message.from message.body
-      (is-good world one i good master e) (is-fine world one i good master e)
-      (hears world one i good message.from message.body at)))
-
-  fine-takes : (found : Option Master) → (world.hosts i).master ≡ found → (message : Message) → In message world.sent →
-      AllFine world (takes_if_running (world.hosts i) found message).1
-  fine-takes None e message at = fine-none world
-  fine-takes (Some master) e message at =
-      either (λ (after : HostNode × List Message). AllFine world after.1)
-      (is_server (server_of (world.hosts i)) message.to) (server_takes (world.hosts i) master message)
-      (world.hosts i, [])
-      (λ is. fine-server master e message
-      (subst (λ (to : Addr). In (record { from = message.from; to = to; body = message.body }) world.sent)
-      (is_server-true world one i good (server_of (world.hosts i)) message.to is) at))
-      (λ _. fine-none world)
-
-  fine-ticks : (found : Option Master) → (world.hosts i).master ≡ found → AllFine world (ticks_if_running (world.hosts i) found).1
-  fine-ticks None e = fine-none world
-  fine-ticks (Some master) e = fine-master master (master_ticks master)
-      (master_ticks_keeps world.sent (server_of (world.hosts i)) master (is-good world one i good master e)
-      (is-fine world one i good master e))
-
   fine-host : (work : Work) → IsGiven world.sent (TheHost i) work → AllFine world (host_step (world.hosts i) work).1
-  fine-host (Take message) given = fine-takes (world.hosts i).master refl message given.0
-  fine-host (Tick addr) given = fine-ticks (world.hosts i).master refl
-  fine-host (Start kept) given = λ message at. started message at
-    where
-      started : (message : Message) → In message (host_step (world.hosts i) (Start kept)).1 →
-          data_fine world.sent world.masters message.from message.to message.body
-      started message (inl same) = subst (λ (it : Message). data_fine world.sent world.masters it.from it.to it.body) (sym same) tt
-      started message (inr never) = absurd never
-  fine-host _ given = fine-none world
+  fine-host work given = walked-host world one i good (λ after. AllFine world after.1) (record {
+    still = fine-none world;
+    backs = λ master e from says at moved.
+        backup-fine world.sent world.masters i (world.hosts i).generation (world.hosts i).backup (good.hosts_are i).held from says
+        (subst (λ (id : ServerId). In (record { from = from; to = Server id; body = says }) world.sent)
+        (sym (good.hosts_are i).own) at);
+    takes = λ master e from says at moved. fine-master master (master_takes master from says) moved;
+    ticks = λ master e moved. fine-master master (master_ticks master) moved;
+    stops = fine-none world;
+    starts = λ kept. each-one (λ (message : Message). data_fine world.sent world.masters message.from message.to message.body)
+        (to_coordinator (next_server (world.hosts i)) body.Enlist) tt;
+  }) work given
 
 -- Events
 

@@ -1,13 +1,13 @@
 -- Attempts, answers and decisions: what is decided after one of them, and what the messages say that tell it.
 use Rattle.std.proofs.Common.{◌≡◌, ◌⊎◌, ℕ, ◌+◌, ◌-◌, ◌<◌, Bool, true, false, cond, List, [], ◌∷◌, ◌++◌, length, find, slice_get}
 use Rattle.std.proofs.Common.{◌&&◌, slice_set, Some, None, refl, sym, ap, ◌∙◌, subst, inl, inr, arith, nat_eq, Option}
-use Rattle.rc_model.specs.Model.{ServerId, Addr, Server, Row, Part, Message, Body, put_id, to_each, same_id, Attempt, Decision, GivenPart}
-use Rattle.rc_model.specs.Model.{new_attempt, parts_of, plan_message, plan_messages, begins_attempt, with_answer, In}
-use Rattle.rc_model.specs.Model.{part_in, part_if_current, is_current, grant_to, is_grant_to}
-use Rattle.rc_types.specs.declared.ids.Addr.TheVariants.{Coordinator as AtCoordinator}
+use Rattle.rc_model.specs.Model.{ServerId, Row, Part, Message, put_id, same_id, Attempt, Decision, GivenPart}
+use Rattle.rc_model.specs.Model.{from_coordinator, new_attempt, parts_of, begins_attempt, with_answer, In}
+use Rattle.rc_model.specs.Model.{Grant, part_in, part_if_current, is_current, grant_to, is_grant_to}
 use Rattle.rc_types.specs.declared.messages.Body.TheVariants.{Plan as PlanBody}
 use Rattle.rc_model.specs.Coordinator.{Coordinator}
-use Rattle.rc_model.proofs.Members.{In-get}
+use Rattle.rc_model.proofs.Members.{In-get, In-left}
+use Rattle.rc_model.proofs.Sending.{Each}
 use Rattle.rc_step_laws.proofs.Lists.{get-append, get-within, get-set}
 use Rattle.rc_owner_laws.specs.Grants.{IsDecided, GoodGrants, own_said, IsGiven}
 use Rattle.rc_owner_laws.proofs.Tablets.{some-none}
@@ -15,7 +15,6 @@ use Rattle.rc_owner_laws.proofs.Granting.{kept-good}
 use Rattle.rc_model.proofs.Ids.{same_id-true}
 use Rattle.rc_model.proofs.Tests.{true_false, either}
 use Rattle.rc_model.proofs.Tables.{put_id_each}
-use Rattle.rc_step_laws.proofs.Copies.{In-either}
 use Rattle.std.proofs.lemmas.Bool.{eqb-true}
 use Rattle.std.proofs.lemmas.Bool.Decides.{nat_tests}
 use Rattle.rc_step_laws.specs.All.{IsNumbered}
@@ -49,48 +48,36 @@ given-in id (first ∷ parts) part at = by (same_id id first.to) refl (given-in 
     by true e rec (inr rest) = inr (rec rest)
     by false e rec rest = inr (rec rest)
 
+-- what was given stays so with one more grant
+pub given-more : (grants : List Grant) (grant : Grant) (given : GivenPart) → IsGiven grants given → IsGiven (grants ++ grant ∷ []) given
+given-more grants grant given is = record {
+  grant = is.grant;
+  among = In-left is.grant grants (grant ∷ []) is.among;
+  term = is.term;
+  owner = is.owner;
+}
+
 -- Messages
 
+abbrev pub OwnSaid : Coordinator → Message → Type 0
+OwnSaid c message = own_said c message.to message.body
+
 abbrev pub OwnSays : Coordinator → List Message → Type 0
-OwnSays c messages = (message : Message) → In message messages → own_said c message.to message.body
-
-pub says-none : (c : Coordinator) → OwnSays c []
-says-none c message at = absurd at
-
-pub says-one : (c : Coordinator) (to : Addr) (body : Body) → own_said c to body →
-    OwnSays c (record { from = AtCoordinator; to = to; body = body } ∷ [])
-says-one c to body holds message (inl e) = subst (λ (one : Message). own_said c one.to one.body) (sym e) holds
-says-one c to body holds message (inr never) = absurd never
-
-pub says-each : (c : Coordinator) (body : Body) → ((to : Addr) → own_said c to body) → (ids : List ServerId) → OwnSays c (to_each ids body)
-says-each c body holds [] message at = absurd at
-says-each c body holds (id ∷ ids) message (inl e) = subst (λ (one : Message). own_said c one.to one.body) (sym e) (holds (Server id))
-says-each c body holds (id ∷ ids) message (inr rest) = says-each c body holds ids message rest
-
-pub says-join : (c : Coordinator) (first second : List Message) → OwnSays c first → OwnSays c second → OwnSays c (first ++ second)
-says-join c first second p q message at = In-either message first second at (λ a. p message a) (λ b. q message b)
+OwnSays c messages = Each (OwnSaid c) messages
 
 -- each message of a plan is of the decision
-pub says-plans : (c : Coordinator) (number : ℕ) (master : ServerId) (decision : Decision) →
-    IsDecided c.attempts number master decision → (ids : List ServerId) →
-    OwnSays c (plan_messages number master decision ids)
-says-plans c number master decision decided [] = says-none c
-says-plans c number master decision decided (id ∷ ids) =
-    says-join c (plan_message number master decision.plan id (parts_of id decision.parts)) (plan_messages number master decision ids)
-    (one (parts_of id decision.parts) (λ part at. at)) (says-plans c number master decision decided ids)
-  where
-    one : (parts : List Part) → ((part : Part) → In part parts → In part (parts_of id decision.parts)) →
-        OwnSays c (plan_message number master decision.plan id parts)
-    one [] among = says-none c
-    one (part ∷ parts) among =
-        says-one c (Server id) (PlanBody decision.plan.head number master decision.plan.rows (part ∷ parts)) (record {
-          id = id;
-          to_is = refl;
-          decision = decision;
-          decided = decided;
-          rows_are = refl;
-          given = λ some at. given-in id decision.parts some (among some at);
-        })
+pub plan-said : (c : Coordinator) (number : ℕ) (master : ServerId) (decision : Decision) →
+    IsDecided c.attempts number master decision → (id : ServerId) (part : Part) (parts : List Part) →
+    parts_of id decision.parts ≡ part ∷ parts →
+    OwnSaid c (from_coordinator id (PlanBody decision.plan.head number master decision.plan.rows (part ∷ parts)))
+plan-said c number master decision decided id part parts are = record {
+  id = id;
+  to_is = refl;
+  decision = decision;
+  decided = decided;
+  rows_are = refl;
+  given = λ some at. given-in id decision.parts some (subst (In some) (sym are) at);
+}
 
 -- what is decided once an attempt has begun was decided before, and in a current attempt only if it was current
 pub begun-decided : (c : Coordinator) (master : ServerId) (number : ℕ) (other : ServerId) (decision : Decision) →

@@ -17,7 +17,9 @@ use Rattle.rc_model.specs.Nodes.{Ask, Tick, Start}
 use Rattle.rc_step_laws.specs.All.{IsNumbered, MasterMoved, BackupMoved}
 use Rattle.rc_step_laws.proofs.Attempting.{numbered-at}
 use Rattle.rc_step_laws.proofs.MasterSteps.{master_takes_keeps, master_ticks_keeps}
-use Rattle.rc_step_laws.proofs.Backups.{moved-backup}
+use Rattle.rc_model.proofs.Sending.{each-one}
+use Rattle.rc_model.specs.Model.{Enlist, to_coordinator}
+use Rattle.rc_log_laws.proofs.NodeWalk.{said-host}
 use Rattle.rc_log_laws.proofs.Replays.{GoodWorld, IsGiven as IsGivenWork, is-good, is-fine, hears, is_server-true}
 use Rattle.rc_log_laws.proofs.Replays.{work_of-given, good-step, good-opening, good-world}
 use Rattle.rc_owner_laws.specs.Grants.{IsGiven, IsPlanOf}
@@ -56,67 +58,15 @@ outside-says (Ask to body) message (inl same) = ap (λ (one : Message). lacks_ta
 outside-says (Ask to body) message (inr never) = absurd never
 outside-says _ message at = absurd at
 
-module _ (world : World) (one : Event) (i : ℕ) (good : GoodWorld world) where
-  from-none : FromServers []
-  from-none message at = absurd at
-
-  from-master : (master : Master) (after : Master × List Message) →
-      MasterMoved world.sent (server_of (world.hosts i)) master after → FromServers after.1
-  from-master master after is message at = (server_of (world.hosts i), (is.says message at).from)
-
-  from-server : (master : Master) → (world.hosts i).master ≡ Some master → (message : Message) →
-      In (record { from = message.from; to = Server (server_of (world.hosts i)); body = message.body }) world.sent →
-      FromServers (server_takes (world.hosts i) master message).1
-  from-server master e message at =
-      either (λ (after : HostNode × List Message). FromServers after.1) (is_for_backup message.body)
-      (with_backup (world.hosts i) (backup_takes (world.hosts i).backup message.from message.body))
-      (with_master (world.hosts i) (master_takes master message.from message.body))
-      (λ _. as_backup (backup_takes (world.hosts i).backup message.from message.body)
-      (moved-backup world.sent world.masters world.hosts
-      (put world.hosts i (record (world.hosts i)
-      { backup = (backup_takes (world.hosts i).backup message.from message.body).0 })) world.coordinator i
-      message.from message.body good at
-      (ap (put world.hosts i (record (world.hosts i)
-      { backup = (backup_takes (world.hosts i).backup message.from message.body).0 })) (good.hosts_are i).index ∙
-      put-same world.hosts i (record (world.hosts i)
-      { backup = (backup_takes (world.hosts i).backup message.from message.body).0 }))))
-      (λ _. from-master master (master_takes master message.from message.body)
-      (master_takes_keeps world.sent (server_of (world.hosts i)) master message.from message.body
-      (is-good world one i good master e) (is-fine world one i good master e)
-      (hears world one i good message.from message.body at)))
-    where
-      as_backup : (after : Backup × List Message) →
-          BackupMoved world.sent world.masters (put world.hosts i (record (world.hosts i) { backup = after.0 }))
-          world.coordinator (world.hosts i) after → FromServers after.1
-      as_backup after is other there = (server_of (world.hosts i), is.from other there)
-
-  from-takes : (found : Option Master) → (world.hosts i).master ≡ found → (message : Message) → In message world.sent →
-      FromServers (takes_if_running (world.hosts i) found message).1
-  from-takes None e message at = from-none
-  from-takes (Some master) e message at =
-      either (λ (after : HostNode × List Message). FromServers after.1)
-      (is_server (server_of (world.hosts i)) message.to) (server_takes (world.hosts i) master message)
-      (world.hosts i, [])
-      (λ is. from-server master e message
-      (subst (λ (to : Addr). In (record { from = message.from; to = to; body = message.body }) world.sent)
-      (is_server-true world one i good (server_of (world.hosts i)) message.to is) at))
-      (λ _. from-none)
-
-  from-ticks : (found : Option Master) → (world.hosts i).master ≡ found → FromServers (ticks_if_running (world.hosts i) found).1
-  from-ticks None e = from-none
-  from-ticks (Some master) e = from-master master (master_ticks master)
-      (master_ticks_keeps world.sent (server_of (world.hosts i)) master (is-good world one i good master e)
-      (is-fine world one i good master e))
-
-  from-host : (work : Work) → IsGivenWork world.sent (TheHost i) work → FromServers (host_step (world.hosts i) work).1
-  from-host (Take message) given = from-takes (world.hosts i).master refl message given.0
-  from-host (Tick addr) given = from-ticks (world.hosts i).master refl
-  from-host (Start kept) given = λ message at. started message at
-    where
-      started : FromServers (host_step (world.hosts i) (Start kept)).1
-      started message (inl same) = (next_server (world.hosts i), ap (λ (some : Message). some.from) same)
-      started message (inr never) = absurd never
-  from-host _ given = from-none
+from-host : (world : World) (one : Event) (i : ℕ) → GoodWorld world → (work : Work) → IsGivenWork world.sent (TheHost i) work →
+    FromServers (host_step (world.hosts i) work).1
+from-host world one i good work given = said-host world one i good FromServers (record {
+  none = λ message at. absurd at;
+  backs = λ after moved message at. (server_of (world.hosts i), moved.from message at);
+  moves = λ master after moved message at. (server_of (world.hosts i), (moved.says message at).from);
+  starts = each-one (λ (message : Message). (id : ServerId) × (message.from ≡ Server id))
+      (to_coordinator (next_server (world.hosts i)) Enlist) (next_server (world.hosts i), refl);
+}) work given
 
 tablets-node : (world : World) (one : Event) (node : NodeName) (work : Work) → GoodWorld world → OfWorld world →
     TabletsWorld world → IsGivenWork world.sent node work → TabletsWorld (node_done world one node work)

@@ -13,11 +13,13 @@ use Rattle.rc_model.specs.Nodes.{Ask, Tick, Start, Suspect, Decide}
 use Rattle.rc_step_laws.specs.Moves.{MasterMoved, BackupMoved, CoordinatorLater, body_said, backup_body_said}
 use Rattle.rc_step_laws.proofs.MasterSteps.{master_takes_keeps, master_ticks_keeps}
 use Rattle.rc_step_laws.proofs.Backups.{moved-backup}
-use Rattle.rc_step_laws.proofs.CoordinatorSteps as coordinator
+use Rattle.rc_model.specs.Model.{next_server, to_coordinator}
 use Rattle.rc_log_laws.proofs.Replays.{GoodWorld, IsGiven, is-good, is-fine, hears, is_server-true, work_of-given}
-use Rattle.rc_log_laws.proofs.Replays.{may-hear, to-coordinator-is, good-step, good-opening}
+use Rattle.rc_log_laws.proofs.Replays.{coordinator-moved, good-step, good-opening}
+use Rattle.rc_log_laws.proofs.NodeWalk.{said-host}
+use Rattle.rc_model.proofs.Sending.{each-one}
 use Rattle.rc_owner_laws.specs.Grants.{own_said, GoodGrants, GrantsKept}
-use Rattle.rc_owner_laws.proofs.Decided.{OwnSays}
+use Rattle.rc_owner_laws.proofs.Decided.{OwnSaid, OwnSays}
 use Rattle.rc_owner_laws.proofs.OwnerSteps.{moved, new-grants}
 use Rattle.rc_owner_laws.proofs.OwnersOrdered.{kept-step, kept-others, kept-none}
 use Rattle.rc_model.proofs.Tables.{put-same}
@@ -59,86 +61,21 @@ says-outside c (Ask to asked) can message (inl same) = subst (λ (one : Message)
 says-outside c (Ask to asked) can message (inr never) = absurd never
 says-outside c _ can message at = absurd at
 
-module _ (world : World) (one : Event) (i : ℕ) (good : GoodWorld world) where
-  says-master : (master : Master) (after : Master × List Message) →
-      MasterMoved world.sent (server_of (world.hosts i)) master after → OwnSays world.coordinator after.1
-  says-master master after is message at =
-      by_master world.coordinator world.sent (world.sent ++ after.1) (server_of (world.hosts i)) master.log after.0.log
-      message.to message.body (is.says message at).says
-
-  says-server : (master : Master) → (world.hosts i).master ≡ Some master → (message : Message) →
-      In (record { from = message.from; to = Server (server_of (world.hosts i)); body = message.body }) world.sent →
-      OwnSays world.coordinator (server_takes (world.hosts i) master message).1
-  says-server master e message at =
-      either (λ (after : HostNode × List Message). OwnSays world.coordinator after.1) (is_for_backup message.body)
-      (with_backup (world.hosts i) (backup_takes (world.hosts i).backup message.from message.body))
-      (with_master (world.hosts i) (master_takes master message.from message.body))
-      (λ _. as_backup (backup_takes (world.hosts i).backup message.from message.body)
-      (moved-backup world.sent world.masters world.hosts
-      (put world.hosts i (record (world.hosts i)
-      { backup = (backup_takes (world.hosts i).backup message.from message.body).0 })) world.coordinator i
-      message.from message.body good at
-      (ap (put world.hosts i (record (world.hosts i)
-      { backup = (backup_takes (world.hosts i).backup message.from message.body).0 })) (good.hosts_are i).index ∙
-      put-same world.hosts i (record (world.hosts i)
-      { backup = (backup_takes (world.hosts i).backup message.from message.body).0 }))))
-      (λ _. says-master master (master_takes master message.from message.body)
-      (master_takes_keeps world.sent (server_of (world.hosts i)) master message.from message.body
-      (is-good world one i good master e) (is-fine world one i good master e)
-      (hears world one i good message.from message.body at)))
-    where
-      as_backup : (after : Backup × List Message) →
-          BackupMoved world.sent world.masters (put world.hosts i (record (world.hosts i) { backup = after.0 }))
-          world.coordinator (world.hosts i) after → OwnSays world.coordinator after.1
-      as_backup after is other there =
-          by_backup world.coordinator (world.sent ++ after.1) world.masters
-          (put world.hosts i (record (world.hosts i) { backup = after.0 })) (world.hosts i) after.0 other.to
-          other.body (is.says other there)
-
-  says-takes : (found : Option Master) → (world.hosts i).master ≡ found → (message : Message) → In message world.sent →
-      OwnSays world.coordinator (takes_if_running (world.hosts i) found message).1
-  says-takes None e message at = λ other never. absurd never
-  says-takes (Some master) e message at =
-      either (λ (after : HostNode × List Message). OwnSays world.coordinator after.1)
-      (is_server (server_of (world.hosts i)) message.to) (server_takes (world.hosts i) master message)
-      (world.hosts i, [])
-      (λ is. says-server master e message
-      (subst (λ (to : Addr). In (record { from = message.from; to = to; body = message.body }) world.sent)
-      (is_server-true world one i good (server_of (world.hosts i)) message.to is) at))
-      (λ _ other never. absurd never)
-
-  says-ticks : (found : Option Master) → (world.hosts i).master ≡ found →
-      OwnSays world.coordinator (ticks_if_running (world.hosts i) found).1
-  says-ticks None e = λ other never. absurd never
-  says-ticks (Some master) e = says-master master (master_ticks master)
-      (master_ticks_keeps world.sent (server_of (world.hosts i)) master (is-good world one i good master e)
-      (is-fine world one i good master e))
-
-  says-host : (work : Work) → IsGiven world.sent (TheHost i) work → OwnSays world.coordinator (host_step (world.hosts i) work).1
-  says-host (Take message) given = says-takes (world.hosts i).master refl message given.0
-  says-host (Tick addr) given = says-ticks (world.hosts i).master refl
-  says-host (Start kept) given = λ message at. started message at
-    where
-      started : (message : Message) → In message (host_step (world.hosts i) (Start kept)).1 →
-          own_said world.coordinator message.to message.body
-      started message (inl same) = subst (λ (some : Message). own_said world.coordinator some.to some.body) (sym same) tt
-      started message (inr never) = absurd never
-  says-host _ given = λ message never. absurd never
+says-host : (world : World) (one : Event) (i : ℕ) → GoodWorld world → (work : Work) → IsGiven world.sent (TheHost i) work →
+    OwnSays world.coordinator (host_step (world.hosts i) work).1
+says-host world one i good work given = said-host world one i good (OwnSays world.coordinator) (record {
+  none = λ message at. absurd at;
+  backs = λ after moved message at. by_backup world.coordinator (world.sent ++ after.1) world.masters
+      (put world.hosts i (record (world.hosts i) { backup = after.0 })) (world.hosts i) after.0 message.to message.body
+      (moved.says message at);
+  moves = λ master after moved message at. by_master world.coordinator world.sent (world.sent ++ after.1)
+      (server_of (world.hosts i)) master.log after.0.log message.to message.body (moved.says message at).says;
+  starts = each-one (OwnSaid world.coordinator) (to_coordinator (next_server (world.hosts i)) body.Enlist) tt;
+}) work given
 
 pub later-coordinator : (world : World) (work : Work) → GoodWorld world → IsGiven world.sent TheCoordinator work →
     CoordinatorLater world.coordinator (coordinator_step world.coordinator work).0
-later-coordinator world (Take message) good given =
-    (coordinator.moved-takes world.sent world.coordinator good.coordinator message.from message.body
-    (may-hear world.sent world.masters world.hosts world.coordinator good message.from message.body
-    (subst (λ (to : Addr). In (record { from = message.from; to = to; body = message.body }) world.sent)
-    (to-coordinator-is message.to given.1) given.0))).later
-later-coordinator world (Suspect id) good given = (coordinator.moved-suspects world.sent world.coordinator good.coordinator id).later
-later-coordinator world (Decide id) good given = (coordinator.moved-decides world.sent world.coordinator good.coordinator id).later
-later-coordinator world (Create table owner) good given =
-    (coordinator.moved-creates world.sent world.coordinator good.coordinator table owner).later
-later-coordinator world (Split table at) good given =
-    (coordinator.moved-splits world.sent world.coordinator good.coordinator table at).later
-later-coordinator world _ good given = (coordinator.moved-ticks world.sent world.coordinator good.coordinator).later
+later-coordinator world work good given = (coordinator-moved world work good given).later
 
 grants-node : (world : World) (one : Event) (node : NodeName) (work : Work) → GoodWorld world → OfWorld world →
     IsGiven world.sent node work → node_can world node work ≡ true → OfWorld (node_done world one node work)

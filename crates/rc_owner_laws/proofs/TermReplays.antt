@@ -4,7 +4,7 @@ use Rattle.rc_model.specs.Model.{Addr, Setup, Event, Message, Work, Take, outsid
 use Rattle.rc_model.specs.Model.{NodeName, TheOutside, TheCoordinator, TheHost, Job, work_of, is_possible, node_done, job_done, step}
 use Rattle.rc_model.specs.Model.{replay_from, replay, In}
 use Rattle.rc_types.specs.declared.ids.Addr.TheVariants.{Coordinator as AtCoordinator}
-use Rattle.rc_log_laws.proofs.Replays.{GoodWorld, IsGiven, work_of-given, to-coordinator-is, good-world}
+use Rattle.rc_log_laws.proofs.Replays.{GoodWorld, IsGiven, work_of-given, taken-at, good-world}
 use Rattle.rc_owner_laws.proofs.OwnerReplays.{OfWorld, grants-world, later-coordinator}
 use Rattle.rc_owner_laws.specs.Terms.{GoodTerms}
 use Rattle.rc_owner_laws.proofs.Keeping.{terms-more}
@@ -15,12 +15,6 @@ use Rattle.rc_step_laws.proofs.LogMoves.{more-left}
 abbrev pub TermsOf : World → Type 0
 TermsOf world = GoodTerms world.sent world.coordinator
 
-heard : (world : World) (message : Message) → IsGiven world.sent TheCoordinator (Take message) →
-    In (record { from = message.from; to = AtCoordinator; body = message.body }) world.sent
-heard world message given =
-    subst (λ (to : Addr). In (record { from = message.from; to = to; body = message.body }) world.sent)
-    (to-coordinator-is message.to given.1) given.0
-
 terms-node : (world : World) (one : Event) (node : NodeName) (work : Work) → GoodWorld world → OfWorld world →
     TermsOf world → IsGiven world.sent node work → TermsOf (node_done world one node work)
 terms-node world one TheOutside work good grants terms given = terms-more world.sent (world.sent ++ outside_sends work)
@@ -29,7 +23,7 @@ terms-node world one TheCoordinator work good grants terms given =
     terms-more world.sent (world.sent ++ (coordinator_step world.coordinator work).1)
     (coordinator_step world.coordinator work).0 (more-left world.sent (coordinator_step world.coordinator work).1)
     (keeps-work world.sent world.coordinator grants.good terms work
-    (λ message is. heard world message (subst (IsGiven world.sent TheCoordinator) is given))
+    (taken-at world.sent work given)
     (later-coordinator world work good given))
 terms-node world one (TheHost i) work good grants terms given =
     terms-more world.sent (world.sent ++ (host_step (world.hosts i) work).1) world.coordinator

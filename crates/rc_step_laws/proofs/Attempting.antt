@@ -3,12 +3,13 @@ use Rattle.std.proofs.Common.{Option, ◌≡◌, ◌⊎◌, ℕ, zero, suc, ◌+
 use Rattle.std.proofs.Common.{nat_eq, slice_get, slice_set, Some, None, Ok, refl, sym, ap, ◌∙◌, subst, inl, inr, arith}
 use Rattle.std.proofs.lemmas.Bool.{eqb-false}
 use Rattle.std.proofs.lemmas.Bool.Decides.{nat_tests}
-use Rattle.rc_model.specs.Model.{ServerId, Pair, Addr, Row, Message, Body, Replicas, put_id, from_coordinator, to_each, to_coordinator}
+use Rattle.rc_model.specs.Model.{ServerId, Pair, Row, Message, Replicas, put_id, to_coordinator}
 use Rattle.rc_model.specs.Model.{has_crashed, up_rows, is_below, pick, Attempt, Decision, is_undecided, new_coordinator, attempt_at, In}
 use Rattle.rc_types.specs.declared.ids.Addr.TheVariants.{Coordinator as AtCoordinator}
 use Rattle.std.proofs.lemmas.List.{length-append, length-set}
 use Rattle.rc_model.specs.Coordinator.{Coordinator}
 use Rattle.rc_model.proofs.Members.{In-left}
+use Rattle.rc_model.proofs.Sending.{Each}
 use Rattle.rc_step_laws.specs.All.{OnDifferentHosts, IsNumbered, IsOf, GoodAttempt, GoodCoordinator, AttemptLater, CoordinatorMoved}
 use Rattle.rc_step_laws.specs.All.{coordinator_body_said}
 use Rattle.rc_step_laws.proofs.Lists.{get-left, get-end, get-append, get-within, get-set, set-get}
@@ -96,40 +97,8 @@ pub attempt_later-refl : (attempts : List Attempt) (number : ℕ) (attempt : Att
 attempt_later-refl attempts number attempt numbered = record { now = attempt; numbered = numbered; master = refl; decided = inl refl }
 
 -- what a move says
-pub record Says (c : Coordinator) (messages : List Message) : Type 0 where
-  pub from : (message : Message) → In message messages → message.from ≡ AtCoordinator
-  pub says : (message : Message) → In message messages → coordinator_body_said c message.to message.body
-
-pub says-none : (c : Coordinator) → Says c []
-says-none c = record { from = λ message at. absurd at; says = λ message at. absurd at }
-
-pub says-one : (c : Coordinator) (to : Addr) (body : Body) → coordinator_body_said c to body →
-    Says c (record { from = AtCoordinator; to = to; body = body } ∷ [])
-says-one c to body holds = record { from = λ message at. from message at; says = λ message at. says message at }
-  where
-    from : (message : Message) → In message (record { from = AtCoordinator; to = to; body = body } ∷ []) → message.from ≡ AtCoordinator
-    from message (inl e) = ap (λ (one : Message). one.from) e
-    from message (inr never) = absurd never
-
-    says : (message : Message) → In message (record { from = AtCoordinator; to = to; body = body } ∷ []) →
-        coordinator_body_said c message.to message.body
-    says message (inl e) = subst (λ (one : Message). coordinator_body_said c one.to one.body) (sym e) holds
-    says message (inr never) = absurd never
-
-pub says-each : (c : Coordinator) (body : Body) → ((to : Addr) → coordinator_body_said c to body) →
-    (ids : List ServerId) → Says c (to_each ids body)
-says-each c body holds ids = record { from = λ message at. from ids message at; says = λ message at. says ids message at }
-  where
-    from : (ids : List ServerId) (message : Message) → In message (to_each ids body) → message.from ≡ AtCoordinator
-    from [] message at = absurd at
-    from (id ∷ ids) message (inl e) = ap (λ (one : Message). one.from) e
-    from (id ∷ ids) message (inr rest) = from ids message rest
-
-    says : (ids : List ServerId) (message : Message) → In message (to_each ids body) → coordinator_body_said c message.to message.body
-    says [] message at = absurd at
-    says (id ∷ ids) message (inl e) =
-        subst (λ (one : Message). coordinator_body_said c one.to one.body) (sym e) (holds (from_coordinator id body).to)
-    says (id ∷ ids) message (inr rest) = says ids message rest
+abbrev pub Says : Coordinator → Message → Type 0
+Says c message = (message.from ≡ AtCoordinator) × coordinator_body_said c message.to message.body
 
 -- Moves
 
@@ -137,7 +106,7 @@ says-each c body holds ids = record { from = λ message at. from ids message at;
 pub moved-kept : (sent : List Message) (old new : Coordinator) (messages : List Message) → GoodCoordinator sent old →
     new.attempts ≡ old.attempts → new.current ≡ old.current → Kept old new →
     OnDifferentHosts (up_rows new.servers.rows) →
-    Says new messages → CoordinatorMoved sent old (new, messages)
+    Each (Says new) messages → CoordinatorMoved sent old (new, messages)
 moved-kept sent old new messages good same current kept apart say = record {
   good = record {
     attempts = λ number attempt numbered. attempt-kept sent messages old new number attempt kept
@@ -156,15 +125,15 @@ moved-kept sent old new messages good same current kept apart say = record {
     least = kept.least;
     least_stays = kept.least_stays;
   };
-  from = say.from;
-  says = say.says;
+  from = λ message at. (say message at).0;
+  says = λ message at. (say message at).1;
 }
 
 -- an attempt is added, for a master that has crashed
 pub moved-added : (sent : List Message) (old new : Coordinator) (messages : List Message) (attempt : Attempt) →
     GoodCoordinator sent old → new.attempts ≡ old.attempts ++ attempt ∷ [] →
     new.current ≡ put_id old.current attempt.master (length old.attempts + 1) → Kept old new → OnDifferentHosts (up_rows new.servers.rows) →
-    has_crashed new.servers attempt.master ≡ true → attempt.replies ≡ [] → attempt.decided ≡ None → Says new messages →
+    has_crashed new.servers attempt.master ≡ true → attempt.replies ≡ [] → attempt.decided ≡ None → Each (Says new) messages →
     CoordinatorMoved sent old (new, messages)
 moved-added sent old new messages attempt good same current kept apart crashed empty undecided say = record {
   good = record {
@@ -189,8 +158,8 @@ moved-added sent old new messages attempt good same current kept apart crashed e
     least = kept.least;
     least_stays = kept.least_stays;
   };
-  from = say.from;
-  says = say.says;
+  from = λ message at. (say message at).0;
+  says = λ message at. (say message at).1;
 }
   where
     upto : (m : ServerId) → put_id old.current attempt.master (length old.attempts + 1) m ≤ length (old.attempts ++ attempt ∷ [])
@@ -279,7 +248,7 @@ pub moved-changed : (sent : List Message) (old new : Coordinator) (messages : Li
     (was now : Attempt) → GoodCoordinator sent old → IsNumbered old.attempts number was →
     new.attempts ≡ slice_set old.attempts (number - 1) now → new.current ≡ old.current → Kept old new →
     OnDifferentHosts (up_rows new.servers.rows) →
-    now.master ≡ was.master → was.decided ≡ None → GoodAttempt (sent ++ messages) new number now → Says new messages →
+    now.master ≡ was.master → was.decided ≡ None → GoodAttempt (sent ++ messages) new number now → Each (Says new) messages →
     CoordinatorMoved sent old (new, messages)
 moved-changed sent old new messages number was now good is_was same current kept apart master undecided good_now say = record {
   good = record {
@@ -299,8 +268,8 @@ moved-changed sent old new messages number was now good is_was same current kept
     least = kept.least;
     least_stays = kept.least_stays;
   };
-  from = say.from;
-  says = say.says;
+  from = λ message at. (say message at).0;
+  says = λ message at. (say message at).1;
 }
   where
     same-number : (place other : ℕ) → place ≡ number - 1 → other ≡ place + 1 → number ≡ other

@@ -12,10 +12,10 @@ use Rattle.rc_model.specs.Nodes.{Ask, Tick, Stop, Start, Suspect, Decide}
 use Rattle.rc_model.proofs.Members.{In-append, In-left}
 use Rattle.rc_step_laws.specs.All.{StillStands, MasterMoved, CoordinatorMoved, BackupMoved, stored_said}
 use Rattle.rc_step_laws.proofs.MasterSteps.{master_takes_keeps, master_ticks_keeps}
-use Rattle.rc_step_laws.proofs.CoordinatorSteps.{moved-takes, moved-suspects, moved-decides, moved-creates, moved-splits, moved-ticks}
+use Rattle.rc_log_laws.proofs.NodeWalk.{said-host}
 use Rattle.rc_step_laws.proofs.Backups.{moved-backup}
-use Rattle.rc_log_laws.proofs.Replays.{GoodWorld, IsGiven, may-hear, to-coordinator-is, is-good, is-fine, hears}
-use Rattle.rc_log_laws.proofs.Replays.{is_server-true, work_of-given, good-step, good-opening}
+use Rattle.rc_log_laws.proofs.Replays.{GoodWorld, IsGiven, coordinator-moved}
+use Rattle.rc_log_laws.proofs.Replays.{work_of-given, good-step, good-opening}
 use Rattle.rc_model.proofs.Tables.{put-same}
 use Rattle.rc_model.proofs.Tests.{either}
 
@@ -67,14 +67,7 @@ by-outside messages sent from x m s e len closed at o less = absurd (never (from
 of-outside : (work : Work) → AllFrom Outside (outside_sends work)
 of-outside (Ask to asked) message (inl same) = ap (λ (one : Message). one.from) same
 of-outside (Ask to asked) message (inr never) = absurd never
-of-outside (Take one) message at = absurd at
-of-outside (Tick addr) message at = absurd at
-of-outside (Stop id) message at = absurd at
-of-outside (Start kept) message at = absurd at
-of-outside (Suspect id) message at = absurd at
-of-outside (Decide id) message at = absurd at
-of-outside (Create table owner) message at = absurd at
-of-outside (Split table place) message at = absurd at
+of-outside _ message at = absurd at
 
 -- A node's step
 
@@ -98,89 +91,24 @@ by-master : (world : World) (m : ServerId) (old : Master) (after : Master × Lis
     MasterMoved world.sent m old after → NodeTells world after.1
 by-master world own old after moved x m s e len closed at o less = absurd (moved.says (between x m (Stored s e len closed)) at).says
 
-module _ (world : World) (one : Event) (i : ℕ) (good : GoodWorld world) where
-  server-tells : (master : Master) → (world.hosts i).master ≡ Some master → (message : Message) →
-      In (record { from = message.from; to = Server (server_of (world.hosts i)); body = message.body }) world.sent →
-      NodeTells world (server_takes (world.hosts i) master message).1
-  server-tells master e message at =
-      either (λ (after : HostNode × List Message). NodeTells world after.1) (is_for_backup message.body)
-      (with_backup (world.hosts i) (backup_takes (world.hosts i).backup message.from message.body))
-      (with_master (world.hosts i) (master_takes master message.from message.body))
-      (λ _. by-backup world (put world.hosts i
-      (record (world.hosts i) { backup = (backup_takes (world.hosts i).backup message.from message.body).0 }))
-      (world.hosts i) (backup_takes (world.hosts i).backup message.from message.body)
-      (moved-backup world.sent world.masters world.hosts
-      (put world.hosts i (record (world.hosts i)
-      { backup = (backup_takes (world.hosts i).backup message.from message.body).0 })) world.coordinator i
-      message.from message.body good at
-      (ap (put world.hosts i (record (world.hosts i)
-      { backup = (backup_takes (world.hosts i).backup message.from message.body).0 })) (good.hosts_are i).index ∙
-      put-same world.hosts i (record (world.hosts i)
-      { backup = (backup_takes (world.hosts i).backup message.from message.body).0 }))))
-      (λ _. by-master world (server_of (world.hosts i)) master (master_takes master message.from message.body)
-      (master_takes_keeps world.sent (server_of (world.hosts i)) master message.from message.body
-      (is-good world one i good master e) (is-fine world one i good master e)
-      (hears world one i good message.from message.body at)))
+starts-tells : (world : World) (own : ServerId) → NodeTells world (to_coordinator own Enlist ∷ [])
+starts-tells world own x m s e len closed (inl same) o less =
+    let bodies : Stored s e len closed ≡ Enlist = ap (λ (message : Message). message.body) same in cc
+starts-tells world own x m s e len closed (inr never) o less = absurd never
 
-  takes-tells : (found : Option Master) → (world.hosts i).master ≡ found → (message : Message) → In message world.sent →
-      NodeTells world (takes_if_running (world.hosts i) found message).1
-  takes-tells None e message at = none-tells world
-  takes-tells (Some master) e message at =
-      either (λ (after : HostNode × List Message). NodeTells world after.1)
-      (is_server (server_of (world.hosts i)) message.to) (server_takes (world.hosts i) master message)
-      (world.hosts i, [])
-      (λ is. server-tells master e message
-      (subst (λ (to : Addr). In (record { from = message.from; to = to; body = message.body }) world.sent)
-      (is_server-true world one i good (server_of (world.hosts i)) message.to is) at))
-      (λ _. none-tells world)
-
-  ticks-tells : (found : Option Master) → (world.hosts i).master ≡ found → NodeTells world (ticks_if_running (world.hosts i) found).1
-  ticks-tells None e = none-tells world
-  ticks-tells (Some master) e = by-master world (server_of (world.hosts i)) master (master_ticks master)
-      (master_ticks_keeps world.sent (server_of (world.hosts i)) master (is-good world one i good master e)
-      (is-fine world one i good master e))
-
-  starts-tells : (own : ServerId) → NodeTells world (to_coordinator own Enlist ∷ [])
-  starts-tells own x m s e len closed (inl same) o less =
-      let bodies : Stored s e len closed ≡ Enlist = ap (λ (message : Message). message.body) same in cc
-  starts-tells own x m s e len closed (inr never) o less = absurd never
-
-  host-tells : (work : Work) → IsGiven world.sent (TheHost i) work → NodeTells world (host_step (world.hosts i) work).1
-  host-tells (Take message) given = takes-tells (world.hosts i).master refl message given.0
-  host-tells (Tick addr) given = ticks-tells (world.hosts i).master refl
-  host-tells (Start kept) given = starts-tells (next_server (world.hosts i))
-  host-tells (Stop id) given = none-tells world
-  host-tells (Ask to asked) given = none-tells world
-  host-tells (Suspect id) given = none-tells world
-  host-tells (Decide id) given = none-tells world
-  host-tells (Create table owner) given = none-tells world
-  host-tells (Split table at) given = none-tells world
+host-tells : (world : World) (one : Event) (i : ℕ) → GoodWorld world → (work : Work) → IsGiven world.sent (TheHost i) work →
+    NodeTells world (host_step (world.hosts i) work).1
+host-tells world one i good work given = said-host world one i good (NodeTells world) (record {
+  none = none-tells world;
+  backs = λ after moved. by-backup world (put world.hosts i (record (world.hosts i) { backup = after.0 })) (world.hosts i) after moved;
+  moves = λ master after moved. by-master world (server_of (world.hosts i)) master after moved;
+  starts = starts-tells world (next_server (world.hosts i));
+}) work given
 
 coordinator-tells : (world : World) (work : Work) → GoodWorld world → IsGiven world.sent TheCoordinator work →
     NodeTells world (coordinator_step world.coordinator work).1
 coordinator-tells world work good given = by-coordinator (coordinator_step world.coordinator work).1
-    (world.sent ++ (coordinator_step world.coordinator work).1) (of-work work given)
-  where
-    of-moved : (after : Coordinator × List Message) → CoordinatorMoved world.sent world.coordinator after → AllFrom AtCoordinator after.1
-    of-moved after moved = moved.from
-
-    of-work : (work : Work) → IsGiven world.sent TheCoordinator work → AllFrom AtCoordinator (coordinator_step world.coordinator work).1
-    of-work (Take message) given = of-moved (coordinator_takes world.coordinator message.from message.body)
-        (moved-takes world.sent world.coordinator good.coordinator message.from message.body
-        (may-hear world.sent world.masters world.hosts world.coordinator good message.from message.body
-        (subst (λ (to : Addr). In (record { from = message.from; to = to; body = message.body }) world.sent)
-        (to-coordinator-is message.to given.1) given.0)))
-    of-work (Tick addr) given = of-moved (world.coordinator, coordinator_ticks world.coordinator)
-        (moved-ticks world.sent world.coordinator good.coordinator)
-    of-work (Suspect id) given = of-moved (suspects world.coordinator id) (moved-suspects world.sent world.coordinator good.coordinator id)
-    of-work (Decide id) given = of-moved (decides world.coordinator id) (moved-decides world.sent world.coordinator good.coordinator id)
-    of-work (Create table owner) given = of-moved (creates world.coordinator table owner)
-        (moved-creates world.sent world.coordinator good.coordinator table owner)
-    of-work (Split table at) given = of-moved (splits world.coordinator table at)
-        (moved-splits world.sent world.coordinator good.coordinator table at)
-    of-work (Ask to asked) given = λ message at. absurd at
-    of-work (Stop id) given = λ message at. absurd at
-    of-work (Start kept) given = λ message at. absurd at
+    (world.sent ++ (coordinator_step world.coordinator work).1) (coordinator-moved world work good given).from
 
 -- Every world
 
