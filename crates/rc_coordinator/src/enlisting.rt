@@ -35,9 +35,8 @@ impl<A: Allocator + Clone> State<A> {
         let mut servers = self.servers.try_clone(self.alloc)?;
         match servers.enlist(id) {
             Ok(()) => {}
-            Err(Fault::OutOfMemory) => return Err(AllocError),
             // (the id is the newest)
-            Err(_) => unreachable!(),
+            Err(fault) => return Err(fault.only_memory()),
         }
         match older {
             Some(older) => self.follow(servers, older, sent),

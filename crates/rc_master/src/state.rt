@@ -91,15 +91,16 @@ impl State {
     {
         add_append(self.alloc, &self.log, &entry, sent)?;
         self.ownership.note(self.alloc, &entry)?;
+        // (the head takes entries and has room)
         if client {
             match self.log.append_write(entry) {
                 Ok(_) => Ok(()),
-                Err(fault) => Err(only_memory(fault)),
+                Err(fault) => Err(fault.only_memory()),
             }
         } else {
             match self.log.append(entry) {
                 Ok(_) => Ok(()),
-                Err(fault) => Err(only_memory(fault)),
+                Err(fault) => Err(fault.only_memory()),
             }
         }
     }
@@ -128,15 +129,5 @@ impl State {
             &self.ownership,
             sent,
         )
-    }
-}
-
-/// What was refused where the head takes entries and has room: that can be memory alone.
-fn only_memory(fault: Fault) -> AllocError
-    requires { fault ≡ OutOfMemory }
-{
-    match fault {
-        Fault::OutOfMemory => AllocError,
-        _ => unreachable!(),
     }
 }

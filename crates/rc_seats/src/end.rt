@@ -1,6 +1,5 @@
 //! The end of a wire.
 
-ghost use Rattle.rc_types.specs.declared.faults.Fault.TheVariants.{OutOfMemory};
 ghost use Rattle.std.specs.Prelude.{◌≡◌, All, IfOk};
 ghost use Rattle.rc_world.specs.HostView.{IsWithinLimits};
 ghost use Rattle.rc_journal.specs.Sound.{IsHistory};
@@ -8,7 +7,7 @@ ghost use Rattle.rc_seats.specs.Calls.{Covers};
 
 use crate::seat::Seat;
 use rc_journal::{Journal, Naming};
-use rc_types::{Fault, TryClone};
+use rc_types::TryClone;
 use rc_world::{World, run};
 use std::alloc::{AllocError, Global};
 
@@ -25,17 +24,8 @@ pub(crate) fn replayed<N: Naming>(
     let setup = journal.setup().try_clone(alloc)?;
     match run(alloc, World::new(alloc, setup, alloc), journal.events()) {
         Ok(world) => Ok(world),
-        Err((_, _, fault)) => Err(only_memory(fault)),
-    }
-}
-
-/// What was refused where each event was possible when it was noted: that can be memory alone.
-fn only_memory(fault: Fault) -> AllocError
-    requires { fault ≡ OutOfMemory }
-{
-    match fault {
-        Fault::OutOfMemory => AllocError,
-        _ => unreachable!(),
+        // (each event was possible when it was noted)
+        Err((_, _, fault)) => Err(fault.only_memory()),
     }
 }
 

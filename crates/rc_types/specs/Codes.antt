@@ -1,5 +1,5 @@
--- The numbers of the codes, and the code of a fault.
-use Rattle.std.specs.Prelude.{ℕ}
+-- The numbers and names of the codes, and the code of a fault.
+use Rattle.std.specs.Prelude.{ℕ, List, codes}
 use Rattle.rc_types.specs.declared.faults.Code.{Code}
 use Rattle.rc_types.specs.declared.faults.Code.TheVariants as code
 use Rattle.rc_types.specs.declared.faults.Fault.{Fault}
@@ -28,6 +28,30 @@ code_number code.BadEvent = 18
 code_number code.EpochsExhausted = 19
 code_number code.Pending = 20
 code_number code.StaleGeneration = 21
+
+-- its name
+abbrev pub code_name : Code → List ℕ
+code_name code.OutOfMemory = codes "OutOfMemory"
+code_name code.NotOwner = codes "NotOwner"
+code_name code.Rolling = codes "Rolling"
+code_name code.NoBackups = codes "NoBackups"
+code_name code.Deposed = codes "Deposed"
+code_name code.LogFull = codes "LogFull"
+code_name code.ValueTooLong = codes "ValueTooLong"
+code_name code.HeadMissing = codes "HeadMissing"
+code_name code.SegmentMissing = codes "SegmentMissing"
+code_name code.StaleAttempt = codes "StaleAttempt"
+code_name code.NotReady = codes "NotReady"
+code_name code.TableExists = codes "TableExists"
+code_name code.NoTable = codes "NoTable"
+code_name code.BadSplit = codes "BadSplit"
+code_name code.TooManyTablets = codes "TooManyTablets"
+code_name code.Recovering = codes "Recovering"
+code_name code.BadScenario = codes "BadScenario"
+code_name code.BadEvent = codes "BadEvent"
+code_name code.EpochsExhausted = codes "EpochsExhausted"
+code_name code.Pending = codes "Pending"
+code_name code.StaleGeneration = codes "StaleGeneration"
 
 -- the code of a fault
 abbrev pub code_of : Fault → Code

@@ -1,10 +1,14 @@
--- The kinds of bodies, their names and their numbers.
+-- The kinds of bodies and of events, their names and their numbers.
 use Rattle.std.specs.Prelude.{ℕ, Bool, List, [], ◌∷◌, Option, find, codes}
 use Rattle.std.specs.Str.{bytes_eq}
+use Rattle.rc_types.specs.declared.events.Event.{Event}
+use Rattle.rc_types.specs.declared.events.Event.TheVariants as event
 use Rattle.rc_types.specs.declared.messages.Body.{Body}
 use Rattle.rc_types.specs.declared.messages.Body.TheVariants as body
 use Rattle.rc_types.specs.declared.kinds.Kind.{Kind}
 use Rattle.rc_types.specs.declared.kinds.Kind.TheVariants as kind
+use Rattle.rc_types.specs.declared.kinds.EventKind.{EventKind}
+use Rattle.rc_types.specs.declared.kinds.EventKind.TheVariants as of_event
 
 abbrev pub kind_of : Body → Kind
 kind_of (body.Write table key value) = kind.Write
@@ -93,3 +97,37 @@ kind_number kind.Recovered = 19
 kind_number kind.Own = 20
 kind_number kind.SplitOk = 21
 kind_number kind.Free = 22
+
+abbrev pub event_kind_of : Event → EventKind
+event_kind_of (event.Ask to body) = of_event.Ask
+event_kind_of (event.Deliver number) = of_event.Deliver
+event_kind_of (event.Tick addr) = of_event.Tick
+event_kind_of (event.Stop id) = of_event.Stop
+event_kind_of (event.Start host kept) = of_event.Start
+event_kind_of (event.Suspect id) = of_event.Suspect
+event_kind_of (event.Decide id) = of_event.Decide
+event_kind_of (event.Create table owner) = of_event.Create
+event_kind_of (event.Split table at) = of_event.Split
+
+abbrev pub event_name : EventKind → List ℕ
+event_name of_event.Ask = codes "Ask"
+event_name of_event.Deliver = codes "Deliver"
+event_name of_event.Tick = codes "Tick"
+event_name of_event.Stop = codes "Stop"
+event_name of_event.Start = codes "Start"
+event_name of_event.Suspect = codes "Suspect"
+event_name of_event.Decide = codes "Decide"
+event_name of_event.Create = codes "Create"
+event_name of_event.Split = codes "Split"
+
+-- its number: its place among all kinds of events, from 0
+abbrev pub event_number : EventKind → ℕ
+event_number of_event.Ask = 0
+event_number of_event.Deliver = 1
+event_number of_event.Tick = 2
+event_number of_event.Stop = 3
+event_number of_event.Start = 4
+event_number of_event.Suspect = 5
+event_number of_event.Decide = 6
+event_number of_event.Create = 7
+event_number of_event.Split = 8

@@ -55,7 +55,7 @@ pub enum Code {
 }
 
 impl Code {
-    ghost use Rattle.rc_types.specs.Codes.{code_number};
+    ghost use Rattle.rc_types.specs.Codes.{code_number, code_name};
 
     /// The number behind the `F`.
     pub fn number(self) -> u8
@@ -65,7 +65,9 @@ impl Code {
     }
 
     /// Its name, as "Refusals" in `docs/PROTOCOL.md` spells it.
-    pub fn name(self) -> &'static str {
+    pub fn name(self) -> &'static str
+        ensures { result.now ≡ code_name self }
+    {
         match self {
             Code::OutOfMemory => "OutOfMemory",
             Code::NotOwner => "NotOwner",
@@ -167,6 +169,7 @@ pub enum Fault {
 }
 
 impl Fault {
+    ghost use Rattle.rc_types.specs.declared.faults.Fault.TheVariants.{OutOfMemory};
     ghost use Rattle.rc_types.specs.Codes.{code_of};
 
     /// The code of this refusal, without its number.
@@ -195,6 +198,16 @@ impl Fault {
             Fault::EpochsExhausted => Code::EpochsExhausted,
             Fault::Pending => Code::Pending,
             Fault::StaleGeneration => Code::StaleGeneration,
+        }
+    }
+
+    /// F1 where nothing but memory can have been refused.
+    pub fn only_memory(self) -> AllocError
+        requires { self ≡ OutOfMemory }
+    {
+        match self {
+            Fault::OutOfMemory => AllocError,
+            _ => unreachable!(),
         }
     }
 }

@@ -189,6 +189,8 @@ pub enum EventKind {
 }
 
 impl EventKind {
+    ghost use Rattle.rc_types.specs.Kinds.{event_kind_of, event_name, event_number};
+
     /// Every kind.
     pub const ALL: [EventKind; 9] = [
         EventKind::Ask,
@@ -203,7 +205,9 @@ impl EventKind {
     ];
 
     /// The kind of this event.
-    pub fn of(event: &Event) -> EventKind {
+    pub fn of(event: &Event) -> EventKind
+        ensures { result ≡ event_kind_of event.now }
+    {
         match event {
             Event::Ask { .. } => EventKind::Ask,
             Event::Deliver(_) => EventKind::Deliver,
@@ -218,7 +222,9 @@ impl EventKind {
     }
 
     /// Its name. Scenarios spell it with a small letter, and an Ask as what is asked: `write` or `read`.
-    pub fn name(self) -> &'static str {
+    pub fn name(self) -> &'static str
+        ensures { result.now ≡ event_name self }
+    {
         match self {
             EventKind::Ask => "Ask",
             EventKind::Deliver => "Deliver",
@@ -234,7 +240,8 @@ impl EventKind {
 
     /// Its number: its place among all kinds, from 0.
     pub fn number(self) -> u8
-        ensures { result < 9 }
+        ensures is { result ≡ event_number self }
+        ensures few { result < 9 }
     {
         self as u8
     }
