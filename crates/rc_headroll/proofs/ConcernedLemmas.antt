@@ -70,7 +70,7 @@ module _ (own : ServerId) (servers : ServerList) (config : Config)
 put-same : (t : ℕ → Segment) (k o : ℕ) → put t k (t k) o ≡ t o
 put-same t k o = cond_both (eqb k o) (t k) (t o) (λ s. s ≡ t o) (λ e. ap t (eqb-true k o e)) (λ e. refl)
 
-config-same : (seg : ℕ) (log : Log) → with_config seg (log.segments seg).config log ≡ log
+pub config-same : (seg : ℕ) (log : Log) → with_config seg (log.segments seg).config log ≡ log
 config-same seg log = ap (λ (t : ℕ → Segment). record log { segments = t }) (fun_ext (put-same log.segments seg))
 
 -- its loss changes nothing, and nobody is sent a Place

@@ -12,6 +12,7 @@ pub mod SoundBefore
 pub mod StillBefore
 pub mod Stood
 pub mod ConcernedLemmas
+pub mod StuckLemmas
 pub mod ListRuleLemmas
 pub mod FiledLemmas
 pub mod WatchLemmas

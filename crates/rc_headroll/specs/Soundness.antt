@@ -51,9 +51,9 @@ pub record IsSoundLog (kept : LogData) (passed entries : ℕ) : Type 0 where
 
 -- the timer goes over each segment that may want something, and over each that did when the log goes back
 pub record IsWatchedLog (kept : LogData) : Type 0 where
-  pub now : AreWatched kept.watch (log_of kept).head (log_of kept).segments
-  pub before : AreWatched kept.watch (before_of kept).head (before_of kept).segments
+  pub now : AreWatched kept.own kept.watch (log_of kept).head (log_of kept).segments
+  pub before : AreWatched kept.own kept.watch (before_of kept).head (before_of kept).segments
 
--- each segment that the timer passes over was freed, or the list doesn't concern it
+-- each segment that the timer passes over is one about which the list rules do nothing
 abbrev pub IsRoused : ServerList → LogData → Type 0
-IsRoused servers kept = AreRoused servers kept.watch (log_of kept).head (log_of kept).segments
+IsRoused servers kept = AreRoused kept.own servers kept.watch (log_of kept).head (log_of kept).segments

@@ -12,6 +12,7 @@ mod log;
 mod numbers;
 mod opening;
 mod others;
+mod stuck;
 mod telling;
 mod watch;
 mod watching;

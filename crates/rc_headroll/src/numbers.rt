@@ -32,6 +32,13 @@ impl Numbers {
         }
     }
 
+    /// Whether there is no number.
+    pub(crate) fn is_empty(&self) -> bool
+        ensures { result ≡ true → (seg : ℕ) → has_number self.now seg ≡ false }
+    {
+        self.set.is_empty()
+    }
+
     /// Adds a number. Where memory is refused, nothing has changed.
     pub(crate) fn insert(&mut self, seg: u16) -> Result<(), AllocError>
         ensures added { OnOk result (has_number self.new seg ≡ true) }

@@ -1,6 +1,6 @@
 //! Which segments the timer and a new server list go over.
 
-ghost use Rattle.std.specs.Prelude.{◌≡◌, ◌<◌, ◌≤◌, ℕ, true, false, OnOk, OnErr, IfSome};
+ghost use Rattle.std.specs.Prelude.{◌≡◌, ◌<◌, ◌≤◌, ℕ, true, false, OnOk, OnErr, IfOk, IfSome};
 ghost use Rattle.rc_model.specs.Log.{has_segment};
 ghost use Rattle.rc_headroll.specs.LogData.{log_of, before_of};
 ghost use Rattle.rc_headroll.specs.Soundness.{IsRoused};
@@ -13,8 +13,8 @@ use std::alloc::AllocError;
 
 impl LogHead {
     /// The next segment after this one that may want something of the timer: that is open, or under an
-    /// epoch that isn't committed, or that was not freed and has a member which is lost or has told nothing.
-    /// Each one that is passed over wants nothing.
+    /// epoch that isn't committed, or that was not freed and has a member which has told nothing, or which is lost and
+    /// may be replaced. Each one that is passed over wants nothing.
     pub fn next_awake(&self, done: u16) -> Option<u16>
         ensures later { IfSome result (λ seg. done < seg) }
         ensures known { IfSome result (λ seg. has_segment (log_of self.now) seg ≡ true) }
@@ -41,8 +41,9 @@ impl LogHead {
     }
 
     /// From here on the timer goes over each segment that was not freed and has a member which is lost or
-    /// which the list shows crashed. It looks at the ids of members that are on file, once, and at no other
-    /// segment than those of which a member has crashed. Where memory is refused, the log is as it was.
+    /// which the list shows crashed, but for those whose lost members nobody of the list can replace. It looks at the
+    /// ids of members that are on file, once, and at no other segment than those of which a member has crashed, and,
+    /// where the list is another one, those that were stuck. Where memory is refused, the log is as it was.
     pub fn rouse(&mut self, servers: &ServerList) -> Result<(), AllocError>
         ensures log { log_of self.new ≡ log_of self.old }
         ensures before { before_of self.new ≡ before_of self.old }
@@ -85,39 +86,43 @@ impl LogHead {
         Ok(())
     }
 
-    /// Files a segment under its members and lets it go, if it wants nothing.
+    /// Files a segment and lets it go, if it wants nothing and a list that concerns it finds it again.
     fn let_go(&mut self, seg: u16) -> Result<(), AllocError>
         requires known { has_segment (log_of self.old) seg ≡ true }
         requires same { before_of self.old ≡ log_of self.old }
         ensures log { log_of self.new ≡ log_of self.old }
         ensures before { before_of self.new ≡ before_of self.old }
     {
-        if self.segments[usize::from(seg) - 1].wants_nothing() {
-            self.file(seg)?;
+        if !self.segments[usize::from(seg) - 1].wants_nothing() {
+            return Ok(());
+        }
+        if self.file(seg)? {
             self.pass_over(seg);
         }
         Ok(())
     }
 
-    /// Files a segment under each of its members, if it wasn't freed. Where memory is refused, the log is as it was.
-    fn file(&mut self, seg: u16) -> Result<(), AllocError>
+    /// Files a segment, if it wasn't freed: under each of its members, or as one that is stuck. The answer says whether
+    /// it may be passed over, if it wants nothing. Where memory is refused, the log is as it was.
+    fn file(&mut self, seg: u16) -> Result<bool, AllocError>
         requires { has_segment (log_of self.old) seg ≡ true }
         ensures log { log_of self.new ≡ log_of self.old }
         ensures before { before_of self.new ≡ before_of self.old }
-        ensures filed { OnOk result (is_on_file self.new.watch seg ((log_of self.new).segments seg) ≡ true) }
+        ensures filed { IfOk result (λ filed. filed ≡ true →
+            is_on_file self.new.own self.new.watch seg ((log_of self.new).segments seg) ≡ true) }
     {
         let segment = &self.segments[usize::from(seg) - 1];
         if segment.is_freed() {
-            return Ok(());
+            return Ok(true);
         }
-        self.watch.file(seg, segment.config().members())
+        self.watch.file(self.own, seg, segment.config())
     }
 
     /// From here on the timer passes over a segment that wants nothing and is on file.
     fn pass_over(&mut self, seg: u16)
         requires same { before_of self.old ≡ log_of self.old }
         requires nothing { wants_nothing ((log_of self.old).segments seg) ≡ true }
-        requires filed { is_on_file self.old.watch seg ((log_of self.old).segments seg) ≡ true }
+        requires filed { is_on_file self.old.own self.old.watch seg ((log_of self.old).segments seg) ≡ true }
         ensures log { log_of self.new ≡ log_of self.old }
         ensures before { before_of self.new ≡ before_of self.old }
     {

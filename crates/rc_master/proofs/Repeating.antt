@@ -1,5 +1,5 @@
 -- Rules over a list, one more at its end.
-use Rattle.std.proofs.Common.{◌≡◌, ◌⊎◌, ⊎_elim, inl, inr, Bool, true, false, not, ◌||◌, cond, Err, ℕ, ◌+◌, ◌<◌, ◌≤◌, zero, suc}
+use Rattle.std.proofs.Common.{◌≡◌, ◌⊎◌, ⊎_elim, inl, inr, Bool, true, false, ◌||◌, cond, Err, ℕ, ◌+◌, ◌<◌, ◌≤◌, zero, suc}
 use Rattle.std.proofs.Common.{List, [], ◌∷◌, ◌++◌, length, take, get_or, refl, sym, ap, ◌∙◌, subst, append_assoc, arith}
 use Rattle.std.proofs.lemmas.Bool.{cases_eq}
 use Rattle.std.proofs.lemmas.List.{append-nil, take_more, get_or_default}
@@ -7,9 +7,8 @@ use Rattle.std.proofs.Math.Numerals.{add-one}
 use Rattle.rc_model.specs.Model.{ServerId, Part, PlanRow, Message, Fault, loses, Log, numbers_to, Master, with_log, then_does}
 use Rattle.rc_model.specs.Model.{places_segment, replaces_lost, replaces_lost_of, task_of, begins_task, takes_plan}
 use Rattle.rc_types.specs.declared.faults.Fault.TheVariants.{OutOfMemory}
-use Rattle.rc_segment.specs.Concerned.{is_concerned}
-use Rattle.rc_headroll.specs.Watching.{Watched, is_awake}
-use Rattle.rc_headroll.proofs.ListRuleLemmas.{replaces-unconcerned}
+use Rattle.rc_headroll.specs.Watching.{Watched, is_awake, is_let_be}
+use Rattle.rc_headroll.proofs.ListRuleLemmas.{replaces-let_be}
 
 -- the last one after the others
 pub lost-more : (segs : List ℕ) (seg : ℕ) (master : Master) →
@@ -43,27 +42,14 @@ lost-step start now next n before sent more state sends then_ says =
           ∙ ap (λ (r : Master × List Message). before ++ r.1) (sym all)))),
     )
 
--- A segment that wants nothing, and that the list doesn't concern, is passed over
+-- A segment that the timer passes over is let be
 
 pub passed-over : (master : Master) (seg : ℕ) (watch : Watched) →
-    (is_awake watch seg || ((master.log.segments seg).freed || not (is_concerned master.known (master.log.segments seg)))) ≡ true →
+    (is_awake watch seg || is_let_be master.log.own master.known (master.log.segments seg)) ≡ true →
     is_awake watch seg ≡ false → replaces_lost master seg ≡ (master, [])
 passed-over master seg watch roused asleep =
-    by (master.log.segments seg).freed refl
-    (ap (λ (b : Bool). b || ((master.log.segments seg).freed || not (is_concerned master.known (master.log.segments seg))))
-    (sym asleep) ∙ roused)
-  where
-    is-not : (b : Bool) → not b ≡ true → b ≡ false
-    is-not true e = sym e
-    is-not false e = refl
-
-    by : (b : Bool) → (master.log.segments seg).freed ≡ b →
-        ((master.log.segments seg).freed || not (is_concerned master.known (master.log.segments seg))) ≡ true →
-        replaces_lost master seg ≡ (master, [])
-    by true freed either = ap (λ (f : Bool). cond f (master, []) (places_segment seg master (loses master.known seg master.log))) freed
-    by false kept either =
-        replaces-unconcerned master seg (is-not (is_concerned master.known (master.log.segments seg))
-        (ap (λ (f : Bool). f || not (is_concerned master.known (master.log.segments seg))) (sym kept) ∙ either))
+    replaces-let_be master seg
+    (ap (λ (b : Bool). b || is_let_be master.log.own master.known (master.log.segments seg)) (sym asleep) ∙ roused)
 
 -- so are several
 pub lost-skips : (start now : Master) (done n : ℕ) (before sent : List Message) → done ≤ n →

@@ -1,12 +1,11 @@
 -- Lists of messages that go through the segments.
 use Rattle.std.proofs.Common.{◌≡◌, ⊎_elim, ℕ, ◌+◌, ◌<◌, ◌≤◌, zero, suc, List, [], ◌∷◌, ◌++◌, map, filter, Bool, cond}
 use Rattle.std.proofs.Common.{true, false, not, ◌&&◌, ◌||◌, is_some, ap, sym, ◌∙◌, add-one, append_assoc, refl, subst, arith}
-use Rattle.std.specs.List.{list_all}
 use Rattle.std.proofs.lemmas.Bool.{cases_eq, and_parts, cond_both, cond-false, false≢true}
 use Rattle.std.proofs.lemmas.List.{append-nil}
-use Rattle.rc_model.specs.Model.{Member, Message, Commit, between, to_coordinator, is_placed, all_placed, Segment, Log, numbers_to}
+use Rattle.rc_model.specs.Model.{Member, Message, Commit, between, to_coordinator, all_placed, Segment, Log, numbers_to}
 use Rattle.rc_model.specs.Model.{place_of, stood, standing, reminds_shut_members, reminds_open, reminds_shut, awaits_commit}
-use Rattle.rc_segment.specs.Resting.{wants_nothing}
+use Rattle.rc_segment.specs.Resting.{have_told, wants_nothing}
 use Rattle.rc_notices.specs.Reminders.{reminds_if_open, reminds_if_shut, commit_again}
 
 -- what is added after what was added before
@@ -92,10 +91,10 @@ skips-to walk one more done (suc n) above none =
     subst (λ (m : ℕ). walk m ≡ walk done ++ one m) next last
 
 wants-parts : (s : Segment) → wants_nothing s ≡ true →
-    (s.shut ≡ true) × (s.config.committed ≡ true) × ((s.freed || all_placed s.config) ≡ true)
+    (s.shut ≡ true) × (s.config.committed ≡ true) × ((s.freed || have_told s.config.members) ≡ true)
 wants-parts s e =
-    let first = and_parts s.shut (s.config.committed && (s.freed || all_placed s.config)) e in
-    let second = and_parts s.config.committed (s.freed || all_placed s.config) first.1 in
+    let first = and_parts s.shut (s.config.committed && (s.freed || have_told s.config.members)) e in
+    let second = and_parts s.config.committed (s.freed || have_told s.config.members) first.1 in
     (first.0, second.0, second.1)
 
 pub open-none : (before log : Log) (seg : ℕ) → wants_nothing (log.segments seg) ≡ true → reminds_if_open before log seg ≡ []
@@ -112,28 +111,27 @@ commit-none log seg nothing =
     by true false placed e = absurd (false≢true e)
     by false committed placed e = refl
 
--- where all are placed, there is none that has told nothing
-all-told : (p : Member → Bool) (members : List Member) → list_all is_placed members ≡ true →
+-- where all have told something, there is none that has told nothing
+all-told : (p : Member → Bool) (members : List Member) → have_told members ≡ true →
     filter (λ member. not (is_some member.told)) (filter p members) ≡ []
-all-told p [] placed = refl
-all-told p (member ∷ members) placed =
-    let parts = and_parts (is_placed member) (list_all is_placed members) placed in
-    let told = (and_parts (not member.lost) (is_some member.told) parts.0).1 in
+all-told p [] told = refl
+all-told p (member ∷ members) told =
+    let parts = and_parts (is_some member.told) (have_told members) told in
     cond_both (p member) (member ∷ filter p members) (filter p members)
     (λ (ms : List Member). filter (λ other. not (is_some other.told)) ms ≡ [])
     (λ chosen. cond-false (not (is_some member.told)) (member ∷ filter (λ other. not (is_some other.told)) (filter p members))
-    (filter (λ other. not (is_some other.told)) (filter p members)) (ap not told) ∙ all-told p members parts.1)
+    (filter (λ other. not (is_some other.told)) (filter p members)) (ap not parts.0) ∙ all-told p members parts.1)
     (λ passed. all-told p members parts.1)
 
 pub shut-none : (before log : Log) (seg : ℕ) → wants_nothing (log.segments seg) ≡ true → reminds_if_shut before log seg ≡ []
 shut-none before log seg nothing =
-    by (log.segments seg).shut (log.segments seg).freed (all_placed (log.segments seg).config) (wants-parts (log.segments seg) nothing).2
-    (λ placed. ap (map (λ member. between log.own member.id (place_of log seg true)))
-    (all-told (λ member. stood before log seg member.id) (log.segments seg).config.members placed))
+    by (log.segments seg).shut (log.segments seg).freed (have_told (log.segments seg).config.members) (wants-parts (log.segments seg) nothing).2
+    (λ told. ap (map (λ member. between log.own member.id (place_of log seg true)))
+    (all-told (λ member. stood before log seg member.id) (log.segments seg).config.members told))
   where
-    by : (shut freed placed : Bool) → (freed || placed) ≡ true →
-        (placed ≡ true → reminds_shut_members log seg (standing before log seg) ≡ []) →
+    by : (shut freed told : Bool) → (freed || told) ≡ true →
+        (told ≡ true → reminds_shut_members log seg (standing before log seg) ≡ []) →
         cond (shut && not freed) (reminds_shut_members log seg (standing before log seg)) [] ≡ []
-    by true true placed either none = refl
-    by true false placed either none = none either
-    by false freed placed either none = refl
+    by true true told either none = refl
+    by true false told either none = none either
+    by false freed told either none = refl

@@ -3,6 +3,7 @@
 ghost use Rattle.std.specs.Prelude.{◌≡◌, ◌⊎◌, ◌≤◌, Ok, Err, true, map, length, nat_eq, OnOk, OnErr, IfOk, IfErr};
 ghost use Rattle.rc_types.specs.declared.faults.Fault.TheVariants.{OutOfMemory};
 ghost use Rattle.rc_model.specs.Config.{notes, noted, committed_at};
+ghost use Rattle.rc_segment.specs.Resting.{have_told};
 
 use crate::state::SegmentState;
 use rc_config::{Config, MAX_MEMBERS, MemberIds};
@@ -188,12 +189,13 @@ impl Segment {
         self.commit_sent && (!self.config.is_committed() && self.config.all_placed())
     }
 
-    /// Whether the timer says nothing of it: it is shut under a committed epoch, and was freed or is placed
-    /// on all its members.
+    /// Whether the timer says nothing of it: it is shut under a committed epoch, and was freed or each of its
+    /// members has told something, lost or not.
     pub fn wants_nothing(&self) -> bool
         ensures { result ≡ wants_nothing self.now }
     {
-        self.shut && (self.config.is_committed() && (self.freed || self.config.all_placed()))
+        self.shut
+            && (self.config.is_committed() && (self.freed || have_told(self.config.members())))
     }
 
     /// Whether a member is lost, or the list shows one crashed.
@@ -326,6 +328,13 @@ impl Segment {
             }
         }
     }
+}
+
+/// Whether each of these members has told something, lost or not.
+fn have_told(members: &[Member]) -> bool
+    ensures { result ≡ have_told members.now }
+{
+    members.iter().all(|member| member.told.is_some())
 }
 
 /// The ids of members, in their order.

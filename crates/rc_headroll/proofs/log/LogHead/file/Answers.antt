@@ -1,12 +1,12 @@
 use Rattle.std.proofs.Common.{◌≡◌, true, sym, ap, ◌∙◌}
-use Rattle.std.proofs.lemmas.Result.{on_ok_weaker}
+use Rattle.std.proofs.lemmas.Result.{IfOk-weaker}
 use Rattle.rc_model.specs.Model.{has_segment, Segment, Config}
 use Rattle.rc_segment.specs.Lists.{segment_at}
 use Rattle.rc_headroll.specs.LogData.{log_of}
 use Rattle.rc_headroll.specs.contracts.log.LogHead.{the_view}
 use Rattle.rc_segment.proofs.SegmentTables.{segment_at-read}
 use Rattle.rc_headroll.proofs.LogChanges.{seg_place}
-use Rattle.rc_headroll.proofs.WatchLemmas.{IsMore, sound-watch, watched-woken, on-file-freed, on-file-each}
+use Rattle.rc_headroll.proofs.WatchLemmas.{IsMore, sound-watch, watched-woken, on-file-freed, on-file-found}
 use Rattle.rc_headroll.proofs.log.LogHead.file.Goals as goal
 
 pub returns-then-is_freed-clause-filed : goal.returns-then-is_freed-clause-filed
@@ -16,7 +16,7 @@ returns-then-is_freed-clause-filed c =
     let read = segment_at-read c.self.inside.segments.items c.args.seg _ c.index-segment.result.now at.0 at.1 c.index-segment.ensures in
     let freed : c.index-segment.result.now.freed ≡ true = sym c.is_freed.ensures ∙ c.if-is_freed.true in
     rw (← c.self.view_is)
-    (on-file-freed c.self.inside.watch c.args.seg (segment_at c.self.inside.segments.items c.args.seg)
+    (λ is. on-file-freed c.self.inside.own c.self.inside.watch c.args.seg (segment_at c.self.inside.segments.items c.args.seg)
     (ap (λ (s : Segment). s.freed) (sym read) ∙ freed))
 
 pub invariant_of-self : goal.invariant_of-self
@@ -24,6 +24,7 @@ invariant_of-self c =
     let more : IsMore c.self.inside.watch c.file.new.self = record {
       awake = λ seg awake. rw c.file.ensures.awake awake;
       filed = λ id seg filed asleep. c.file.ensures.others id seg filed;
+      stuck = λ seg stuck asleep. (c.file.ensures.stuck seg stuck, c.file.ensures.servers);
     } in (
       sound-watch (the_view c.self.inside) c.self.inside.passed c.self.inside.passed_entries c.file.new.self c.self.invariant.0,
       watched-woken (the_view c.self.inside) c.file.new.self c.self.invariant.1 more,
@@ -35,8 +36,7 @@ returns-clause-filed c =
     let has : true ≡ has_segment (log_of c.args.self.now) c.args.seg = sym c.requires in
     let at = seg_place (the_view c.self.inside) c.args.seg c.from.result (rw (← c.self.view_is) at has) c.from.ensures in
     let read = segment_at-read c.self.inside.segments.items c.args.seg _ c.index-segment.result.now at.0 at.1 c.index-segment.ensures in
-    on_ok_weaker c.file.result
-    (λ filed. on-file-each c.file.new.self c.args.seg (segment_at c.self.inside.segments.items c.args.seg) c.members.result.now
-    (c.members.ensures ∙ ap (λ (config : Config). config.members) c.config.ensures ∙ ap (λ (s : Segment). s.config.members) read)
-    filed)
+    IfOk-weaker c.file.result _ _
+    (λ done found is. on-file-found c.self.inside.own c.file.new.self c.args.seg (segment_at c.self.inside.segments.items c.args.seg) c.config.result.now
+    (c.config.ensures ∙ ap (λ (s : Segment). s.config) read) (found is))
     c.file.ensures.filed

@@ -12,7 +12,7 @@ pass_over-requires-clause-nothing c =
     let has : true ≡ has_segment (log_of c.args.self.now) c.args.seg = sym c.requires.known in
     let at = seg_place (the_view c.self.inside) c.args.seg c.from.result (rw (← c.self.view_is) at has) c.from.ensures in
     let read = segment_at-read c.self.inside.segments.items c.args.seg _ c.index.result.now at.0 at.1 c.index.ensures in
-    let nothing : true ≡ wants_nothing c.index.result.now = c.if-wants_nothing.ensures in
+    let nothing : true ≡ wants_nothing c.index.result.now = c.if-not-wants_nothing.ensures in
     let then_ : wants_nothing ((log_of c.args.self.now).segments c.args.seg) ≡ true =
     rw (← c.self.view_is) (ap wants_nothing (sym read) ∙ sym nothing) in
     ap (λ (log : Log). wants_nothing (log.segments c.args.seg)) c.in_ok-file.ensures.log ∙ then_

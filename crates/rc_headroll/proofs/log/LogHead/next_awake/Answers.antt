@@ -12,7 +12,7 @@ returns-then-not-has-clause-others c =
     let past = not-has-past (log_of (the_view c.self.inside)) c.in_ok-seg.seg (omega (arith, c.in_ok-seg.ensures.later))
     (rw (← c.self.view_is) at none) in
     rw (← c.self.view_is)
-    (λ other above within _. asleep-nothing c.self.inside.watch (length c.self.inside.segments.items)
+    (λ other above within _. asleep-nothing c.self.inside.own c.self.inside.watch (length c.self.inside.segments.items)
     (segment_at c.self.inside.segments.items) c.self.invariant.1.now other (omega (arith, above)) within
     (c.in_ok-seg.ensures.others other above (omega (arith, past, within))))
 
@@ -27,6 +27,6 @@ returns-then-not-has-clause-asleep c =
 pub returns-clause-others : goal.returns-clause-others
 returns-clause-others c =
     rw (← c.self.view_is)
-    (λ other above within below. asleep-nothing c.self.inside.watch (length c.self.inside.segments.items)
+    (λ other above within below. asleep-nothing c.self.inside.own c.self.inside.watch (length c.self.inside.segments.items)
     (segment_at c.self.inside.segments.items) c.self.invariant.1.now other (omega (arith, above)) within
     (c.in_ok-seg.ensures.others other above below))
