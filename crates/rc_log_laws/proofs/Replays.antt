@@ -8,7 +8,8 @@ use Rattle.rc_model.specs.Model.{between, to_coordinator, Backup, backup_takes, 
 use Rattle.rc_model.specs.Model.{Work, Take, Create, Split, HostNode}
 use Rattle.rc_model.specs.Model.{master_setup, is_for_clients, outside_can, server_of}
 use Rattle.rc_model.specs.Model.{with_backup, with_master, next_server, starts_host}
-use Rattle.rc_model.specs.Model.{coordinator_step, World, opening, NodeName, TheOutside, TheCoordinator, TheHost, Job, node_of, delivery, work_of, node_can}
+use Rattle.rc_model.specs.Model.{coordinator_step, World, opening, NodeName, TheOutside, TheCoordinator}
+use Rattle.rc_model.specs.Model.{TheHost, Job, node_of, delivery, work_of, node_can}
 use Rattle.rc_model.specs.Model.{is_possible_job, is_possible, with_last_view, host_done, node_done, job_done, step, replay_from, replay}
 use Rattle.rc_model.specs.Model.{In, NothingIsMissing, NothingIsInvented}
 use Rattle.rc_types.specs.declared.ids.Addr.TheVariants.{Coordinator as AtCoordinator}

@@ -125,7 +125,8 @@ all-told p (member ∷ members) told =
 
 pub shut-none : (before log : Log) (seg : ℕ) → wants_nothing (log.segments seg) ≡ true → reminds_if_shut before log seg ≡ []
 shut-none before log seg nothing =
-    by (log.segments seg).shut (log.segments seg).freed (have_told (log.segments seg).config.members) (wants-parts (log.segments seg) nothing).2
+    by (log.segments seg).shut (log.segments seg).freed (have_told (log.segments seg).config.members)
+    (wants-parts (log.segments seg) nothing).2
     (λ told. ap (map (λ member. between log.own member.id (place_of log seg true)))
     (all-told (λ member. stood before log seg member.id) (log.segments seg).config.members told))
   where

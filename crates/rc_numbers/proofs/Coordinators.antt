@@ -1,7 +1,9 @@
 -- What each rule of the coordinator does to its numbers.
-use Rattle.std.proofs.Common.{ℕ, ◌≡◌, ◌+◌, ◌-◌, ◌*◌, ◌≤◌, true, false, Bool, List, [], ◌∷◌, ◌++◌, length, Some, refl, arith, leb-false, length-append, length-set}
+use Rattle.std.proofs.Common.{ℕ, ◌≡◌, ◌+◌, ◌-◌, ◌*◌, ◌≤◌, true, false, Bool, List}
+use Rattle.std.proofs.Common.{[], ◌∷◌, ◌++◌, length, Some, refl, arith, leb-false, length-append, length-set}
 use Rattle.rc_model.specs.Model.{ServerId, Tablet, Grant, Message, Body, CommitOk, SplitOk, Gather, MAX_TABLETS}
-use Rattle.rc_model.specs.Model.{NoTable, from_coordinator, to_each, coordinator_refuses, coordinator_tells, put_id, ServerList, is_up, enlisted, crashed}
+use Rattle.rc_model.specs.Model.{NoTable, from_coordinator, to_each, coordinator_refuses, coordinator_tells}
+use Rattle.rc_model.specs.Model.{put_id, ServerList, is_up, enlisted, crashed}
 use Rattle.rc_model.specs.Model.{id_crashed, up, whole_table, tablets_of, assigned, marked_crashed, split_at, greater_pair}
 use Rattle.rc_model.specs.Model.{Attempt, Decision, plan_messages, new_coordinator, refuses_server, list_body, spreads_list}
 use Rattle.rc_model.specs.Model.{begins_attempt, with_attempt, with_answer, decision_of, decides_on, own_body, range_of}
@@ -83,7 +85,8 @@ ticks-within n c = each-all (λ (message : Message). body_within n message.body)
 
 module _ (c : Coordinator) (n : ℕ) (h : CoordinatorWithin n c) where
   -- one message
-  says : (new : Coordinator) (message : Message) → CoordinatorWithin (n + 1) new → body_within (n + 1) message.body → After n (new, message ∷ [])
+  says : (new : Coordinator) (message : Message) → CoordinatorWithin (n + 1) new → body_within (n + 1) message.body →
+      After n (new, message ∷ [])
   says new message within p = record { numbers = within; messages = one-within (n + 1) message p }
 
   -- the numbers stay, and this is said
@@ -185,7 +188,8 @@ module _ (c : Coordinator) (n : ℕ) (h : CoordinatorWithin n c) where
         }) tt;
   }
     where
-      decided : (master : ServerId) (attempt : Attempt) (plan : Plan) (ids : List ServerId) → After n (decides_on c (c.current master) attempt
+      decided : (master : ServerId) (attempt : Attempt) (plan : Plan) (ids : List ServerId) →
+          After n (decides_on c (c.current master) attempt
           (decision_of c (c.current master) attempt.master plan ids) ids)
       decided master attempt plan ids = record {
         numbers = record {

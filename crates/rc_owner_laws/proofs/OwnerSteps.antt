@@ -228,7 +228,8 @@ module _ (sent : List Message) (c : Coordinator) (base : GoodCoordinator sent c)
           ap (λ (m : ServerId). Some (m, given.part.previous)) (sym p)
 
   decided-moved : (number : ℕ) (attempt : Attempt) (plan : Plan) (id : ServerId) (ids : List ServerId) →
-      IsNumbered c.attempts number attempt → Moved (decides_on c number attempt (decision_of c number attempt.master plan (id ∷ ids)) (id ∷ ids))
+      IsNumbered c.attempts number attempt →
+      Moved (decides_on c number attempt (decision_of c number attempt.master plan (id ∷ ids)) (id ∷ ids))
   decided-moved number attempt plan id ids numbered =
       quiet (decides_on c number attempt decision (id ∷ ids)).0 (plan_messages number attempt.master decision (id ∷ ids))
       (decided-good number attempt plan id ids numbered) refl
@@ -289,7 +290,8 @@ module _ (sent : List Message) (c : Coordinator) (base : GoodCoordinator sent c)
     elsewhere = λ other master decision decided current given at not_given table key within e.
         clash other master decision decided current given at not_given table key within e
         (first_same master mine.attempt.master given.part.previous part.previous
-        (sym (good.waiting other master decision decided current given at (λ old. not_given (given-more c.grants (grant_of number id part) given old)) table key
+        (sym (good.waiting other master decision decided current given at
+        (λ old. not_given (given-more c.grants (grant_of number id part) given old)) table key
         within) ∙ waits table key e));
   }
     where
@@ -355,7 +357,8 @@ module _ (sent : List Message) (c : Coordinator) (base : GoodCoordinator sent c)
     more = omega arith;
     up = λ gone. true_false (sym is_up_now ∙ crashed-not-up c.servers owner gone);
     elsewhere = λ number master decision decided current given at not_given other key within e.
-        some-none (sym (good.waiting number master decision decided current given at (λ old. not_given (given-more c.grants (first_grant table owner (c.last_term + 1)) given old))
+        some-none (sym (good.waiting number master decision decided current given at
+        (λ old. not_given (given-more c.grants (first_grant table owner (c.last_term + 1)) given old))
         other key within) ∙ before other key e);
   }
     where

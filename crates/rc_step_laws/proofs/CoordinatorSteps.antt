@@ -44,7 +44,8 @@ module _ (sent : List Message) (c : Coordinator) (good : GoodCoordinator sent c)
       moved-kept sent c (record c { ready = ready; tablets = tablets; grants = grants; last_term = last }) messages
       good refl refl (record { crashed = λ m e. e; least = λ m. below-refl (c.least m); least_stays = λ m e. refl }) good.servers says
 
-  still : (to : Addr) (body : Body) → coordinator_body_said c to body → Moved (c, record { from = AtCoordinator; to = to; body = body } ∷ [])
+  still : (to : Addr) (body : Body) → coordinator_body_said c to body →
+      Moved (c, record { from = AtCoordinator; to = to; body = body } ∷ [])
   still to body says = quiet c.ready c.tablets c.grants c.last_term (record { from = AtCoordinator; to = to; body = body } ∷ [])
       (says-one c to body says)
 

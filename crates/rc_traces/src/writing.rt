@@ -2,7 +2,8 @@
 
 ghost use Rattle.std.specs.Prelude.{◌≡◌, string_bytes, map, option_map, IfOk};
 ghost use Rattle.rc_traces.specs.Written.{id_data, value_data, entry_data, row_data, place_data, append_data};
-ghost use Rattle.rc_traces.specs.Written.{plan_data, sent_data, ok_data, ok_in, own_in, grant_in, message_data, messages_data};
+ghost use Rattle.rc_traces.specs.Written.{plan_data, sent_data, ok_data, ok_in};
+ghost use Rattle.rc_traces.specs.Written.{own_in, grant_in, message_data, messages_data};
 ghost use Rattle.rc_traces.specs.Written.{trace_data, trace_text};
 ghost use Rattle.serde_json.specs.Data.{array};
 ghost use Rattle.serde_json.specs.View.{view, items_of};

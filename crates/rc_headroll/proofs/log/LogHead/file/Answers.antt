@@ -37,6 +37,7 @@ returns-clause-filed c =
     let at = seg_place (the_view c.self.inside) c.args.seg c.from.result (rw (← c.self.view_is) at has) c.from.ensures in
     let read = segment_at-read c.self.inside.segments.items c.args.seg _ c.index-segment.result.now at.0 at.1 c.index-segment.ensures in
     IfOk-weaker c.file.result _ _
-    (λ done found is. on-file-found c.self.inside.own c.file.new.self c.args.seg (segment_at c.self.inside.segments.items c.args.seg) c.config.result.now
+    (λ done found is. on-file-found c.self.inside.own c.file.new.self c.args.seg
+    (segment_at c.self.inside.segments.items c.args.seg) c.config.result.now
     (c.config.ensures ∙ ap (λ (s : Segment). s.config) read) (found is))
     c.file.ensures.filed

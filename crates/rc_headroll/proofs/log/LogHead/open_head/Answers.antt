@@ -39,7 +39,8 @@ invariant_of-self-2 c =
       rw c.make_room.ensures.mark (watched-opened (the_view c.self.inside) c.new-head.result c.push.new.self.items Opening
           (c.head-seg.result + 1)
           c.wake.new.self c.self.invariant.1
-          (more-awake c.self.inside.watch c.wake.new.self c.wake.ensures.filed c.wake.ensures.stuck c.wake.ensures.others) seg c.in_ok-wake.ensures.awake pushed
+          (more-awake c.self.inside.watch c.wake.new.self c.wake.ensures.filed c.wake.ensures.stuck c.wake.ensures.others)
+          seg c.in_ok-wake.ensures.awake pushed
           (before_of-same (the_view c.self.inside) c.push.new.self.items
           (opened-before (the_view c.self.inside) c.new-head.result c.push.new.self.items c.self.invariant.0.back pushed))),
       omega (
