@@ -3,7 +3,7 @@
 use rc_coordinator::Coordinator;
 use rc_runbook::{Due, Seen, dues};
 use rc_types::{Addr, Body, Fault, Message, NodeWork, Row, Seq, ServerId, Shared};
-use std::alloc::Global;
+use std::alloc::{AllocError, Global};
 use std::test::Fail;
 
 /// The first server of each of three hosts.
@@ -90,7 +90,7 @@ fn asked(
     heard: &[ServerId],
     silent: &[ServerId],
     stuck: &[ServerId],
-) -> Result<Vec<Due>, Fault> {
+) -> Result<Vec<Due>, AllocError> {
     let seen = Seen {
         heard,
         silent,

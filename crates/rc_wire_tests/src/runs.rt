@@ -27,7 +27,7 @@ const OWNER: ServerId = ServerId {
 };
 
 /// The beginning of a wire with these many hosts.
-fn opened(alloc: Global, hosts: u8) -> Result<Opening, Fault>
+fn opened(alloc: Global, hosts: u8) -> Result<Opening, AllocError>
     ensures limits { IfOk result (λ opening. IsWithinLimits opening.setup) }
     ensures nodes { IfOk result (λ opening. opening.nodes ≡ hosts + 2) }
 {
@@ -261,7 +261,7 @@ fn close<N: Naming>(
     alloc: Global,
     wire: Wire<N>,
     seats: Vec<Seat<N>>,
-) -> Result<World<Global>, Fault> {
+) -> Result<World<Global>, AllocError> {
     match wire.close(alloc, seats) {
         Ok(world) => Ok(world),
         Err((_, _, fault)) => Err(fault),

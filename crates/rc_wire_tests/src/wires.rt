@@ -9,7 +9,7 @@ use rc_journal::{Naming, Opening};
 use rc_seats::{Seat, Wire, Work};
 use rc_types::{Body, Fault, Message, NodeName, Seq, ServerId, Setup};
 use rc_world::World;
-use std::alloc::Global;
+use std::alloc::{AllocError, Global};
 use std::marker::Brand;
 use std::process::Abort;
 use std::sync::Wait;
@@ -43,7 +43,7 @@ enum Scene {
 }
 
 /// The beginning of a wire with three hosts.
-fn new_opening(alloc: Global) -> Result<Opening, Fault>
+fn new_opening(alloc: Global) -> Result<Opening, AllocError>
     ensures limits { IfOk result (λ opening. IsWithinLimits opening.setup) }
     ensures nodes { IfOk result (λ opening. opening.nodes ≡ 5) }
 {
