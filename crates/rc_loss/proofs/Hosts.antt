@@ -17,7 +17,7 @@ use Rattle.rc_model.proofs.Tests.{either}
 use Rattle.rc_model.proofs.Tables.{put-same, put-other}
 use Rattle.rc_model.proofs.Ids.{server-same}
 use Rattle.rc_step_laws.specs.All.{body_said, held_at, StillStands, MasterMoved, BackupMoved}
-use Rattle.rc_step_laws.proofs.MasterSteps.{master_takes_keeps, master_ticks_keeps}
+use Rattle.rc_log_laws.proofs.NodeWalk.{walked-host}
 use Rattle.rc_step_laws.proofs.Backups.{moved-backup}
 use Rattle.rc_step_laws.proofs.Copies.{In-either, split}
 use Rattle.rc_log_laws.proofs.Replays.{GoodWorld, IsGiven, is-good, is-fine, hears, is_server-true, work_of-given}
@@ -177,73 +177,32 @@ module _ (world : World) (one : Event) (good : GoodWorld world) (x : ServerId) (
     abbrev HostStands : HostNode × List Message → Type 0
     HostStands after = In message_said after.1 → (x ≡ server_of (world.hosts i)) × P after.0.backup
 
-    by-backup : (message : Message) →
-        In (record { from = message.from; to = Server (server_of (world.hosts i)); body = message.body }) world.sent →
-        HostStands (with_backup (world.hosts i) (backup_takes (world.hosts i).backup message.from message.body))
-    by-backup message given = by (backup_takes (world.hosts i).backup message.from message.body) refl
-      where
-        now : ℕ → HostNode
-        now = put world.hosts i (record (world.hosts i) { backup = (backup_takes (world.hosts i).backup message.from message.body).0 })
-
-        moved : BackupMoved world.sent world.masters
-            (put world.hosts i (record (world.hosts i) { backup = (backup_takes (world.hosts i).backup message.from message.body).0 }))
-            world.coordinator (world.hosts i) (backup_takes (world.hosts i).backup message.from message.body)
-        moved = moved-backup world.sent world.masters world.hosts
-            (put world.hosts i (record (world.hosts i) { backup = (backup_takes (world.hosts i).backup message.from message.body).0 }))
-            world.coordinator i message.from message.body good given
-            (ap (put world.hosts i (record (world.hosts i) { backup = (backup_takes (world.hosts i).backup message.from message.body).0 }))
-            (good.hosts_are i).index ∙ put-same world.hosts i _)
-
-        by : (after : _) → backup_takes (world.hosts i).backup message.from message.body ≡ after → HostStands (with_backup
-            (world.hosts i) after)
-        by (backup, messages) is at =
-            let there : In message_said (backup_takes (world.hosts i).backup message.from message.body).1 =
-            subst (λ (one : Backup × List Message). In message_said one.1) (sym is) at in (
-              server-same x (server_of (world.hosts i)) (moved.from message_said there),
-              subst (λ (one : Backup × List Message). P one.0) is (is_said.by_backup i message.from message.body given there),
-            )
+    by-backup : (from : Addr) (heard : Body) →
+        In (record { from = from; to = Server (server_of (world.hosts i)); body = heard }) world.sent →
+        BackupMoved world.sent world.masters
+        (put world.hosts i (record (world.hosts i) { backup = (backup_takes (world.hosts i).backup from heard).0 }))
+        world.coordinator (world.hosts i) (backup_takes (world.hosts i).backup from heard) →
+        HostStands (with_backup (world.hosts i) (backup_takes (world.hosts i).backup from heard))
+    by-backup from heard given moved at =
+        (server-same x (server_of (world.hosts i)) (moved.from message_said at), is_said.by_backup i from heard given at)
 
     by-master : (master : Master) (after : Master × List Message) → MasterMoved world.sent (server_of (world.hosts i)) master after →
         HostStands (with_master (world.hosts i) after)
     by-master master (now, messages) moved at = absurd (is_said.no_master _ _ _ _ _ (moved.says message_said at).says)
-
-    by-server : (master : Master) → (world.hosts i).master ≡ Some master → (message : Message) →
-        In (record { from = message.from; to = Server (server_of (world.hosts i)); body = message.body }) world.sent →
-        HostStands (server_takes (world.hosts i) master message)
-    by-server master is message given =
-        either HostStands (is_for_backup message.body)
-        (with_backup (world.hosts i) (backup_takes (world.hosts i).backup message.from message.body))
-        (with_master (world.hosts i) (master_takes master message.from message.body))
-        (λ _. by-backup message given)
-        (λ _. by-master master (master_takes master message.from message.body)
-        (master_takes_keeps world.sent (server_of (world.hosts i)) master message.from message.body (is-good world one i good master is)
-        (is-fine world one i good master is) (hears world one i good message.from message.body given)))
-
-    by-takes : (found : Option Master) → (world.hosts i).master ≡ found → (message : Message) → In message world.sent →
-        HostStands (takes_if_running (world.hosts i) found message)
-    by-takes None is message given = λ at. absurd at
-    by-takes (Some master) is message given =
-        either HostStands (is_server (server_of (world.hosts i)) message.to) (server_takes (world.hosts i) master message)
-        (world.hosts i, [])
-        (λ to. by-server master is message
-        (subst (λ (addr : Addr). In (record { from = message.from; to = addr; body = message.body }) world.sent)
-        (is_server-true world one i good (server_of (world.hosts i)) message.to to) given)) (λ _ at. absurd at)
-
-    by-ticks : (found : Option Master) → (world.hosts i).master ≡ found → HostStands (ticks_if_running (world.hosts i) found)
-    by-ticks None is = λ at. absurd at
-    by-ticks (Some master) is = by-master master (master_ticks master)
-        (master_ticks_keeps world.sent (server_of (world.hosts i)) master (is-good world one i good master is)
-        (is-fine world one i good master is))
 
     no-enlist : In message_said (to_coordinator (next_server (world.hosts i)) Enlist ∷ []) → ⊥
     no-enlist (inl same) = is_said.not_enlist (ap (λ (message : Message). message.body) same)
     no-enlist (inr never) = never
 
     by-host : (work : Work) → IsGiven world.sent (TheHost i) work → HostStands (host_step (world.hosts i) work)
-    by-host (Take message) given = by-takes (world.hosts i).master refl message given.0
-    by-host (Tick addr) given = by-ticks (world.hosts i).master refl
-    by-host (Start kept) given = λ at. absurd (no-enlist at)
-    by-host _ given = λ at. absurd at
+    by-host work given = walked-host world one i good HostStands (record {
+      still = λ at. absurd at;
+      backs = λ master is. by-backup;
+      takes = λ master is from heard at moved. by-master master (master_takes master from heard) moved;
+      ticks = λ master is moved. by-master master (master_ticks master) moved;
+      stops = λ at. absurd at;
+      starts = λ kept at. absurd (no-enlist at);
+    }) work given
 
     host-stands : (work : Work) → IsGiven world.sent (TheHost i) work → Stands (node_done world one (TheHost i) work)
     host-stands work given at =

@@ -13,7 +13,7 @@ use Rattle.rc_model.specs.Nodes.{Tick, Stop, Start}
 use Rattle.rc_model.proofs.Replays.{replay_from-push}
 use Rattle.rc_model.proofs.Tests.{true_false, either}
 use Rattle.rc_step_laws.specs.All.{HasToldClosed, IsPlace, IsPlacedAt, IsStored, OnDifferentHosts, LogLater, MasterMoved}
-use Rattle.rc_step_laws.proofs.MasterSteps.{master_takes_keeps, master_ticks_keeps}
+use Rattle.rc_log_laws.proofs.NodeWalk.{walked-host}
 use Rattle.rc_step_laws.proofs.Copies.{More, In-either, split}
 use Rattle.rc_log_laws.proofs.Replays.{GoodWorld, GoodStep, IsGiven, is-good, is-fine, hears, is_server-true, work_of-given, put_id-found}
 use Rattle.rc_log_laws.proofs.Replays.{led-step, good-world}
@@ -51,33 +51,6 @@ module _ (world : World) (one : Event) (good : GoodWorld world) (m : ServerId) w
         ap (λ (table : ServerId → Master). table m) (put_id-found world.masters master.log.own master
         (ap world.masters (is-good world one i good master is).own ∙ (good.hosts_are i).runs master is)))
 
-    done-server : (master : Master) → (world.hosts i).master ≡ Some master → (message : Message) →
-        In (record { from = message.from; to = Server (server_of (world.hosts i)); body = message.body }) world.sent →
-        Done (server_takes (world.hosts i) master message)
-    done-server master is message given =
-        either Done (is_for_backup message.body)
-        (with_backup (world.hosts i) (backup_takes (world.hosts i).backup message.from message.body))
-        (with_master (world.hosts i) (master_takes master message.from message.body))
-        (λ _. done-backup master is (backup_takes (world.hosts i).backup message.from message.body))
-        (λ _. done-moved master (master_takes master message.from message.body)
-        (master_takes_keeps world.sent (server_of (world.hosts i)) master message.from message.body (is-good world one i good master is)
-        (is-fine world one i good master is) (hears world one i good message.from message.body given)))
-
-    done-takes : (found : Option Master) → (world.hosts i).master ≡ found → (message : Message) → In message world.sent →
-        Done (takes_if_running (world.hosts i) found message)
-    done-takes None is message given = done-none (world.hosts i)
-    done-takes (Some master) is message given =
-        either Done (is_server (server_of (world.hosts i)) message.to) (server_takes (world.hosts i) master message) (world.hosts i, [])
-        (λ to. done-server master is message
-        (subst (λ (addr : Addr). In (record { from = message.from; to = addr; body = message.body }) world.sent)
-        (is_server-true world one i good (server_of (world.hosts i)) message.to to) given)) (λ _. done-none (world.hosts i))
-
-    done-ticks : (found : Option Master) → (world.hosts i).master ≡ found → Done (ticks_if_running (world.hosts i) found)
-    done-ticks None is = done-none (world.hosts i)
-    done-ticks (Some master) is = done-moved master (master_ticks master)
-        (master_ticks_keeps world.sent (server_of (world.hosts i)) master (is-good world one i good master is)
-        (is-fine world one i good master is))
-
     no-enlist : (x : ServerId) (s e len : ℕ) (closed : Bool) →
         In (between x m (Stored s e len closed)) (to_coordinator (next_server (world.hosts i)) Enlist ∷ []) → ⊥
     no-enlist x s e len closed (inl same) =
@@ -85,12 +58,15 @@ module _ (world : World) (one : Event) (good : GoodWorld world) (m : ServerId) w
     no-enlist x s e len closed (inr never) = never
 
     done-host : (work : Work) → IsGiven world.sent (TheHost i) work → Done (host_step (world.hosts i) work)
-    done-host (Take message) given = done-takes (world.hosts i).master refl message given.0
-    done-host (Tick addr) given = done-ticks (world.hosts i).master refl
-    done-host (Start kept) given = none-new (host_done world one i (host_step (world.hosts i) (Start kept)))
-        (to_coordinator (next_server (world.hosts i)) Enlist ∷ []) refl no-enlist
-    done-host (Stop id) given = done-none (host_step (world.hosts i) (Stop id)).0
-    done-host _ given = done-none (world.hosts i)
+    done-host work given = walked-host world one i good Done (record {
+      still = done-none (world.hosts i);
+      backs = λ master is from says at moved. done-backup master is (backup_takes (world.hosts i).backup from says);
+      takes = λ master is from says at moved. done-moved master (master_takes master from says) moved;
+      ticks = λ master is moved. done-moved master (master_ticks master) moved;
+      stops = done-none (record (world.hosts i) { master = None });
+      starts = λ kept. none-new (host_done world one i (host_step (world.hosts i) (Start kept)))
+          (to_coordinator (next_server (world.hosts i)) Enlist ∷ []) refl no-enlist;
+    }) work given
 
   either-node : (node : NodeName) (work : Work) → IsGiven world.sent node work → Either (node_done world one node work)
   either-node TheOutside work given = inl refl
