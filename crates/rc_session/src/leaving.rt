@@ -12,6 +12,12 @@ use rc_codec::{Put, encode_message};
 use rc_types::{Message, Seq};
 use std::alloc::{AllocError, Global};
 
+/// Room for what one step sends, coded. It grows where that is not enough.
+const ROOM_OF_STEP: usize = 512;
+
+/// Room for one message, coded. It grows where that is not enough.
+const ROOM_OF_MESSAGE: usize = 256;
+
 /// What has become of what one step has sent.
 #[derive(Clone, Copy, Debug, PartialEq, Eq)]
 pub enum Leaving {
@@ -55,10 +61,10 @@ impl Session {
     fn hand_code(&self) -> Result<Vec<u8>, AllocError>
         ensures { IfOk result (λ code. code.items ≡ hand_code self.now.hand) }
     {
-        let mut code = Vec::new(self.alloc);
         let Some(messages) = &self.hand else {
-            return Ok(code);
+            return Ok(Vec::new(self.alloc));
         };
+        let mut code = Vec::with_capacity(self.alloc, ROOM_OF_STEP)?;
         put_framed(self.alloc, messages.as_slice(), &mut code)?;
         Ok(code)
     }
@@ -97,7 +103,7 @@ fn put_framed(alloc: Global, messages: &[Message], out: &mut Vec<u8>) -> Result<
 fn put_frame(alloc: Global, message: &Message, out: &mut Vec<u8>) -> Result<(), AllocError>
     ensures { OnOk result (out.new.items ≡ out.old.items ++ framed message.now) }
 {
-    let mut code = Vec::new(alloc);
+    let mut code = Vec::with_capacity(alloc, ROOM_OF_MESSAGE)?;
     encode_message(message, &mut code)?;
     let Ok(length) = u32::try_from(code.len()) else {
         return Err(AllocError);
