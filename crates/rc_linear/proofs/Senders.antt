@@ -2,23 +2,18 @@
 use Rattle.std.proofs.Common.{◌≡◌, ◌⊎◌, ℕ, ◌+◌, ◌<◌, List, [], ◌∷◌, ◌++◌, length, take, Option, Some, None, slice_get}
 use Rattle.std.proofs.Common.{refl, sym, ap, ◌∙◌, subst, inl, inr, arith}
 use Rattle.std.proofs.lemmas.List.{append-nil, append_assoc, take-append-le, take_all}
-use Rattle.rc_model.specs.Model.{ServerId, Addr, Server, Outside, Setup, Event, Message, Enlist, is_server, put, to_coordinator}
-use Rattle.rc_model.specs.Model.{Backup, backup_takes, Master, master_takes, master_ticks, Work, Take, HostNode, outside_sends}
-use Rattle.rc_model.specs.Model.{coordinator_step, server_of, host_step, is_for_backup, with_backup, with_master, server_takes}
-use Rattle.rc_model.specs.Model.{takes_if_running, ticks_if_running, next_server, World, opening, NodeName, TheOutside}
-use Rattle.rc_model.specs.Model.{TheCoordinator, TheHost, Job, work_of, is_possible, node_done, job_done, step, replay, In}
+use Rattle.rc_model.specs.Model.{ServerId, Addr, Server, Outside, Setup, Event, Message, Enlist, to_coordinator, Work, outside_sends}
+use Rattle.rc_model.specs.Model.{coordinator_step, server_of, host_step, next_server, World, opening, NodeName, TheOutside, TheCoordinator}
+use Rattle.rc_model.specs.Model.{TheHost, Job, work_of, is_possible, node_done, job_done, step, replay, In}
 use Rattle.rc_types.specs.declared.ids.Addr.TheVariants.{Coordinator as AtCoordinator}
-use Rattle.rc_model.specs.Nodes.{Ask, Tick, Start}
+use Rattle.rc_model.specs.Nodes.{Ask}
 use Rattle.rc_model.proofs.Members.{In-get}
 use Rattle.rc_model.proofs.Replays.{replay_from-push}
-use Rattle.rc_model.proofs.Tables.{put-same}
 use Rattle.rc_model.proofs.Tests.{either}
-use Rattle.rc_step_laws.specs.Moves.{MasterMoved, BackupMoved}
-use Rattle.rc_step_laws.proofs.MasterSteps.{master_takes_keeps, master_ticks_keeps}
-use Rattle.rc_step_laws.proofs.Backups.{moved-backup}
 use Rattle.rc_step_laws.proofs.Lists.{get-within, get-append}
 use Rattle.rc_log_laws.proofs.EachMaster.{coordinator-from}
-use Rattle.rc_log_laws.proofs.Replays.{GoodWorld, IsGiven, is-good, is-fine, hears, is_server-true, work_of-given, good-world}
+use Rattle.rc_log_laws.proofs.NodeWalk.{said-host}
+use Rattle.rc_log_laws.proofs.Replays.{GoodWorld, IsGiven, work_of-given, good-world}
 
 -- the list has one message, or none of the outside
 abbrev IsAlone : List Message → Type 0
@@ -40,59 +35,15 @@ outside-alone _ = none-alone
 
 -- A host's step
 
-module _ (world : World) (one : Event) (i : ℕ) (good : GoodWorld world) where
-  abbrev Alone : HostNode × List Message → Type 0
-  Alone after = IsAlone after.1
-
-  by-backup : (after : Backup × List Message) →
-      BackupMoved world.sent world.masters (put world.hosts i (record (world.hosts i) { backup = after.0 })) world.coordinator
-      (world.hosts i) after → IsAlone after.1
-  by-backup after moved = inr (λ message at. from-server (server_of (world.hosts i)) message.from (moved.from message at))
-
-  by-master : (master : Master) (after : Master × List Message) → MasterMoved world.sent (server_of (world.hosts i)) master after →
-      IsAlone after.1
-  by-master master after moved = inr (λ message at. from-server (server_of (world.hosts i)) message.from (moved.says message at).from)
-
-  alone-server : (master : Master) → (world.hosts i).master ≡ Some master → (message : Message) →
-      In (record { from = message.from; to = Server (server_of (world.hosts i)); body = message.body }) world.sent →
-      Alone (server_takes (world.hosts i) master message)
-  alone-server master e message at =
-      either Alone (is_for_backup message.body)
-      (with_backup (world.hosts i) (backup_takes (world.hosts i).backup message.from message.body))
-      (with_master (world.hosts i) (master_takes master message.from message.body))
-      (λ _. by-backup (backup_takes (world.hosts i).backup message.from message.body)
-      (moved-backup world.sent world.masters world.hosts
-      (put world.hosts i (record (world.hosts i) { backup = (backup_takes (world.hosts i).backup message.from message.body).0 }))
-      world.coordinator i message.from message.body good at
-      (ap (put world.hosts i (record (world.hosts i) { backup = (backup_takes (world.hosts i).backup message.from message.body).0 }))
-      (good.hosts_are i).index
-      ∙ put-same world.hosts i
-      (record (world.hosts i) { backup = (backup_takes (world.hosts i).backup message.from message.body).0 }))))
-      (λ _. by-master master (master_takes master message.from message.body)
-      (master_takes_keeps world.sent (server_of (world.hosts i)) master message.from message.body (is-good world one i good master e)
-      (is-fine world one i good master e) (hears world one i good message.from message.body at)))
-
-  alone-takes : (found : Option Master) → (world.hosts i).master ≡ found → (message : Message) → In message world.sent →
-      Alone (takes_if_running (world.hosts i) found message)
-  alone-takes None e message at = none-alone
-  alone-takes (Some master) e message at =
-      either Alone (is_server (server_of (world.hosts i)) message.to) (server_takes (world.hosts i) master message) (world.hosts i, [])
-      (λ is. alone-server master e message
-      (subst (λ (to : Addr). In (record { from = message.from; to = to; body = message.body }) world.sent)
-      (is_server-true world one i good (server_of (world.hosts i)) message.to is) at))
-      (λ _. none-alone)
-
-  alone-ticks : (found : Option Master) → (world.hosts i).master ≡ found → Alone (ticks_if_running (world.hosts i) found)
-  alone-ticks None e = none-alone
-  alone-ticks (Some master) e = by-master master (master_ticks master)
-      (master_ticks_keeps world.sent (server_of (world.hosts i)) master (is-good world one i good master e)
-      (is-fine world one i good master e))
-
-  alone-host : (work : Work) → IsGiven world.sent (TheHost i) work → Alone (host_step (world.hosts i) work)
-  alone-host (Take message) given = alone-takes (world.hosts i).master refl message given.0
-  alone-host (Tick addr) given = alone-ticks (world.hosts i).master refl
-  alone-host (Start kept) given = inl (to_coordinator (next_server (world.hosts i)) Enlist, refl)
-  alone-host _ given = none-alone
+alone-host : (world : World) (one : Event) (i : ℕ) → GoodWorld world → (work : Work) → IsGiven world.sent (TheHost i) work →
+    IsAlone (host_step (world.hosts i) work).1
+alone-host world one i good work given = said-host world one i good IsAlone (record {
+  none = none-alone;
+  backs = λ after moved. inr (λ message at. from-server (server_of (world.hosts i)) message.from (moved.from message at));
+  moves = λ master after moved.
+      inr (λ message at. from-server (server_of (world.hosts i)) message.from (moved.says message at).from);
+  starts = inl (to_coordinator (next_server (world.hosts i)) Enlist, refl);
+}) work given
 
 -- Events
 

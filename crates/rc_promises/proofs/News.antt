@@ -1,26 +1,21 @@
 -- What each event newly sends: a Write is sent by the outside alone, and a ReadOk is what its master read just then.
 use Rattle.std.proofs.Common.{◌≡◌, ◌⊎◌, ℕ, false, List, [], ◌∷◌, ◌++◌, Option, Some, None, refl, sym, ap, ◌∙◌, subst, inl, inr}
 use Rattle.std.proofs.lemmas.List.{append-nil, append_assoc}
-use Rattle.rc_model.specs.Model.{ServerId, Addr, Server, Outside, Setup, Event, Message, Body, Write, Read, ReadOk, Enlist, is_server}
-use Rattle.rc_model.specs.Model.{put, to_coordinator, to_outside, Found, read_of, Backup, backup_takes, term_of, Master, durable_entries}
+use Rattle.rc_model.specs.Model.{ServerId, Addr, Server, Outside, Setup, Event, Message, Body, Write, Read, ReadOk, Enlist, put}
+use Rattle.rc_model.specs.Model.{to_coordinator, to_outside, Found, read_of, Backup, backup_takes, term_of, Master, durable_entries}
 use Rattle.rc_model.specs.Model.{then_does, reads_if_owned, goes_on, master_takes_first, deposed_takes, master_takes, master_ticks, Work}
-use Rattle.rc_model.specs.Model.{Take, Create, Split, HostNode, outside_sends, coordinator_step, server_of, host_step, is_for_backup}
-use Rattle.rc_model.specs.Model.{with_backup, with_master, server_takes, takes_if_running, ticks_if_running, starts_host, next_server}
-use Rattle.rc_model.specs.Model.{World, opening, NodeName, TheOutside, TheCoordinator, TheHost, Job, work_of, is_possible, node_done}
-use Rattle.rc_model.specs.Model.{job_done, step, replay, In}
+use Rattle.rc_model.specs.Model.{HostNode, outside_sends, coordinator_step, server_of, host_step, starts_host, next_server, World, opening}
+use Rattle.rc_model.specs.Model.{NodeName, TheOutside, TheCoordinator, TheHost, Job, work_of, is_possible, node_done, job_done, step}
+use Rattle.rc_model.specs.Model.{replay, In}
 use Rattle.rc_types.specs.declared.ids.Addr.TheVariants.{Coordinator as AtCoordinator}
 use Rattle.rc_model.specs.Coordinator.{Coordinator}
-use Rattle.rc_model.specs.Nodes.{Ask, Tick, Start, Suspect, Decide}
+use Rattle.rc_model.specs.Nodes.{Ask}
 use Rattle.rc_model.proofs.Members.{In-right, In-append}
 use Rattle.rc_step_laws.specs.Moves.{MasterMoved, body_said, BackupMoved, backup_body_said, CoordinatorMoved, coordinator_body_said}
-use Rattle.rc_step_laws.proofs.MasterSteps.{master_takes_keeps, master_ticks_keeps}
-use Rattle.rc_step_laws.proofs.Backups.{moved-backup}
-use Rattle.rc_step_laws.proofs.CoordinatorSteps as coordinator
-use Rattle.rc_log_laws.proofs.Replays.{GoodWorld, IsGiven, is-good, is-fine, hears, is_server-true, work_of-given}
-use Rattle.rc_log_laws.proofs.Replays.{may-hear, to-coordinator-is, good-world}
+use Rattle.rc_log_laws.proofs.NodeWalk.{walked-host}
+use Rattle.rc_log_laws.proofs.Replays.{GoodWorld, IsGiven, work_of-given, coordinator-moved, good-world}
 use Rattle.rc_log_laws.proofs.Since.{replay_from-append}
 use Rattle.rc_promises.proofs.Hushed.{is_read_ok, Hushed, Hush, hush-then, hush-takes_first, hush-deposed, hush-goes, hush-master_ticks}
-use Rattle.rc_model.proofs.Tables.{put-same}
 use Rattle.rc_model.proofs.Tests.{true_false, either}
 use Rattle.rc_model.proofs.Ids.{server-same}
 
@@ -209,25 +204,6 @@ news-coordinator world after moved = news-quiet world after.1
     not_server : {P : Type 0} (m : ServerId) → AtCoordinator ≡ Server m → P
     not_server m e = cc
 
-coordinator-moved : (world : World) (work : Work) → GoodWorld world → IsGiven world.sent TheCoordinator work →
-    IsNews world (coordinator_step world.coordinator work).1
-coordinator-moved world (Take taken) good given = news-coordinator world (coordinator_step world.coordinator (Take taken))
-    (coordinator.moved-takes world.sent world.coordinator good.coordinator taken.from taken.body
-    (may-hear world.sent world.masters world.hosts world.coordinator good taken.from taken.body
-    (subst (λ (to : Addr). In (record { from = taken.from; to = to; body = taken.body }) world.sent) (to-coordinator-is taken.to given.1)
-    given.0)))
-coordinator-moved world (Tick addr) good given = news-coordinator world (coordinator_step world.coordinator (Tick addr))
-    (coordinator.moved-ticks world.sent world.coordinator good.coordinator)
-coordinator-moved world (Suspect id) good given = news-coordinator world (coordinator_step world.coordinator (Suspect id))
-    (coordinator.moved-suspects world.sent world.coordinator good.coordinator id)
-coordinator-moved world (Decide id) good given = news-coordinator world (coordinator_step world.coordinator (Decide id))
-    (coordinator.moved-decides world.sent world.coordinator good.coordinator id)
-coordinator-moved world (Create table owner) good given = news-coordinator world (coordinator_step world.coordinator (Create table owner))
-    (coordinator.moved-creates world.sent world.coordinator good.coordinator table owner)
-coordinator-moved world (Split table at) good given = news-coordinator world (coordinator_step world.coordinator (Split table at))
-    (coordinator.moved-splits world.sent world.coordinator good.coordinator table at)
-coordinator-moved world _ good given = news-none world
-
 module _ (world : World) (one : Event) (i : ℕ) (good : GoodWorld world) where
   news-backup : (after : Backup × List Message) →
       BackupMoved world.sent world.masters (put world.hosts i (record (world.hosts i) { backup = after.0 })) world.coordinator
@@ -272,41 +248,6 @@ module _ (world : World) (one : Event) (i : ℕ) (good : GoodWorld world) where
   abbrev News : HostNode × List Message → Type 0
   News after = IsNews world after.1
 
-  news-server : (master : Master) → (world.hosts i).master ≡ Some master → (message : Message) →
-      In (record { from = message.from; to = Server (server_of (world.hosts i)); body = message.body }) world.sent →
-      News (server_takes (world.hosts i) master message)
-  news-server master e message at =
-      either News (is_for_backup message.body) (with_backup (world.hosts i) (backup_takes (world.hosts i).backup message.from message.body))
-      (with_master (world.hosts i) (master_takes master message.from message.body))
-      (λ _. news-backup (backup_takes (world.hosts i).backup message.from message.body)
-      (moved-backup world.sent world.masters world.hosts
-      (put world.hosts i (record (world.hosts i) { backup = (backup_takes (world.hosts i).backup message.from message.body).0 }))
-      world.coordinator i message.from message.body good at
-      (ap (put world.hosts i (record (world.hosts i) { backup = (backup_takes (world.hosts i).backup message.from message.body).0 }))
-      (good.hosts_are i).index
-      ∙ put-same world.hosts i
-      (record (world.hosts i) { backup = (backup_takes (world.hosts i).backup message.from message.body).0 }))))
-      (λ _. news-master master e (master_takes master message.from message.body)
-      (master_takes_keeps world.sent (server_of (world.hosts i)) master message.from message.body (is-good world one i good master e)
-      (is-fine world one i good master e) (hears world one i good message.from message.body at))
-      (reads-takes master message.from message.body))
-
-  news-takes : (found : Option Master) → (world.hosts i).master ≡ found → (message : Message) → In message world.sent →
-      News (takes_if_running (world.hosts i) found message)
-  news-takes None e message at = news-none world
-  news-takes (Some master) e message at =
-      either News (is_server (server_of (world.hosts i)) message.to) (server_takes (world.hosts i) master message) (world.hosts i, [])
-      (λ is. news-server master e message
-      (subst (λ (to : Addr). In (record { from = message.from; to = to; body = message.body }) world.sent)
-      (is_server-true world one i good (server_of (world.hosts i)) message.to is) at))
-      (λ _. news-none world)
-
-  news-ticks : (found : Option Master) → (world.hosts i).master ≡ found → News (ticks_if_running (world.hosts i) found)
-  news-ticks None e = news-none world
-  news-ticks (Some master) e = news-master master e (master_ticks master)
-      (master_ticks_keeps world.sent (server_of (world.hosts i)) master (is-good world one i good master e)
-      (is-fine world one i good master e)) (reads-hushed master (master_ticks master) (hush-master_ticks master))
-
   news-starts : (kept : List (ServerId × ℕ)) → News (starts_host (world.hosts i) (next_server (world.hosts i)) kept)
   news-starts kept = news-quiet world (to_coordinator (next_server (world.hosts i)) Enlist ∷ []) asked quiet
     where
@@ -322,10 +263,15 @@ module _ (world : World) (one : Event) (i : ℕ) (good : GoodWorld world) where
       quiet message (inr never) m from = absurd never
 
   news-host : (work : Work) → IsGiven world.sent (TheHost i) work → News (host_step (world.hosts i) work)
-  news-host (Take message) given = news-takes (world.hosts i).master refl message given.0
-  news-host (Tick addr) given = news-ticks (world.hosts i).master refl
-  news-host (Start kept) given = news-starts kept
-  news-host _ given = news-none world
+  news-host work given = walked-host world one i good News (record {
+    still = news-none world;
+    backs = λ master e from says at moved. news-backup (backup_takes (world.hosts i).backup from says) moved;
+    takes = λ master e from says at moved. news-master master e (master_takes master from says) moved (reads-takes master from says);
+    ticks = λ master e moved. news-master master e (master_ticks master) moved
+        (reads-hushed master (master_ticks master) (hush-master_ticks master));
+    stops = news-none world;
+    starts = news-starts;
+  }) work given
 
 -- Events
 
@@ -338,8 +284,11 @@ pub record Adds (world after : World) : Type 0 where
 adds-node : (world : World) (one : Event) (node : NodeName) (work : Work) → GoodWorld world → IsGiven world.sent node work →
     Adds world (node_done world one node work)
 adds-node world one TheOutside work good given = record { messages = outside_sends work; grows = refl; news = news-outside world work }
-adds-node world one TheCoordinator work good given = record
-    { messages = (coordinator_step world.coordinator work).1; grows = refl; news = coordinator-moved world work good given }
+adds-node world one TheCoordinator work good given = record {
+  messages = (coordinator_step world.coordinator work).1;
+  grows = refl;
+  news = news-coordinator world (coordinator_step world.coordinator work) (coordinator-moved world work good given);
+}
 adds-node world one (TheHost i) work good given = record
     { messages = (host_step (world.hosts i) work).1; grows = refl; news = news-host world one i good work given }
 
