@@ -18,7 +18,7 @@ use Rattle.rc_journal.specs.Names.{WireName}
 use Rattle.rc_journal.specs.Calls as journal
 use Rattle.rc_journal.proofs.Named.{named}
 use Rattle.rc_seats.specs.declared.offer.Offer.{Offer}
-use Rattle.rc_seats.specs.SeatView.{SeatData, Offered, offered_by, offered_events, node_name, world_at, node_at}
+use Rattle.rc_seats.specs.SeatView.{SeatData, Offered, offered_by, offered_events, world_at, node_at}
 use Rattle.rc_seats.specs.Steps.{IsStep, HasTaken}
 use Rattle.rc_seats.specs.SeatHolds.{SeatSound, seat_data}
 use Rattle.rc_seats.specs.Works.{IsOffer, was_delivered}
@@ -55,15 +55,15 @@ sound-told setup name place after held pending node numbers history s knows few 
 -- what is pending is a step of the node
 pending-step : (setup : Setup) (seat : SeatData) (number : ℕ) (node : Node) (numbers : List ℕ) (offered : Offered) →
     SeatSound setup seat number node numbers → seat.pending ≡ Some offered →
-    IsStep (world_at setup seat).sent (node_name seat) (node_at setup seat) offered node
+    IsStep (world_at setup seat).sent seat.name (node_at setup seat) offered node
 pending-step setup seat number node numbers offered s is =
-    subst (λ (p : Option Offered). HasTaken (world_at setup seat).sent (node_name seat) (node_at setup seat) p node) is s.state
+    subst (λ (p : Option Offered). HasTaken (world_at setup seat).sent seat.name (node_at setup seat) p node) is s.state
 
 -- and can be added
 pub pending-offer : (setup : Setup) (seat : SeatData) (number : ℕ) (node : Node) (numbers : List ℕ) (offered : Offered) →
-    SeatSound setup seat number node numbers → seat.pending ≡ Some offered → IsOffer (world_at setup seat) (node_name seat) offered
+    SeatSound setup seat number node numbers → seat.pending ≡ Some offered → IsOffer (world_at setup seat) seat.name offered
 pending-offer setup seat number node numbers offered s is =
-    step-offered (world_at setup seat) (node_name seat) offered node (pending-step setup seat number node numbers offered s is)
+    step-offered (world_at setup seat) seat.name offered node (pending-step setup seat number node numbers offered s is)
 
 pub can-push : (wire : WireName) (name : NodeName) (place : Place) (held : Option (ℕ × Message)) (pending : Option Offer) (node : Node)
     (numbers : List ℕ) (offered : Offered) → SeatSound wire.setup (seat_data name place held pending) place.node node numbers →
@@ -87,7 +87,7 @@ pub sound-committed : (setup : Setup) (seat : SeatData) (number : ℕ) (node : N
     number node numbers
 sound-committed setup seat number node numbers offered s is few =
     let world : World = world_at setup seat in
-    let name : NodeName = node_name seat in
+    let name : NodeName = seat.name in
     let longer : List Event = seat.seen ++ offered.event ∷ [] in
     let done : IsStep world.sent name (node_at setup seat) offered node = pending-step setup seat number node numbers offered s is in
     let o : IsOffer world name offered = step-offered world name offered node done in

@@ -16,7 +16,7 @@ use Rattle.rc_world.proofs.Rooms.{histories-leave-room}
 use Rattle.rc_types.specs.declared.events.NodeWork.{NodeWork}
 use Rattle.rc_types.specs.declared.events.NodeWork.TheVariants as work
 use Rattle.rc_seats.specs.declared.offer.Offer.{Offer}
-use Rattle.rc_seats.specs.SeatView.{SeatData, Offered, node_name, world_at, node_at, offered_events}
+use Rattle.rc_seats.specs.SeatView.{SeatData, Offered, world_at, node_at, offered_events}
 use Rattle.rc_seats.specs.Steps.{IsStep, HasTaken, HoldsItsMessage}
 use Rattle.rc_seats.specs.SeatHolds.{SeatSound, seat_data}
 use Rattle.rc_seats.specs.Given.{is_delivery, own_number, Does}
@@ -31,18 +31,18 @@ use Rattle.rc_seats.proofs.Noting.{given-noted, message-noted}
 pub idle-node : (setup : Setup) (seat : SeatData) (number : ℕ) (node : Node) (numbers : List ℕ) → SeatSound setup seat number node numbers →
     seat.pending ≡ None → node ≡ node_at setup seat
 idle-node setup seat number node numbers s idle =
-    subst (λ (p : Option Offered). HasTaken (world_at setup seat).sent (node_name seat) (node_at setup seat) p node) idle s.state
+    subst (λ (p : Option Offered). HasTaken (world_at setup seat).sent seat.name (node_at setup seat) p node) idle s.state
 
 pub idle-room : (setup : Setup) (seat : SeatData) (number : ℕ) (node : Node) (numbers : List ℕ) → SeatSound setup seat number node numbers →
     seat.pending ≡ None → NodeHasRoom node
 idle-room setup seat number node numbers s idle =
     subst (λ (n : Node). NodeHasRoom n) (sym (idle-node setup seat number node numbers s idle))
-    (histories-leave-room setup seat.seen (node_name seat) s.few)
+    (histories-leave-room setup seat.seen seat.name s.few)
 
 pub idle-name : (setup : Setup) (seat : SeatData) (number : ℕ) (node : Node) (numbers : List ℕ) → SeatSound setup seat number node numbers →
-    seat.pending ≡ None → name_of node ≡ node_name seat
+    seat.pending ≡ None → name_of node ≡ seat.name
 idle-name setup seat number node numbers s idle =
-    ap name_of (idle-node setup seat number node numbers s idle) ∙ names-kept setup seat.seen (node_name seat)
+    ap name_of (idle-node setup seat number node numbers s idle) ∙ names-kept setup seat.seen seat.name
 
 idle-noted : (setup : Setup) (seat : SeatData) (number : ℕ) (node : Node) (numbers : List ℕ) → SeatSound setup seat number node numbers →
     seat.pending ≡ None → (n : ℕ) → list_any (nat_eq n) numbers ≡ was_delivered (seat.mine ++ []) n
@@ -53,9 +53,9 @@ idle-noted setup seat number node numbers s idle n =
 
 pub give-takes : (setup : Setup) (seat : SeatData) (number : ℕ) (node : Node) (numbers : List ℕ) (given : NodeWork) →
     SeatSound setup seat number node numbers → seat.pending ≡ None → is_delivery given ≡ false →
-    takes (node_name seat) (world_at setup seat) (event_of (node_at setup seat) 0 given) ≡ may_take node given
+    takes seat.name (world_at setup seat) (event_of (node_at setup seat) 0 given) ≡ may_take node given
 give-takes setup seat number node numbers given s idle none =
-    takes-given (world_at setup seat) (node_name seat) 0 given (names-kept setup seat.seen (node_name seat)) none
+    takes-given (world_at setup seat) seat.name 0 given (names-kept setup seat.seen seat.name) none
     ∙ ap (λ (n : Node). may_take n given) (sym (idle-node setup seat number node numbers s idle))
 
 nothing-sent : (sent : List Message) (node : Node) (given : NodeWork) → is_delivery given ≡ false → WasSent sent node 0 given
@@ -71,11 +71,11 @@ nothing-sent sent node (work.Split table at) is = tt
 
 pub given-step : (setup : Setup) (seat : SeatData) (number : ℕ) (node after : Node) (numbers : List ℕ) (given : NodeWork) (offer : Offer) →
     SeatSound setup seat number node numbers → seat.pending ≡ None → is_delivery given ≡ false → may_take node given ≡ true →
-    Does node 0 given offer after → IsStep (world_at setup seat).sent (node_name seat) (node_at setup seat) (seen_of offer) after
+    Does node 0 given offer after → IsStep (world_at setup seat).sent seat.name (node_at setup seat) (seen_of offer) after
 given-step setup seat number node after numbers given offer s idle none can d =
     let sent : List Message = (world_at setup seat).sent in
-    subst (λ (n : Node). IsStep sent (node_name seat) n (seen_of offer) after) (idle-node setup seat number node numbers s idle)
-    (does-step sent (node_name seat) node 0 given offer after (idle-name setup seat number node numbers s idle)
+    subst (λ (n : Node). IsStep sent seat.name n (seen_of offer) after) (idle-node setup seat number node numbers s idle)
+    (does-step sent seat.name node 0 given offer after (idle-name setup seat number node numbers s idle)
     (nothing-sent sent node given none) can d)
 
 -- The message that is held
@@ -102,16 +102,16 @@ own-held name (Some h) number e =
     record { message = h.1; is = ap Some parts.1; own = parts.0 }
 
 pub held-step : (setup : Setup) (seat : SeatData) (number : ℕ) (node after : Node) (numbers : List ℕ) (k : ℕ) (offer : Offer) →
-    SeatSound setup seat number node numbers → seat.pending ≡ None → (o : IsOwn (node_name seat) seat.held k) →
+    SeatSound setup seat number node numbers → seat.pending ≡ None → (o : IsOwn seat.name seat.held k) →
     Does node k (work.Deliver o.message) offer after →
-    IsStep (world_at setup seat).sent (node_name seat) (node_at setup seat) (seen_of offer) after
+    IsStep (world_at setup seat).sent seat.name (node_at setup seat) (seen_of offer) after
 held-step setup seat number node after numbers k offer s idle o d =
     let sent : List Message = (world_at setup seat).sent in
-    let named : name_of node ≡ node_name seat = idle-name setup seat number node numbers s idle in
+    let named : name_of node ≡ seat.name = idle-name setup seat number node numbers s idle in
     let found : slice_get sent k ≡ Some o.message = subst (λ (h : Option (ℕ × Message)). HoldsItsMessage sent h) o.is s.held in
-    let addressed : node_of o.message.to ≡ name_of node = same_node-true (node_of o.message.to) (node_name seat) o.own ∙ sym named in
-    subst (λ (n : Node). IsStep sent (node_name seat) n (seen_of offer) after) (idle-node setup seat number node numbers s idle)
-    (does-step sent (node_name seat) node k (work.Deliver o.message) offer after named (found, addressed)
+    let addressed : node_of o.message.to ≡ name_of node = same_node-true (node_of o.message.to) seat.name o.own ∙ sym named in
+    subst (λ (n : Node). IsStep sent seat.name n (seen_of offer) after) (idle-node setup seat number node numbers s idle)
+    (does-step sent seat.name node k (work.Deliver o.message) offer after named (found, addressed)
     (takes-messages node o.message) d)
 
 -- The seat after it
@@ -119,7 +119,7 @@ held-step setup seat number node after numbers k offer s idle o d =
 -- a step that the node has taken is offered, and this is held
 pub sound-offered : (setup : Setup) (seat : SeatData) (number : ℕ) (node after : Node) (numbers noted : List ℕ) (offer : Offer)
     (held : Option (ℕ × Message)) → SeatSound setup seat number node numbers →
-    IsStep (world_at setup seat).sent (node_name seat) (node_at setup seat) (seen_of offer) after →
+    IsStep (world_at setup seat).sent seat.name (node_at setup seat) (seen_of offer) after →
     HoldsItsMessage (world_at setup seat).sent held →
     ((n : ℕ) → list_any (nat_eq n) noted ≡ was_delivered (seat.mine ++ offer.event ∷ []) n) →
     SeatSound setup (record seat { held = held; pending = Some (seen_of offer) }) number after noted
@@ -141,7 +141,7 @@ sound-given setup seat number node after numbers given offer s idle none can d =
     (given-noted numbers seat.mine offer.event node given none d.event (idle-noted setup seat number node numbers s idle))
 
 pub sound-delivered : (setup : Setup) (seat : SeatData) (number : ℕ) (node after : Node) (numbers noted : List ℕ) (k : ℕ) (offer : Offer) →
-    SeatSound setup seat number node numbers → seat.pending ≡ None → (o : IsOwn (node_name seat) seat.held k) →
+    SeatSound setup seat number node numbers → seat.pending ≡ None → (o : IsOwn seat.name seat.held k) →
     Does node k (work.Deliver o.message) offer after →
     ((n : ℕ) → list_any (nat_eq n) noted ≡ (nat_eq n k || list_any (nat_eq n) numbers)) →
     SeatSound setup (record seat { held = None; pending = Some (seen_of offer) }) number after noted
@@ -158,7 +158,7 @@ sound-reordered setup seat number node after numbers others s stays same = recor
   sits = s.sits;
   few = s.few;
   mine = s.mine;
-  state = subst (λ (n : Node). HasTaken (world_at setup seat).sent (node_name seat) (node_at setup seat) seat.pending n)
+  state = subst (λ (n : Node). HasTaken (world_at setup seat).sent seat.name (node_at setup seat) seat.pending n)
       (sym stays) s.state;
   held = s.held;
   delivered = λ n. same n ∙ s.delivered n;
@@ -169,12 +169,12 @@ sound-reordered setup seat number node after numbers others s stays same = recor
 -- an offer that was put where there was none
 pub offers-put : (setup : Setup) (name : NodeName) (place : Place) (held kept : Option (ℕ × Message)) (was is : Option Offer)
     (old : SeatData) (offer : Offer) (said : Option Event) (after : Node) → seat_data name place held was ≡ old → is ≡ Some offer →
-    said ≡ Some offer.event → IsStep (world_at setup old).sent (node_name old) (node_at setup old) (seen_of offer) after →
+    said ≡ Some offer.event → IsStep (world_at setup old).sent old.name (node_at setup old) (seen_of offer) after →
     Offers setup old said kept (seat_data name place kept is)
 offers-put setup name place held kept was is old offer said after viewed put event step = record {
   offered = seen_of offer;
   event = event;
-  step = step-offered (world_at setup old) (node_name old) (seen_of offer) after step;
+  step = step-offered (world_at setup old) old.name (seen_of offer) after step;
   after = ap (seat_data name place kept) put
       ∙ ap (λ (s : SeatData). record s { held = kept; pending = Some (seen_of offer) }) viewed;
 }
@@ -200,10 +200,10 @@ ok-not-bad r out x y may can is gives h same =
 -- What is true of each seat
 
 offers-pending : (setup : Setup) (seat : SeatData) (node : Node) (pending : Option Offered) →
-    HasTaken (world_at setup seat).sent (node_name seat) (node_at setup seat) pending node →
-    IfSome pending (IsOffer (world_at setup seat) (node_name seat))
+    HasTaken (world_at setup seat).sent seat.name (node_at setup seat) pending node →
+    IfSome pending (IsOffer (world_at setup seat) seat.name)
 offers-pending setup seat node None taken = tt
-offers-pending setup seat node (Some offered) taken = step-offered (world_at setup seat) (node_name seat) offered node taken
+offers-pending setup seat node (Some offered) taken = step-offered (world_at setup seat) seat.name offered node taken
 
 pub sound-seat : (setup : Setup) (seat : SeatData) (number : ℕ) (node : Node) (numbers : List ℕ) →
     SeatSound setup seat number node numbers →

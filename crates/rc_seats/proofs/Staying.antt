@@ -6,7 +6,7 @@ use Rattle.rc_history.specs.Nodes.{Node, node_in}
 use Rattle.rc_history.specs.Events.{events_of, StartsWith}
 use Rattle.rc_history.proofs.Lists.{starts-get}
 use Rattle.rc_history.proofs.Longer.{node-stays, longer-sent}
-use Rattle.rc_seats.specs.SeatView.{SeatData, Offered, node_name, node_at, world_at}
+use Rattle.rc_seats.specs.SeatView.{SeatData, Offered, node_at, world_at}
 use Rattle.rc_seats.specs.Steps.{IsStep, HasTaken, HoldsItsMessage}
 use Rattle.rc_seats.specs.SeatHolds.{SeatSound}
 use Rattle.rc_seats.specs.Calls.{having_seen}
@@ -54,18 +54,18 @@ held-stays longer shorter (Some held) starts h = starts-get longer shorter held.
 
 -- so it is with a seat that has seen a longer history, in which its node has done nothing more
 pub sound-seen : (setup : Setup) (seat : SeatData) (number : ℕ) (node : Node) (numbers : List ℕ) (history : List Event) →
-    SeatSound setup seat number node numbers → StartsWith history seat.seen → events_of setup (node_name seat) history ≡ seat.mine →
+    SeatSound setup seat number node numbers → StartsWith history seat.seen → events_of setup seat.name history ≡ seat.mine →
     length history ≤ MAX_EVENTS → SeatSound setup (having_seen seat history) number node numbers
 sound-seen setup seat number node numbers history s starts mine few =
     let more : StartsWith (replay setup history).sent (world_at setup seat).sent = longer-sent setup history seat.seen starts in
-    let same : node_in (replay setup history) (node_name seat) ≡ node_at setup seat =
-    node-stays setup (node_name seat) history seat.seen starts (mine ∙ sym s.mine) in
+    let same : node_in (replay setup history) seat.name ≡ node_at setup seat =
+    node-stays setup seat.name history seat.seen starts (mine ∙ sym s.mine) in
     record {
       sits = s.sits;
       few = few;
       mine = mine;
-      state = subst (λ (before : Node). HasTaken (replay setup history).sent (node_name seat) before seat.pending node) (sym same)
-          (taken-stays (replay setup history).sent (world_at setup seat).sent (node_name seat) (node_at setup seat) seat.pending node
+      state = subst (λ (before : Node). HasTaken (replay setup history).sent seat.name before seat.pending node) (sym same)
+          (taken-stays (replay setup history).sent (world_at setup seat).sent seat.name (node_at setup seat) seat.pending node
           more s.state);
       held = held-stays (replay setup history).sent (world_at setup seat).sent seat.held more s.held;
       delivered = s.delivered;

@@ -7,7 +7,7 @@ use Rattle.rc_types.specs.declared.events.Event.{Event}
 use Rattle.rc_types.specs.declared.messages.Message.{Message}
 use Rattle.rc_model.specs.World.{replay}
 use Rattle.rc_history.specs.Events.{events_of, StartsWith}
-use Rattle.rc_seats.specs.SeatView.{SeatData, Offered, node_name, world_at}
+use Rattle.rc_seats.specs.SeatView.{SeatData, Offered, world_at}
 use Rattle.rc_seats.specs.Steps.{HoldsItsMessage}
 use Rattle.rc_seats.specs.Works.{IsOffer}
 
@@ -15,16 +15,16 @@ use Rattle.rc_seats.specs.Works.{IsOffer}
 pub record IsSeat (setup : Setup) (seat : SeatData) : Type 0 where
   pub few : length seat.seen ≤ MAX_EVENTS
   -- what it has committed are its node's events in the history that it has seen, in order;
-  pub mine : events_of setup (node_name seat) seat.seen ≡ seat.mine
+  pub mine : events_of setup seat.name seat.seen ≡ seat.mine
   -- what is pending is one more event of its node, possible there, with the messages that are sent in it;
-  pub pending : IfSome seat.pending (IsOffer (world_at setup seat) (node_name seat))
+  pub pending : IfSome seat.pending (IsOffer (world_at setup seat) seat.name)
   -- what is held is the message of its number there
   pub held : HoldsItsMessage (world_at setup seat).sent seat.held
 
 -- the history begins with what the seat has seen, and its node's events in it are those that the seat has committed
 pub record Covers (setup : Setup) (history : List Event) (seat : SeatData) : Type 0 where
   pub seen : StartsWith history seat.seen
-  pub mine : events_of setup (node_name seat) history ≡ seat.mine
+  pub mine : events_of setup seat.name history ≡ seat.mine
 
 -- the seat has seen this
 abbrev pub having_seen : SeatData → List Event → SeatData
@@ -59,7 +59,7 @@ pub record Commits (setup : Setup) (old : SeatData) (n : ℕ) (new : SeatData) :
   pub pending : old.pending ≡ Some offered
   pub seen : StartsWith earlier old.seen
   pub number : n ≡ length earlier
-  pub step : IsOffer (replay setup earlier) (node_name old) offered
+  pub step : IsOffer (replay setup earlier) old.name offered
   pub after : new ≡ record old {
     seen = earlier ++ offered.event ∷ [];
     mine = old.mine ++ offered.event ∷ [];

@@ -10,7 +10,7 @@ use Rattle.rc_journal.specs.declared.view.Place.{Place}
 use Rattle.rc_types.specs.declared.ids.NodeName.{NodeName}
 use Rattle.rc_types.specs.Names.{number_of}
 use Rattle.rc_seats.specs.declared.offer.Offer.{Offer}
-use Rattle.rc_seats.specs.SeatView.{SeatData, offered_by, offered_events, node_name, world_at, node_at}
+use Rattle.rc_seats.specs.SeatView.{SeatData, offered_by, offered_events, world_at, node_at}
 use Rattle.rc_seats.specs.Steps.{HasTaken, HoldsItsMessage}
 use Rattle.rc_seats.specs.Works.{was_delivered}
 
@@ -25,8 +25,8 @@ pub record SeatSound (setup : Setup) (seat : SeatData) (number : ℕ) (node : No
   pub sits : number ≡ number_of seat.name
   pub few : length seat.seen ≤ MAX_EVENTS
   -- what the node has done is what it takes in the history that the seat has seen
-  pub mine : events_of setup (node_name seat) seat.seen ≡ seat.mine
+  pub mine : events_of setup seat.name seat.seen ≡ seat.mine
   -- the state is that of the node there, or the one that the pending step leads it to
-  pub state : HasTaken (world_at setup seat).sent (node_name seat) (node_at setup seat) seat.pending node
+  pub state : HasTaken (world_at setup seat).sent seat.name (node_at setup seat) seat.pending node
   pub held : HoldsItsMessage (world_at setup seat).sent seat.held
   pub delivered : (n : ℕ) → list_any (nat_eq n) numbers ≡ was_delivered (seat.mine ++ offered_events seat.pending) n

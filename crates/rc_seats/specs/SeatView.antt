@@ -25,16 +25,12 @@ abbrev pub offered_by : Option Offer → Option Offered
 offered_by None = None
 offered_by (Some offer) = Some (record { event = offer.event; messages = offer.messages.items })
 
--- the node of a seat
-abbrev pub node_name : SeatData → NodeName
-node_name seat = seat.name
-
 -- the world that a seat has seen, and its own node there
 abbrev pub world_at : Setup → SeatData → World
 world_at setup seat = replay setup seat.seen
 
 abbrev pub node_at : Setup → SeatData → Node
-node_at setup seat = node_in (world_at setup seat) (node_name seat)
+node_at setup seat = node_in (world_at setup seat) seat.name
 
 -- what a seat's node has done, also what is pending
 abbrev pub offered_events : Option Offered → List Event

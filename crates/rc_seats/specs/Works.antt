@@ -11,7 +11,7 @@ use Rattle.rc_history.specs.Events.{takes}
 use Rattle.rc_world.specs.NodeView.{own_addr, own_server}
 use Rattle.rc_seats.specs.declared.work.Work.{Work}
 use Rattle.rc_seats.specs.declared.work.Work.TheVariants as work
-use Rattle.rc_seats.specs.SeatView.{SeatData, Offered, node_name, world_at, node_at}
+use Rattle.rc_seats.specs.SeatView.{SeatData, Offered, world_at, node_at}
 
 -- A timer, a stop and a start are those of the node's own server; a message that is held goes by its number. Where none
 -- is held, Fetched is no event.
@@ -33,7 +33,7 @@ takes_if name world (Some event) = takes name world event
 
 -- whether this is an event that the seat's node takes after what the seat has seen
 abbrev pub is_offered : Setup → SeatData → Option Event → Bool
-is_offered setup seat event = takes_if (node_name seat) (world_at setup seat) event
+is_offered setup seat event = takes_if seat.name (world_at setup seat) event
 
 -- whether the seat's node can do this work
 abbrev pub can_do : Setup → SeatData → Work → Bool
@@ -54,7 +54,7 @@ pub record Offers (setup : Setup) (old : SeatData) (said : Option Event) (held :
     : Type 0 where
   pub offered : Offered
   pub event : said ≡ Some offered.event
-  pub step : IsOffer (world_at setup old) (node_name old) offered
+  pub step : IsOffer (world_at setup old) old.name offered
   pub after : new ≡ record old { held = held; pending = Some offered }
 
 -- the work is pending, as the event that it is, with the messages that the node sends in it

@@ -10,7 +10,7 @@ ghost use Rattle.rc_world.specs.HostView.{IsWithinLimits};
 ghost use Rattle.rc_world.specs.NodeCalls.{event_of};
 ghost use Rattle.rc_world.specs.NodeView.{node_seen};
 ghost use Rattle.rc_types.specs.Names.{number_of};
-ghost use Rattle.rc_seats.specs.SeatView.{new_seat, offered_events, node_at, node_name, world_at};
+ghost use Rattle.rc_seats.specs.SeatView.{new_seat, offered_events, node_at, world_at};
 ghost use Rattle.rc_seats.specs.Steps.{HasTaken};
 ghost use Rattle.rc_seats.specs.Works.{event_for, can_do, held_after, Offers, is_offered, Prepares, was_delivered};
 ghost use Rattle.rc_seats.specs.Given.{is_delivery};
@@ -98,7 +98,7 @@ impl<N: Naming> Seat<N> {
     /// The state of the seat's node, to be looked at. It is the node's own in the history that the seat has seen; where
     /// a step is pending, the one to which that step leads it from there. It takes no memory.
     pub fn node(&self) -> &NodeState<Global>
-        ensures state { HasTaken (world_at N.wire.setup self.now).sent (node_name self.now)
+        ensures state { HasTaken (world_at N.wire.setup self.now).sent self.now.name
             (node_at N.wire.setup self.now) self.now.pending (node_seen result.now) }
     {
         &self.state

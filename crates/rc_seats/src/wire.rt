@@ -9,7 +9,7 @@ ghost use Rattle.rc_world.specs.HostView.{IsWithinLimits};
 ghost use Rattle.rc_journal.specs.Numbers.{least_to};
 ghost use Rattle.rc_journal.specs.Calls.{new_places};
 ghost use Rattle.rc_journal.specs.Sound.{IsHistory};
-ghost use Rattle.rc_seats.specs.SeatView.{node_name, world_at};
+ghost use Rattle.rc_seats.specs.SeatView.{world_at};
 ghost use Rattle.rc_seats.specs.Calls.{Covers, Later, Fetches, Commits};
 ghost use Rattle.rc_seats.specs.Seats.{new_seats};
 
@@ -54,7 +54,7 @@ impl<N: Naming> Wire<N> {
     /// to a host, one to any generation. None where there is none. It takes no memory.
     pub fn next(&self, rt: &impl Wait, seat: &mut Seat<N>, from: usize) -> Option<usize>
         ensures later { Later seat.old seat.new }
-        ensures least { result ≡ least_to (node_name seat.new) from (world_at N.wire.setup seat.new).sent }
+        ensures least { result ≡ least_to seat.new.name from (world_at N.wire.setup seat.new).sent }
     {
         next_at(&mut self.journal.lock(rt), seat, from)
     }
@@ -132,7 +132,7 @@ fn next_at<N: Naming>(journal: &mut Journal<N>, seat: &mut Seat<N>, from: usize)
     ensures later { Later seat.old seat.new }
     ensures seen { seat.new.seen ≡ journal.old }
     ensures journal { journal.new ≡ journal.old }
-    ensures least { result ≡ least_to (node_name seat.new) from (world_at N.wire.setup seat.new).sent }
+    ensures least { result ≡ least_to seat.new.name from (world_at N.wire.setup seat.new).sent }
 {
     seat.see(journal);
     journal.next_to(seat.name(), from)

@@ -11,7 +11,7 @@ use Rattle.rc_history.proofs.Longer.{longer-sent}
 use Rattle.rc_journal.specs.Numbers.{least_to}
 use Rattle.rc_seats.specs.declared.work.Work.{Work}
 use Rattle.rc_seats.specs.declared.work.Work.TheVariants as work
-use Rattle.rc_seats.specs.SeatView.{SeatData, node_name, world_at, node_at}
+use Rattle.rc_seats.specs.SeatView.{SeatData, world_at, node_at}
 use Rattle.rc_seats.specs.Calls.{Finds}
 use Rattle.rc_seats.specs.Works.{event_for, takes_if, can_do}
 use Rattle.rc_wire.specs.declared.steps.Step.{Step}
@@ -32,20 +32,20 @@ both-true a b x y = ap (λ c. c && b) x ∙ y
 
 -- the message of the number that was found is to the seat's node, so the seat can deliver it
 pub can-deliver : (setup : Setup) (old found : SeatData) (from number : ℕ) →
-    least_to (node_name old) from (world_at setup old).sent ≡ Some number → Finds setup old number found →
+    least_to old.name from (world_at setup old).sent ≡ Some number → Finds setup old number found →
     can_do setup found work.Fetched ≡ true
 can-deliver setup old found from number least f =
     let sent = (world_at setup old).sent in
-    let within = within-found from 0 number (node_name old) sent least in
+    let within = within-found from 0 number old.name sent least in
     let before = starts-back (world_at setup found).sent sent number f.message (longer-sent setup found.seen old.seen f.seen)
     (omega (arith, within.1)) f.found in
     let named : found.name ≡ old.name = ap (λ (s : SeatData). s.name) f.after in
-    let own : same_node (node_of f.message.to) (node_name old) ≡ true =
-    found-own from 0 number (node_name old) sent number f.message least before (omega arith) in
-    let mine : same_node (node_of f.message.to) (node_name found) ≡ true =
+    let own : same_node (node_of f.message.to) old.name ≡ true =
+    found-own from 0 number old.name sent number f.message least before (omega arith) in
+    let mine : same_node (node_of f.message.to) found.name ≡ true =
     ap (λ (n : NodeName). same_node (node_of f.message.to) n) named ∙ own in
     let world = world_at setup found in
-    let name = node_name found in
+    let name = found.name in
     ap (λ (h : Option (ℕ × Message)). takes_if name world (event_for (node_at setup found) h work.Fetched))
     (ap (λ (s : SeatData). s.held) f.after)
     ∙ (ap (λ (o : Option Message). is_possible_job world (delivery o) && is_for name (delivery o)) f.found

@@ -18,7 +18,7 @@ use Rattle.rc_types.specs.Names.{number_of}
 use Rattle.rc_journal.specs.Numbers.{least_to}
 use Rattle.rc_seats.specs.declared.work.Work.{Work}
 use Rattle.rc_seats.specs.declared.work.Work.TheVariants as work
-use Rattle.rc_seats.specs.SeatView.{SeatData, Offered, offered_events, node_name, world_at, node_at}
+use Rattle.rc_seats.specs.SeatView.{SeatData, Offered, offered_events, world_at, node_at}
 use Rattle.rc_seats.specs.Calls.{Later, Finds, Misses, Fetches, Commits}
 use Rattle.rc_seats.specs.Works.{event_for, Prepares, is_delivery_of, was_delivered}
 use Rattle.rc_wire.specs.declared.steps.Step.{Step}
@@ -171,7 +171,7 @@ grows-does old new works d = record {
 -- What was delivered stays so
 
 own-still : (old new : SeatData) (message : Message) → new.name ≡ old.name →
-    same_node (node_of message.to) (node_name new) ≡ true → same_node (node_of message.to) (node_name old) ≡ true
+    same_node (node_of message.to) new.name ≡ true → same_node (node_of message.to) old.name ≡ true
 own-still old new message named own =
     ap (λ (n : NodeName). same_node (node_of message.to) n) (sym named) ∙ own
 
@@ -309,7 +309,7 @@ progress-skipped setup start steps at from old step p found other =
 progress-raised : (setup : Setup) (start : SeatData) (steps : List Step) (at from next : ℕ) (now : SeatData) →
     Progress setup start steps at from now → next ≤ length (world_at setup now).sent →
     ((number : ℕ) (message : Message) → from ≤ number → number < next → slice_get (world_at setup now).sent number ≡ Some message →
-    same_node (node_of message.to) (node_name now) ≡ true → was_delivered now.mine number ≡ true) →
+    same_node (node_of message.to) now.name ≡ true → was_delivered now.mine number ≡ true) →
     Progress setup start steps at next now
 progress-raised setup start steps at from next now p within gap = record {
   does = p.does;
@@ -320,24 +320,24 @@ progress-raised setup start steps at from next now p within gap = record {
   where
     by : (b : Bool) (number : ℕ) → nat_lt number from ≡ b → (message : Message) → number < next →
         slice_get (world_at setup now).sent number ≡ Some message →
-        same_node (node_of message.to) (node_name now) ≡ true → was_delivered now.mine number ≡ true
+        same_node (node_of message.to) now.name ≡ true → was_delivered now.mine number ≡ true
     by true number is message lt found own = p.delivered number message (grind (arith, is)) found own
     by false number is message lt found own = gap number message (grind (arith, is)) lt found own
 
 -- the least message from there on was delivered before
 pub progress-had : (setup : Setup) (start : SeatData) (steps : List Step) (at from number : ℕ) (now : SeatData) →
-    Progress setup start steps at from now → least_to (node_name now) from (world_at setup now).sent ≡ Some number →
+    Progress setup start steps at from now → least_to now.name from (world_at setup now).sent ≡ Some number →
     was_delivered now.mine number ≡ true → Progress setup start steps at (number + 1) now
 progress-had setup start steps at from number now p least had =
     let sent = (world_at setup now).sent in
-    let w = within-found from 0 number (node_name now) sent least in
+    let w = within-found from 0 number now.name sent least in
     progress-raised setup start steps at from (number + 1) now p (omega (arith, w.1)) (λ n message le lt found own.
-    let least' = none-before from 0 number (node_name now) sent n message least found own (omega (arith, le)) in
+    let least' = none-before from 0 number now.name sent n message least found own (omega (arith, le)) in
     let same : number ≡ n = omega (arith, least', lt) in subst (λ k. was_delivered now.mine k ≡ true) same had)
 
 -- or it is delivered now
 pub progress-delivered : (setup : Setup) (start : SeatData) (steps : List Step) (at from number : ℕ) (old held new : SeatData)
-    (message : Message) → Progress setup start steps at from old → least_to (node_name old) from (world_at setup old).sent ≡ Some number →
+    (message : Message) → Progress setup start steps at from old → least_to old.name from (world_at setup old).sent ≡ Some number →
     was_delivered old.mine number ≡ false → Grows old held → held.mine ≡ old.mine → held.pending ≡ None →
     held.held ≡ Some (number, message) → Takes setup held work.Fetched new → Progress setup start steps at (number + 1) new
 progress-delivered setup start steps at from number old held new message p least not-had g mine idle holds t =
@@ -352,7 +352,7 @@ progress-delivered setup start steps at from number old held new message p least
     (does-push setup start works [] held work.Fetched new p'.does t (ap (λ (e : Event). listed (work_in e)) (sym is)) fresh) in
     let g' : Grows held new = grows-takes setup held work.Fetched new t in
     let all : Grows old new = grows-through old held new g g' in
-    let w = within-found from 0 number (node_name old) (world_at setup old).sent least in
+    let w = within-found from 0 number old.name (world_at setup old).sent least in
     let had : was_delivered new.mine number ≡ true =
     ap (λ l. was_delivered l number) (t.mine ∙ ap (λ (e : Event). held.mine ++ e ∷ []) (sym is)) ∙ delivered-last held.mine number in
     let low : Progress setup start steps at from new = record {
@@ -366,7 +366,7 @@ progress-delivered setup start steps at from number old held new message p least
     (λ n message le lt found own.
     let before = starts-back (world_at setup new).sent (world_at setup old).sent n message (longer-sent setup new.seen old.seen all.seen)
     (omega (arith, lt, w.1)) found in
-    let least' = none-before from 0 number (node_name old) (world_at setup old).sent n message least before
+    let least' = none-before from 0 number old.name (world_at setup old).sent n message least before
     (own-still old new message all.name own) (omega (arith, le)) in
     let same : number ≡ n = omega (arith, least', lt) in subst (λ k. was_delivered new.mine k ≡ true) same had)
   where
@@ -375,7 +375,7 @@ progress-delivered setup start steps at from number old held new message p least
 
 -- there is none left
 pub progress-all : (setup : Setup) (start : SeatData) (steps : List Step) (at from : ℕ) (now : SeatData) →
-    Progress setup start steps at from now → least_to (node_name now) from (world_at setup now).sent ≡ None →
+    Progress setup start steps at from now → least_to now.name from (world_at setup now).sent ≡ None →
     Runs setup start (works_for start.name (take at steps)) now
 progress-all setup start steps at from now p none = record {
   does = p.does;
@@ -385,10 +385,10 @@ progress-all setup start steps at from now p none = record {
   where
     by : (b : Bool) (number : ℕ) → nat_lt number from ≡ b → (message : Message) →
         slice_get (world_at setup now).sent number ≡ Some message →
-        same_node (node_of message.to) (node_name now) ≡ true → was_delivered now.mine number ≡ true
+        same_node (node_of message.to) now.name ≡ true → was_delivered now.mine number ≡ true
     by true number is message found own = p.delivered number message (grind (arith, is)) found own
     by false number is message found own = absurd
-        (none-found from 0 (node_name now) (world_at setup now).sent number message none found own (grind (arith, is)))
+        (none-found from 0 now.name (world_at setup now).sent number message none found own (grind (arith, is)))
 
 -- a run of turns begins
 pub progress-begins : (setup : Setup) (start : SeatData) (steps : List Step) → start.pending ≡ None →
@@ -441,7 +441,7 @@ grows-finds setup old number new f = record {
 
 -- the message is fetched, and delivered
 pub progress-fetched : (setup : Setup) (start : SeatData) (steps : List Step) (at from number : ℕ) (old found new : SeatData) →
-    Progress setup start steps at from old → least_to (node_name old) from (world_at setup old).sent ≡ Some number →
+    Progress setup start steps at from old → least_to old.name from (world_at setup old).sent ≡ Some number →
     was_delivered old.mine number ≡ false → Finds setup old number found → Takes setup found work.Fetched new →
     Progress setup start steps at (number + 1) new
 progress-fetched setup start steps at from number old found new p least not-had f t =

@@ -11,7 +11,7 @@ use Rattle.rc_types.specs.declared.ids.NodeName.{NodeName}
 use Rattle.rc_types.specs.Names.{number_of}
 use Rattle.rc_seats.specs.declared.work.Work.{Work}
 use Rattle.rc_seats.specs.declared.work.Work.TheVariants as work
-use Rattle.rc_seats.specs.SeatView.{SeatData, node_name, world_at, node_at}
+use Rattle.rc_seats.specs.SeatView.{SeatData, world_at, node_at}
 use Rattle.rc_seats.specs.Works.{event_for, was_delivered}
 use Rattle.rc_wire.specs.declared.steps.Step.{Step}
 use Rattle.rc_wire.specs.declared.steps.Step.TheVariants.{Do, Settle}
@@ -81,13 +81,13 @@ pub record Does (old : SeatData) (works : List Work) (new : SeatData) : Type 0 w
 abbrev pub DeliveredBelow : Setup → ℕ → SeatData → Type 0
 DeliveredBelow setup from seat = (number : ℕ) (message : Message) → number < from →
     slice_get (world_at setup seat).sent number ≡ Some message →
-    same_node (node_of message.to) (node_name seat) ≡ true → was_delivered seat.mine number ≡ true
+    same_node (node_of message.to) seat.name ≡ true → was_delivered seat.mine number ≡ true
 
 -- and every one
 abbrev pub AllDelivered : Setup → SeatData → Type 0
 AllDelivered setup seat = (number : ℕ) (message : Message) →
     slice_get (world_at setup seat).sent number ≡ Some message →
-    same_node (node_of message.to) (node_name seat) ≡ true → was_delivered seat.mine number ≡ true
+    same_node (node_of message.to) seat.name ≡ true → was_delivered seat.mine number ≡ true
 
 -- these works are done, and every message that the seat has seen is delivered
 pub record Runs (setup : Setup) (old : SeatData) (works : List Work) (new : SeatData) : Type 0 where

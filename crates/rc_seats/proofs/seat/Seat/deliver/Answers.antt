@@ -4,7 +4,7 @@ use Rattle.rc_model.specs.Model.{Message, NodeName}
 use Rattle.rc_world.specs.NodeView.{node_seen}
 use Rattle.rc_types.specs.declared.events.NodeWork.TheVariants as work
 use Rattle.rc_seats.specs.declared.offer.Offer.{Offer}
-use Rattle.rc_seats.specs.SeatView.{SeatData, node_name, node_at}
+use Rattle.rc_seats.specs.SeatView.{SeatData, node_at}
 use Rattle.rc_seats.specs.SeatHolds.{SeatSound, seat_data}
 use Rattle.rc_seats.specs.Given.{own_number, Does}
 use Rattle.rc_seats.specs.Works.{Offers, event_for}
@@ -38,8 +38,8 @@ invariant_of-self-2 g c =
     let setup = g.N.Naming.wire.setup in
     let d : SeatData = seat_data f.name f.token f.held f.pending in
     let offer : Offer = c.in_ok-offer.offer in
-    let o : IsOwn (node_name d) f.held c.in-Some.number =
-    own-held (node_name d) f.held c.in-Some.number (sym c.own_number.ensures ∙ c.in-Some.is) in
+    let o : IsOwn d.name f.held c.in-Some.number =
+    own-held d.name f.held c.in-Some.number (sym c.own_number.ensures ∙ c.in-Some.is) in
     let does : Does (node_seen f.state) c.in-Some.number (work.Deliver o.message) offer (node_seen c.take.new.state) =
     subst (λ (h : Option (ℕ × Message)). IfSome h (λ x. Does (node_seen f.state) x.0 (work.Deliver x.1) offer (node_seen c.take.new.state)))
     o.is c.in_ok-offer.ensures.does in
@@ -62,10 +62,10 @@ returns-clause-ok g c =
     let s : SeatSound setup now f.token.node (node_seen f.state) f.delivered.keys =
     subst (λ (d : SeatData). SeatSound setup d f.token.node (node_seen f.state) f.delivered.keys) c.self.view_is c.self.invariant in
     let same : f.held ≡ now.held = ap (λ (d : SeatData). d.held) c.self.view_is in
-    let named : node_name (seat_data f.name f.token f.held f.pending) ≡ node_name now = ap node_name c.self.view_is in
-    let o : IsOwn (node_name now) now.held c.in-Some.number =
-    subst (λ (h : Option (ℕ × Message)). IsOwn (node_name now) h c.in-Some.number) same
-    (own-held (node_name now) f.held c.in-Some.number
+    let named : f.name ≡ now.name = ap (λ (d : SeatData). d.name) c.self.view_is in
+    let o : IsOwn now.name now.held c.in-Some.number =
+    subst (λ (h : Option (ℕ × Message)). IsOwn now.name h c.in-Some.number) same
+    (own-held now.name f.held c.in-Some.number
     (sym (c.own_number.ensures ∙ ap (λ (n : NodeName). own_number n f.held) named) ∙ c.in-Some.is)) in
     let does : Does (node_seen f.state) c.in-Some.number (work.Deliver o.message) offer (node_seen c.take.new.state) =
     subst (λ (h : Option (ℕ × Message)). IfSome h (λ x. Does (node_seen f.state) x.0 (work.Deliver x.1) offer (node_seen c.take.new.state)))

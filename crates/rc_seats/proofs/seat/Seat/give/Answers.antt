@@ -4,7 +4,7 @@ use Rattle.rc_types.specs.declared.messages.Message.{Message}
 use Rattle.rc_history.specs.Nodes.{Node}
 use Rattle.rc_history.specs.Events.{takes}
 use Rattle.rc_seats.specs.declared.offer.Offer.{Offer}
-use Rattle.rc_seats.specs.SeatView.{SeatData, node_name, world_at, node_at}
+use Rattle.rc_seats.specs.SeatView.{SeatData, world_at, node_at}
 use Rattle.rc_seats.specs.SeatHolds.{SeatSound, seat_data}
 use Rattle.rc_seats.specs.Works.{Offers}
 use Rattle.rc_world.specs.NodeView.{node_seen, may_take}
@@ -36,7 +36,7 @@ returns-in_err-offer-clause-bad g c =
     subst (λ (d : SeatData). SeatSound setup d f.token.node (node_seen f.state) f.delivered.keys) c.self.view_is c.self.invariant in
     let p = err_from_is_err_and c.from_residual.result c.from_residual.ensures.1 in
     bad-passed c.give.result c.from_residual.result c.in_err-offer.field-0.0 (may_take (node_seen f.state) c.args.given)
-    (takes (node_name now) (world_at setup now) (event_of (node_at setup now) 0 c.args.given)) c.in_err-offer.was (p.1 ∙ ap Err p.2)
+    (takes now.name (world_at setup now) (event_of (node_at setup now) 0 c.args.given)) c.in_err-offer.was (p.1 ∙ ap Err p.2)
     c.give.ensures.bad
     (give-takes setup now f.token.node (node_seen f.state) f.delivered.keys c.args.given s c.requires.idle c.requires.given)
 
@@ -81,5 +81,5 @@ returns-clause-bad g c =
     let s : SeatSound setup now f.token.node (node_seen f.state) f.delivered.keys =
     subst (λ (d : SeatData). SeatSound setup d f.token.node (node_seen f.state) f.delivered.keys) c.self.view_is c.self.invariant in
     ok-not-bad c.give.result (Ok tt) c.in_ok-offer.offer tt (may_take (node_seen f.state) c.args.given)
-    (takes (node_name now) (world_at setup now) (event_of (node_at setup now) 0 c.args.given)) c.in_ok-offer.was refl c.give.ensures.bad
+    (takes now.name (world_at setup now) (event_of (node_at setup now) 0 c.args.given)) c.in_ok-offer.was refl c.give.ensures.bad
     (give-takes setup now f.token.node (node_seen f.state) f.delivered.keys c.args.given s c.requires.idle c.requires.given)
