@@ -2,7 +2,7 @@
 use Rattle.std.proofs.Common.{◌≡◌, ℕ, zero, suc, Bool, true, false, ◌&&◌, List, [], ◌∷◌, map, All}
 use Rattle.std.proofs.Common.{refl, sym, ap, ◌∙◌, subst, arith}
 use Rattle.std.specs.List.{range_with_len}
-use Rattle.rc_types.specs.declared.ids.NodeName.TheVariants.{Outside, Coordinator, Host}
+use Rattle.rc_model.specs.World.{TheOutside, TheCoordinator, TheHost}
 use Rattle.rc_seats.specs.declared.work.Work.TheVariants as work
 use Rattle.rc_seats.specs.SeatView.{SeatData, new_seat}
 use Rattle.rc_wire.specs.declared.steps.Step.{Step}
@@ -32,23 +32,23 @@ none-push (Do who given ∷ steps) step all one =
 
 none-starts : (hosts : ℕ) → none_fetched (starts hosts) ≡ true
 none-starts zero = refl
-none-starts (suc host) = none-push (starts host) (Do (Host host) (work.Start [])) (none-starts host) refl
+none-starts (suc host) = none-push (starts host) (Do (TheHost host) (work.Start [])) (none-starts host) refl
 
 none-created : (hosts : ℕ) → none_fetched (created hosts) ≡ true
 none-created hosts =
-    let table : Step = Do Coordinator (work.Create 1 owner) in
+    let table : Step = Do TheCoordinator (work.Create 1 owner) in
     let settled : List Step = push (starts hosts) Settle in
     none-push (push settled table) Settle
     (none-push settled table (none-push (starts hosts) Settle (none-starts hosts) refl) refl) refl
 
 none-asks : (hosts writes : ℕ) → none_fetched (asks hosts writes) ≡ true
 none-asks hosts zero = none-created hosts
-none-asks hosts (suc key) = none-push (asks hosts key) (Do Outside (write_of key)) (none-asks hosts key) refl
+none-asks hosts (suc key) = none-push (asks hosts key) (Do TheOutside (write_of key)) (none-asks hosts key) refl
 
 pub none-workload : (hosts writes : ℕ) → none_fetched (workload hosts writes) ≡ true
 none-workload hosts writes =
-    let suspect : Step = Do Coordinator (work.Suspect owner) in
-    let decide : Step = Do Coordinator (work.Decide owner) in
+    let suspect : Step = Do TheCoordinator (work.Suspect owner) in
+    let decide : Step = Do TheCoordinator (work.Decide owner) in
     let asked : List Step = push (asks hosts writes) Settle in
     let suspected : List Step = push (push asked suspect) Settle in
     none-push (push suspected decide) Settle

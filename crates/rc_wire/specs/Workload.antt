@@ -3,7 +3,7 @@ use Rattle.std.specs.Prelude.{ℕ, zero, suc, List, [], ◌∷◌, ◌++◌, Som
 use Rattle.rc_types.specs.declared.ids.ServerId.{ServerId}
 use Rattle.rc_types.specs.declared.events.Setup.{Setup}
 use Rattle.rc_types.specs.declared.messages.Body.TheVariants as body
-use Rattle.rc_types.specs.declared.ids.NodeName.TheVariants.{Outside, Coordinator, Host}
+use Rattle.rc_model.specs.World.{TheOutside, TheCoordinator, TheHost}
 use Rattle.rc_seats.specs.declared.work.Work.{Work}
 use Rattle.rc_seats.specs.declared.work.Work.TheVariants as work
 use Rattle.rc_wire.specs.declared.steps.Step.{Step}
@@ -23,11 +23,11 @@ push steps step = steps ++ step ∷ []
 -- so many hosts are started
 abbrev pub starts : ℕ → List Step
 starts zero = []
-starts (suc host) = push (starts host) (Do (Host host) (work.Start []))
+starts (suc host) = push (starts host) (Do (TheHost host) (work.Start []))
 
 -- the table is made
 abbrev pub created : ℕ → List Step
-created hosts = push (push (push (starts hosts) Settle) (Do Coordinator (work.Create 1 owner))) Settle
+created hosts = push (push (push (starts hosts) Settle) (Do TheCoordinator (work.Create 1 owner))) Settle
 
 -- the outside asks for a write of this key: the value is `w`
 abbrev pub write_of : ℕ → Work
@@ -36,10 +36,10 @@ write_of key = work.Ask owner (body.Write 1 key (Some (119 ∷ [])))
 -- so many writes, of the keys from 0 on
 abbrev pub asks : ℕ → ℕ → List Step
 asks hosts zero = created hosts
-asks hosts (suc key) = push (asks hosts key) (Do Outside (write_of key))
+asks hosts (suc key) = push (asks hosts key) (Do TheOutside (write_of key))
 
 -- then the owner is suspected and decided about
 abbrev pub workload : ℕ → ℕ → List Step
 workload hosts writes =
-    push (push (push (push (push (asks hosts writes) Settle) (Do Coordinator (work.Suspect owner))) Settle)
-    (Do Coordinator (work.Decide owner))) Settle
+    push (push (push (push (push (asks hosts writes) Settle) (Do TheCoordinator (work.Suspect owner))) Settle)
+    (Do TheCoordinator (work.Decide owner))) Settle
