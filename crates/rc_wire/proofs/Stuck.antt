@@ -72,11 +72,6 @@ memory-not-bad P fault memory bad = absurd (other (sym memory ∙ bad))
     other : OutOfMemory ≡ BadEvent → ⊥
     other e = cc
 
-pub memory-alone : {B : Type 0} (P : Type 0) (r : Result B Fault) → IfErr r (λ f. f ≡ OutOfMemory) →
-    IfErr r (λ f. f ≡ BadEvent → P)
-memory-alone P (Ok x) memory = tt
-memory-alone P (Err f) memory = memory-not-bad P f memory
-
 -- A work that the node can't do
 
 -- what is said of a step that was refused
