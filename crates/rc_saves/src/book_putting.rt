@@ -29,7 +29,7 @@ fn put_servers(alloc: Global, servers: &ServerList, out: &mut Vec<u8>) -> Result
     servers.version().put(out)?;
     match servers.rows(alloc) {
         Ok(rows) => put_list(rows.as_slice(), out),
-        Err(_) => Err(AllocError),
+        Err(refused) => Err(refused),
     }
 }
 
@@ -76,7 +76,7 @@ fn put_tablets<A: Allocator + Clone>(
 {
     match coordinator.tablets(alloc) {
         Ok(tablets) => put_list(tablets.as_slice(), out),
-        Err(_) => Err(AllocError),
+        Err(refused) => Err(refused),
     }
 }
 
