@@ -177,10 +177,10 @@ impl Config {
     }
 
     /// Whether some member is known lost.
-    fn any_lost(&self) -> bool
+    pub fn any_lost(&self) -> bool
         ensures { result ≡ any_lost self.now.members }
     {
-        members::any_lost(self.members())
+        self.members().iter().any(|member| member.lost)
     }
 
     /// The same members, lost where the list shows them crashed.

@@ -3,7 +3,7 @@
 ghost use Rattle.std.specs.Prelude.{◌≡◌, map};
 ghost use Rattle.std.specs.List.{list_all, list_any};
 ghost use Rattle.rc_model.specs.Config.{new_member, is_heard, told_with, told_if_heard, is_placed, told_closed};
-ghost use Rattle.rc_model.specs.Config.{is_closed, any_lost, told_len, least_told, lost_if_crashed};
+ghost use Rattle.rc_model.specs.Config.{is_closed, told_len, least_told, lost_if_crashed};
 
 use rc_serverlist::ServerList;
 use rc_types::{Member, ServerId, Told};
@@ -101,13 +101,6 @@ fn told_closed(told: Option<Told>) -> bool
         None => false,
         Some(told) => told.closed,
     }
-}
-
-/// Whether some member is known lost.
-pub(crate) fn any_lost(members: &[Member]) -> bool
-    ensures { result ≡ any_lost members.now }
-{
-    members.iter().any(|member| member.lost)
 }
 
 /// The least length that a member has told, where one that told nothing counts as 0.

@@ -3,7 +3,6 @@
 ghost use Rattle.std.specs.Prelude.{◌≡◌, ◌<◌, ℕ, true, false, nat_eq, if◌then◌else◌, OnOk, OnErr, IfOk, IfSome};
 ghost use Rattle.rc_types.specs.declared.ids.ServerId.{ServerId as Id};
 ghost use Rattle.rc_model.specs.ServerList.{has_crashed};
-ghost use Rattle.rc_model.specs.Config.{any_lost};
 ghost use Rattle.rc_headroll.specs.Watching.{has_number, is_awake, is_filed, is_findable};
 
 use crate::filing::{file_under_all, forget_crashed, wake_crashed};
@@ -12,7 +11,7 @@ use crate::stuck::Stuck;
 use indexmap::IndexMap;
 use rc_config::Config;
 use rc_serverlist::ServerList;
-use rc_types::{Member, ServerId};
+use rc_types::ServerId;
 use std::alloc::{AllocError, Global};
 use std::marker::Model;
 
@@ -95,7 +94,7 @@ impl Watch {
         ensures servers { self.new.stuck.servers ≡ self.old.stuck.servers }
         ensures awake { self.new.awake ≡ self.old.awake }
     {
-        if any_lost(config.members()) {
+        if config.any_lost() {
             return self.stuck.add(own, seg, config);
         }
         file_under_all(self.alloc, &mut self.filed, seg, config.members())?;
@@ -120,11 +119,4 @@ impl Watch {
         forget_crashed(&mut self.filed, servers);
         Ok(())
     }
-}
-
-/// Whether some of these members are lost.
-fn any_lost(members: &[Member]) -> bool
-    ensures { result ≡ any_lost members.now }
-{
-    members.iter().any(|member| member.lost)
 }
