@@ -130,7 +130,7 @@ fn is_helpless(
     match config.copy().refill(alloc, own, servers) {
         Ok(_) => Ok(false),
         Err(Fault::NoBackups) => Ok(true),
-        Err(_) => Err(AllocError),
+        Err(fault) => Err(fault.only_memory()),
     }
 }
 
