@@ -1,6 +1,6 @@
 -- What a master's list rules do about a segment that they let be.
-use Rattle.std.proofs.Common.{◌≡◌, ℕ, Bool, true, false, cond, not, ◌&&◌, ◌||◌, List, [], ap, sym, ◌∙◌, refl}
-use Rattle.std.proofs.lemmas.Bool.{and_parts, false≢true}
+use Rattle.std.proofs.Common.{◌≡◌, ℕ, Bool, true, false, cond, not, ◌&&◌, ◌||◌, List, [], ap, ◌∙◌, refl}
+use Rattle.std.proofs.lemmas.Bool.{and_parts}
 use Rattle.rc_model.specs.Model.{Message, Master, places_segment, loses, replaces_lost}
 use Rattle.rc_segment.specs.Concerned.{is_concerned}
 use Rattle.rc_headroll.specs.Watching.{is_helpless, is_let_be}

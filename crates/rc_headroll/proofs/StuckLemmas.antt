@@ -1,12 +1,12 @@
 -- Segments whose lost members nobody of a list can replace.
-use Rattle.std.proofs.Common.{◌≡◌, ◌⊎◌, inl, inr, ℕ, Bool, true, false, cond, not, ◌&&◌, ◌||◌, List, [], ◌∷◌, map, filter, Option}
+use Rattle.std.proofs.Common.{◌≡◌, ◌⊎◌, inl, inr, ℕ, Bool, true, false, cond, not, ◌||◌, List, [], ◌∷◌, map, filter, Option}
 use Rattle.std.proofs.Common.{Some, None, is_none, Result, Ok, Err, OnOk, is_ok, refl, ap, sym, ◌∙◌}
 use Rattle.std.proofs.Math.Path.{fun_ext}
 use Rattle.std.proofs.lemmas.Bool.{and_parts, and_from, cond_both, false≢true}
 use Rattle.rc_types.specs.declared.faults.Fault.TheVariants.{OutOfMemory}
 use Rattle.rc_model.specs.Model.{ServerId, Member, Fault, NoBackups, ServerList, has_crashed, Config, told_with, told_if_heard, is_heard}
 use Rattle.rc_model.specs.Model.{lost_if_crashed, with_lost, staying, first_free, and_then, substitutes, substitutes_for, candidates}
-use Rattle.rc_model.specs.Model.{refills_with, refill, lose, Segment, Log, with_config, refills, opens_change, loses}
+use Rattle.rc_model.specs.Model.{refills_with, refill, lose, Segment, Log, refills, opens_change, loses}
 use Rattle.rc_headroll.specs.Watching.{are_marked, is_helpless}
 use Rattle.rc_headroll.proofs.ConcernedLemmas.{config-same}
 
