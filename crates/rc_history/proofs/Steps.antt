@@ -5,7 +5,7 @@ use Rattle.rc_model.specs.Model.{job_done, work_of, is_possible, is_possible_job
 use Rattle.rc_model.specs.World as world
 use Rattle.rc_model.proofs.Tests.{either}
 use Rattle.rc_model.proofs.Tables.{put-same, put-other}
-use Rattle.rc_history.specs.Nodes.{Node, node_can, node_step, name_of, node_in}
+use Rattle.rc_history.specs.Nodes.{node_can, node_step, node_in}
 use Rattle.rc_history.specs.Nodes as node
 use Rattle.rc_history.specs.Events.{is_for, takes}
 use Rattle.rc_history.specs.Claims.{NodeTakes}

@@ -6,7 +6,6 @@ use Rattle.rc_model.specs.Model.{onward, IsEarlier, Found, read_of, LogPlace}
 use Rattle.rc_model.specs.Model.{places_of, in_range, term_of, durable_entries, Master, HostNode}
 use Rattle.rc_model.specs.Model.{factor_of, World, replay, In, HasAcknowledged, WasAccepted}
 use Rattle.rc_model.specs.Coordinator.{Coordinator}
-use Rattle.rc_model.proofs.Members.{In-map}
 use Rattle.rc_owner_laws.specs.Terms.{IsGivenBy}
 use Rattle.rc_owner_laws.specs.Worlds.{AllHold}
 use Rattle.rc_owner_laws.specs.VersionClaims.{MayFree}

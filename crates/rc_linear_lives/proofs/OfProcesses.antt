@@ -23,8 +23,8 @@ use Rattle.rc_linear.specs.Confirmed.{HasSentFor}
 use Rattle.rc_linear.specs.Linearizable.{AWrite, ARead, Operation, IsWrite, IsRead, IsOn, StandsBefore, WasAskedFor}
 use Rattle.rc_linear.specs.Linearizable.{IsLinearizable, HasReplicas, IsResponseOf}
 use Rattle.rc_linear_lives.specs.Linearized.{AreLinearized, SaysTheSame}
-use Rattle.rc_linear_lives.specs.OfProcesses.{at_moment, sent_by_deeds, IsDone, IsUnsent, request_to, asked, IsOfStep}
-use Rattle.rc_linear_lives.specs.OfProcesses.{LinearizableOfProcesses, EachWriteOfProcesses, WhatLeavesWasDone}
+use Rattle.rc_linear_lives.specs.OfProcesses.{at_moment, sent_by_deeds, IsDone, IsUnsent, request_to, asked, LinearizableOfProcesses}
+use Rattle.rc_linear_lives.specs.OfProcesses.{EachWriteOfProcesses, WhatLeavesWasDone}
 use Rattle.rc_linear_lives.specs.OfProcesses as lived
 use Rattle.rc_linear.proofs.Stood.{Stood, acked-stood}
 use Rattle.rc_linear.proofs.Above.{above-acked}

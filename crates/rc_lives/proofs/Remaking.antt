@@ -12,7 +12,7 @@ use Rattle.rc_model.specs.Nodes.{Ask, Tick, Stop, Start, Suspect, Decide, runs, 
 use Rattle.rc_model.specs.World.{NodeName, TheOutside, TheCoordinator, TheHost}
 use Rattle.rc_model.proofs.Tests.{either, true_false}
 use Rattle.rc_model.proofs.Ids.{same_id-refl}
-use Rattle.rc_history.specs.Nodes.{Node, node_can, node_step, new_node}
+use Rattle.rc_history.specs.Nodes.{Node, node_can, new_node}
 use Rattle.rc_history.specs.Nodes as node
 use Rattle.rc_history.specs.Remade.{stopped, SameButMaster, host_keeps, coordinator_keeps}
 use Rattle.rc_history.proofs.Remade.{hosts-remade, coordinator-remade}

@@ -20,7 +20,7 @@ use Rattle.rc_step_laws.specs.All.{body_said, held_at, StillStands, MasterMoved,
 use Rattle.rc_log_laws.proofs.NodeWalk.{walked-host}
 use Rattle.rc_step_laws.proofs.Backups.{moved-backup}
 use Rattle.rc_step_laws.proofs.Copies.{In-either, split}
-use Rattle.rc_log_laws.proofs.Replays.{GoodWorld, IsGiven, is-good, is-fine, hears, is_server-true, work_of-given}
+use Rattle.rc_log_laws.proofs.Replays.{GoodWorld, IsGiven, work_of-given}
 use Rattle.rc_log_laws.proofs.EachMaster.{coordinator-from}
 
 -- A start

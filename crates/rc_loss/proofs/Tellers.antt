@@ -2,21 +2,18 @@
 use Rattle.std.proofs.Common.{◌≡◌, ◌⊎◌, ℕ, ◌<◌, ◌≤◌, Bool, true, false, List, [], ◌∷◌, ◌++◌, length, Option, Some, None}
 use Rattle.std.proofs.Common.{refl, sym, ap, ◌∙◌, subst, inl, inr, arith}
 use Rattle.std.proofs.lemmas.List.{append-nil, append_assoc, length-map}
-use Rattle.rc_model.specs.Model.{ServerId, Addr, Server, Setup, Event, Member, Message, Stored, Enlist, between, to_coordinator}
-use Rattle.rc_model.specs.Model.{is_server, Backup, backup_takes, ids_of, Master, master_takes, master_ticks, factor_of, Work, Take}
-use Rattle.rc_model.specs.Model.{HostNode}
-use Rattle.rc_model.specs.Model.{server_of, host_step, next_server, is_for_backup, with_backup, with_master, server_takes, takes_if_running}
-use Rattle.rc_model.specs.Model.{ticks_if_running, World, opening, NodeName, TheOutside, TheCoordinator, TheHost, Job, work_of, is_possible}
-use Rattle.rc_model.specs.Model.{with_last_view, host_done, node_done, job_done, step, replay, In}
+use Rattle.rc_model.specs.Model.{ServerId, Addr, Server, Setup, Event, Member, Message, Stored, Enlist, between, to_coordinator, Backup}
+use Rattle.rc_model.specs.Model.{backup_takes, ids_of, Master, master_takes, master_ticks, factor_of, Work, HostNode, server_of, host_step}
+use Rattle.rc_model.specs.Model.{next_server, with_backup, with_master, World, opening, NodeName, TheOutside, TheCoordinator, TheHost, Job}
+use Rattle.rc_model.specs.Model.{work_of, is_possible, with_last_view, host_done, node_done, job_done, step, replay, In}
 use Rattle.rc_types.specs.declared.ids.Addr.TheVariants.{Coordinator as AtCoordinator}
-use Rattle.rc_model.specs.Nodes.{Tick, Stop, Start}
+use Rattle.rc_model.specs.Nodes.{Start}
 use Rattle.rc_model.proofs.Replays.{replay_from-push}
 use Rattle.rc_model.proofs.Tests.{true_false, either}
 use Rattle.rc_step_laws.specs.All.{HasToldClosed, IsPlace, IsPlacedAt, IsStored, OnDifferentHosts, LogLater, MasterMoved}
 use Rattle.rc_log_laws.proofs.NodeWalk.{walked-host}
 use Rattle.rc_step_laws.proofs.Copies.{More, In-either, split}
-use Rattle.rc_log_laws.proofs.Replays.{GoodWorld, GoodStep, IsGiven, is-good, is-fine, hears, is_server-true, work_of-given, put_id-found}
-use Rattle.rc_log_laws.proofs.Replays.{led-step, good-world}
+use Rattle.rc_log_laws.proofs.Replays.{GoodWorld, GoodStep, IsGiven, is-good, work_of-given, put_id-found, led-step, good-world}
 use Rattle.rc_loss.proofs.Placings.{WasShut}
 use Rattle.rc_loss.proofs.Worlds.{LossFacts, loss-facts}
 

@@ -1,21 +1,17 @@
 -- What holds of data holds of every world that a list of events leads to.
 use Rattle.std.proofs.Common.{◌≡◌, ◌⊎◌, ℕ, true, List, [], ◌∷◌, ◌++◌, Option, Some, None, refl, sym, subst, inl, inr}
 use Rattle.std.proofs.lemmas.Bool.{and_parts}
-use Rattle.rc_model.specs.Model.{ServerId, Addr, Server, Setup, Event, Message, Body, is_server, backup_takes, Log, Master, master_takes}
-use Rattle.rc_model.specs.Model.{master_ticks, Work, Take, Create, Split, HostNode, is_for_clients, outside_can, outside_sends}
-use Rattle.rc_model.specs.Model.{coordinator_step, server_of, host_step, is_for_backup, with_backup, with_master, server_takes}
-use Rattle.rc_model.specs.Model.{takes_if_running, ticks_if_running, World, opening, NodeName, TheOutside, TheCoordinator, TheHost, Job}
-use Rattle.rc_model.specs.Model.{work_of, node_can, is_possible_job, is_possible, node_done, job_done, step, replay_from, replay, In}
+use Rattle.rc_model.specs.Model.{ServerId, Addr, Server, Setup, Event, Message, Body, Log, Master, master_takes, master_ticks, Work}
+use Rattle.rc_model.specs.Model.{is_for_clients, outside_can, outside_sends, coordinator_step, server_of, host_step, World, opening}
+use Rattle.rc_model.specs.Model.{NodeName, TheOutside, TheCoordinator, TheHost, Job, work_of, node_can, is_possible_job, is_possible}
+use Rattle.rc_model.specs.Model.{node_done, job_done, step, replay_from, replay, In, next_server, to_coordinator}
 use Rattle.rc_types.specs.declared.messages.Body.TheVariants as body
 use Rattle.rc_model.specs.Coordinator.{Coordinator}
-use Rattle.rc_model.specs.Nodes.{Ask, Tick, Start, Suspect, Decide}
+use Rattle.rc_model.specs.Nodes.{Ask}
 use Rattle.rc_step_laws.specs.Moves.{MasterMoved, CoordinatorMoved, body_said, coordinator_body_said}
-use Rattle.rc_step_laws.proofs.MasterSteps.{master_takes_keeps, master_ticks_keeps}
-use Rattle.rc_model.specs.Model.{next_server, to_coordinator}
 use Rattle.rc_model.proofs.Sending.{each-one}
 use Rattle.rc_log_laws.proofs.NodeWalk.{walked-host}
-use Rattle.rc_log_laws.proofs.Replays.{GoodWorld, GoodStep, IsGiven, is-good, is-fine, hears, is_server-true}
-use Rattle.rc_log_laws.proofs.Replays.{work_of-given, coordinator-moved, led-step, good-step, good-opening}
+use Rattle.rc_log_laws.proofs.Replays.{GoodWorld, GoodStep, IsGiven, work_of-given, coordinator-moved, led-step, good-step, good-opening}
 use Rattle.rc_owner_laws.specs.Data.{data_fine, DataAreCuts}
 use Rattle.rc_owner_laws.proofs.DataCuts.{data-later, IsNoData, no-data-fine, backup-fine}
 use Rattle.rc_model.proofs.Tests.{true_false, either}

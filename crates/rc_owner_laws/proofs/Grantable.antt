@@ -3,25 +3,20 @@ use Rattle.std.proofs.Common.{◌≡◌, ℕ, ◌+◌, ◌-◌, true, false, con
 use Rattle.std.proofs.Common.{Option, Some, None, refl, sym, ap, ◌∙◌, subst, inl, inr, arith}
 use Rattle.std.proofs.lemmas.Bool.{and_parts, eqb-true, eq-eqb}
 use Rattle.std.proofs.lemmas.Bool.Decides.{nat_tests}
-use Rattle.rc_model.specs.Model.{ServerId, Addr, Server, Setup, Event, NoTable, Deposed, Part, Grant, Message, Own, put, same_id}
-use Rattle.rc_model.specs.Model.{is_server, from_coordinator, is_up, Backup, backup_takes, has_range, assigned, Master, master_takes}
-use Rattle.rc_model.specs.Model.{master_ticks, Attempt, GivenPart, parts_of, refuses_server, attempt_at, is_current, own_body, range_of}
-use Rattle.rc_model.specs.Model.{grant_of, is_grant_to, grant_to, part_in, part_if_current, part_of_sender, grants_if_given}
-use Rattle.rc_model.specs.Model.{grants_or_repeats, takes_recovered, Work, Take, HostNode, coordinator_step, outside_sends, server_of}
-use Rattle.rc_model.specs.Model.{host_step, is_for_backup, with_backup, with_master, server_takes, takes_if_running, ticks_if_running}
-use Rattle.rc_model.specs.Model.{next_server, World, opening, NodeName, TheOutside, TheCoordinator, TheHost, Job, work_of, is_possible}
-use Rattle.rc_model.specs.Model.{node_done, job_done, step, replay_from, replay, In}
+use Rattle.rc_model.specs.Model.{ServerId, Addr, Server, Setup, Event, NoTable, Deposed, Part, Grant, Message, Own, same_id}
+use Rattle.rc_model.specs.Model.{from_coordinator, is_up, has_range, assigned, Attempt, GivenPart, parts_of, refuses_server, attempt_at}
+use Rattle.rc_model.specs.Model.{is_current, own_body, range_of, grant_of, is_grant_to, grant_to, part_in, part_if_current, part_of_sender}
+use Rattle.rc_model.specs.Model.{grants_if_given, grants_or_repeats, takes_recovered, Work, coordinator_step, outside_sends, server_of}
+use Rattle.rc_model.specs.Model.{host_step, next_server, World, opening, NodeName, TheOutside, TheCoordinator, TheHost, Job, work_of}
+use Rattle.rc_model.specs.Model.{is_possible, node_done, job_done, step, replay_from, replay, In, Enlist, to_coordinator}
 use Rattle.rc_types.specs.declared.messages.Body.TheVariants.{Plan as PlanBody}
 use Rattle.rc_model.specs.Coordinator.{Coordinator}
-use Rattle.rc_model.specs.Nodes.{Ask, Tick, Start}
-use Rattle.rc_step_laws.specs.All.{IsNumbered, MasterMoved, BackupMoved}
+use Rattle.rc_model.specs.Nodes.{Ask}
+use Rattle.rc_step_laws.specs.All.{IsNumbered}
 use Rattle.rc_step_laws.proofs.Attempting.{numbered-at}
-use Rattle.rc_step_laws.proofs.MasterSteps.{master_takes_keeps, master_ticks_keeps}
 use Rattle.rc_model.proofs.Sending.{each-one}
-use Rattle.rc_model.specs.Model.{Enlist, to_coordinator}
 use Rattle.rc_log_laws.proofs.NodeWalk.{said-host}
-use Rattle.rc_log_laws.proofs.Replays.{GoodWorld, IsGiven as IsGivenWork, is-good, is-fine, hears, is_server-true}
-use Rattle.rc_log_laws.proofs.Replays.{work_of-given, good-step, good-opening, good-world}
+use Rattle.rc_log_laws.proofs.Replays.{GoodWorld, IsGiven as IsGivenWork, work_of-given, good-step, good-opening, good-world}
 use Rattle.rc_owner_laws.specs.Grants.{IsGiven, IsPlanOf}
 use Rattle.rc_owner_laws.specs.Waiting.{IsTablet, GoodTablets, lacks_tablet, NoneLacksTablet}
 use Rattle.rc_owner_laws.specs.Recoveries.{IsPlanned, IsOwned, IsAnsweredByOwn, PlannedPartsAreTablets}
@@ -31,7 +26,6 @@ use Rattle.rc_owner_laws.proofs.Decided.{IsSenders, senders}
 use Rattle.rc_owner_laws.proofs.Marks.{ranged}
 use Rattle.rc_owner_laws.proofs.Waiting.{sender-waits, tablets-moved, new-tablets}
 use Rattle.rc_owner_laws.proofs.OwnerReplays.{OfWorld, grants-step, grants-opening, grants-world}
-use Rattle.rc_model.proofs.Tables.{put-same}
 use Rattle.rc_model.proofs.Ids.{same_id-true, same_id-refl, server-same}
 use Rattle.rc_model.proofs.Tests.{true_false, either}
 use Rattle.rc_step_laws.proofs.Tests.{find-one}

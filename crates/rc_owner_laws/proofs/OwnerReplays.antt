@@ -1,28 +1,21 @@
 -- What holds of tablets and grants holds of every world that a list of events leads to.
-use Rattle.std.proofs.Common.{◌≡◌, ℕ, true, List, [], ◌∷◌, ◌++◌, Option, Some, None, refl, sym, ap, ◌∙◌, subst, inl, inr}
+use Rattle.std.proofs.Common.{◌≡◌, ℕ, true, List, [], ◌∷◌, ◌++◌, Option, Some, None, refl, sym, ◌∙◌, subst, inl, inr}
 use Rattle.std.proofs.lemmas.Bool.{and_parts}
-use Rattle.rc_model.specs.Model.{ServerId, Addr, Server, Setup, Event, Message, Body, put, is_server, Backup, backup_takes, Log, Master}
-use Rattle.rc_model.specs.Model.{master_takes, master_ticks, Work, Take, Create, Split, HostNode, is_for_clients, outside_can}
-use Rattle.rc_model.specs.Model.{outside_sends, coordinator_step, server_of, host_step, is_for_backup, with_backup, with_master}
-use Rattle.rc_model.specs.Model.{server_takes, takes_if_running, ticks_if_running, World, opening, NodeName, TheOutside, TheCoordinator}
-use Rattle.rc_model.specs.Model.{TheHost, Job, work_of, node_can, is_possible_job, is_possible, node_done, job_done, step, replay_from}
-use Rattle.rc_model.specs.Model.{replay, In}
+use Rattle.rc_model.specs.Model.{ServerId, Addr, Server, Setup, Event, Message, Body, put, Backup, Log, Master, Work, HostNode}
+use Rattle.rc_model.specs.Model.{is_for_clients, outside_can, outside_sends, coordinator_step, server_of, host_step, World, opening}
+use Rattle.rc_model.specs.Model.{NodeName, TheOutside, TheCoordinator, TheHost, Job, work_of, node_can, is_possible_job, is_possible}
+use Rattle.rc_model.specs.Model.{node_done, job_done, step, replay_from, replay, next_server, to_coordinator}
 use Rattle.rc_types.specs.declared.messages.Body.TheVariants as body
 use Rattle.rc_model.specs.Coordinator.{Coordinator}
-use Rattle.rc_model.specs.Nodes.{Ask, Tick, Start, Suspect, Decide}
-use Rattle.rc_step_laws.specs.Moves.{MasterMoved, BackupMoved, CoordinatorLater, body_said, backup_body_said}
-use Rattle.rc_step_laws.proofs.MasterSteps.{master_takes_keeps, master_ticks_keeps}
-use Rattle.rc_step_laws.proofs.Backups.{moved-backup}
-use Rattle.rc_model.specs.Model.{next_server, to_coordinator}
-use Rattle.rc_log_laws.proofs.Replays.{GoodWorld, IsGiven, is-good, is-fine, hears, is_server-true, work_of-given}
-use Rattle.rc_log_laws.proofs.Replays.{coordinator-moved, good-step, good-opening}
+use Rattle.rc_model.specs.Nodes.{Ask}
+use Rattle.rc_step_laws.specs.Moves.{CoordinatorLater, body_said, backup_body_said}
+use Rattle.rc_log_laws.proofs.Replays.{GoodWorld, IsGiven, work_of-given, coordinator-moved, good-step, good-opening}
 use Rattle.rc_log_laws.proofs.NodeWalk.{said-host}
 use Rattle.rc_model.proofs.Sending.{each-one}
 use Rattle.rc_owner_laws.specs.Grants.{own_said, GoodGrants, GrantsKept}
 use Rattle.rc_owner_laws.proofs.Decided.{OwnSaid, OwnSays}
 use Rattle.rc_owner_laws.proofs.OwnerSteps.{moved, new-grants}
 use Rattle.rc_owner_laws.proofs.OwnersOrdered.{kept-step, kept-others, kept-none}
-use Rattle.rc_model.proofs.Tables.{put-same}
 use Rattle.rc_model.proofs.Tests.{true_false, either}
 
 pub record GrantsWorld (sent : List Message) (c : Coordinator) : Type 0 where

@@ -1,9 +1,7 @@
 -- What holds of terms holds of every world that a list of events leads to.
 use Rattle.std.proofs.Common.{◌≡◌, List, [], ◌∷◌, ◌++◌, Option, Some, None, refl, sym, subst}
-use Rattle.rc_model.specs.Model.{Addr, Setup, Event, Message, Work, Take, outside_sends, coordinator_step, host_step, World, opening}
-use Rattle.rc_model.specs.Model.{NodeName, TheOutside, TheCoordinator, TheHost, Job, work_of, is_possible, node_done, job_done, step}
-use Rattle.rc_model.specs.Model.{replay_from, replay, In}
-use Rattle.rc_types.specs.declared.ids.Addr.TheVariants.{Coordinator as AtCoordinator}
+use Rattle.rc_model.specs.Model.{Setup, Event, Work, outside_sends, coordinator_step, host_step, World, opening, NodeName, TheOutside}
+use Rattle.rc_model.specs.Model.{TheCoordinator, TheHost, Job, work_of, is_possible, node_done, job_done, step, replay_from, replay}
 use Rattle.rc_log_laws.proofs.Replays.{GoodWorld, IsGiven, work_of-given, taken-at, good-world}
 use Rattle.rc_owner_laws.proofs.OwnerReplays.{OfWorld, grants-world, later-coordinator}
 use Rattle.rc_owner_laws.specs.Terms.{GoodTerms}

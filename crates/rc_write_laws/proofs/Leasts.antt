@@ -2,13 +2,9 @@
 use Rattle.std.proofs.Common.{◌≡◌, ◌⊎◌, ℕ, ◌<◌, ◌≤◌, true, false, List, [], ◌∷◌, ◌++◌, Option, Some}
 use Rattle.std.proofs.Common.{None, refl, sym, ap, subst, inl, inr, arith}
 use Rattle.std.proofs.lemmas.Bool.Decides.{nat_tests}
-use Rattle.rc_model.specs.Model.{ServerId, Pair, Addr}
-use Rattle.rc_model.specs.Model.{Setup, Event, Message, Commit, CommitOk}
-use Rattle.rc_model.specs.Model.{to_coordinator, from_coordinator}
-use Rattle.rc_model.specs.Model.{is_below}
-use Rattle.rc_model.specs.Model.{Work, Take}
-use Rattle.rc_model.specs.Model.{coordinator_step, World, opening, NodeName, TheOutside, TheCoordinator, TheHost, Job, work_of}
-use Rattle.rc_model.specs.Model.{is_possible, node_done, job_done, step, replay_from, replay, In}
+use Rattle.rc_model.specs.Model.{ServerId, Pair, Setup, Event, Message, Commit, CommitOk, to_coordinator, from_coordinator, is_below, Work}
+use Rattle.rc_model.specs.Model.{coordinator_step, World, opening, NodeName, TheOutside, TheCoordinator, TheHost, Job, work_of, is_possible}
+use Rattle.rc_model.specs.Model.{node_done, job_done, step, replay_from, replay, In}
 use Rattle.rc_types.specs.declared.ids.Addr.TheVariants.{Coordinator as AtCoordinator}
 use Rattle.rc_model.specs.Coordinator.{Coordinator}
 use Rattle.rc_model.proofs.Replays.{replay_from-push}

@@ -1,22 +1,16 @@
 -- What a backup has told, its master has sent it: each place below the length of a Stored is made.
-use Rattle.std.proofs.Common.{◌≡◌, ◌⊎◌, ℕ, ◌<◌, Bool, List, [], ◌∷◌, ◌++◌, Option, Some, None, refl, ap, ◌∙◌, subst, inl, inr, arith}
-use Rattle.rc_model.specs.Model.{ServerId, Addr, Server, Outside, Entry, Setup, Event, Message, Stored, Enlist, is_server, put, between}
-use Rattle.rc_model.specs.Model.{to_coordinator, Backup, backup_takes, Master, master_takes, master_ticks, suspects, decides, creates}
-use Rattle.rc_model.specs.Model.{splits, coordinator_ticks, coordinator_takes, Work, Take, Create, Split, HostNode, outside_sends}
-use Rattle.rc_model.specs.Model.{coordinator_step, is_for_backup, with_backup, with_master, server_of, next_server, server_takes}
-use Rattle.rc_model.specs.Model.{takes_if_running, ticks_if_running, host_step, World, opening, NodeName, TheOutside, TheCoordinator}
-use Rattle.rc_model.specs.Model.{TheHost, Job, is_possible, work_of, node_done, job_done, step, replay_from, replay, In, HasMade}
+use Rattle.std.proofs.Common.{◌≡◌, ◌⊎◌, ℕ, ◌<◌, Bool, List, [], ◌∷◌, ◌++◌, Option, Some, None, refl, ap, ◌∙◌, inl, inr, arith}
+use Rattle.rc_model.specs.Model.{ServerId, Addr, Server, Outside, Entry, Setup, Event, Message, Stored, Enlist, put, between}
+use Rattle.rc_model.specs.Model.{to_coordinator, Backup, Master, Work, HostNode, outside_sends, coordinator_step, server_of, next_server}
+use Rattle.rc_model.specs.Model.{host_step, World, opening, NodeName, TheOutside, TheCoordinator, TheHost, Job, is_possible, work_of}
+use Rattle.rc_model.specs.Model.{node_done, job_done, step, replay_from, replay, In, HasMade}
 use Rattle.rc_types.specs.declared.ids.Addr.TheVariants.{Coordinator as AtCoordinator}
-use Rattle.rc_model.specs.Coordinator.{Coordinator}
-use Rattle.rc_model.specs.Nodes.{Ask, Tick, Stop, Start, Suspect, Decide}
+use Rattle.rc_model.specs.Nodes.{Ask}
 use Rattle.rc_model.proofs.Members.{In-append, In-left}
-use Rattle.rc_step_laws.specs.All.{StillStands, MasterMoved, CoordinatorMoved, BackupMoved, stored_said}
-use Rattle.rc_step_laws.proofs.MasterSteps.{master_takes_keeps, master_ticks_keeps}
+use Rattle.rc_step_laws.specs.All.{StillStands, MasterMoved, BackupMoved, stored_said}
 use Rattle.rc_log_laws.proofs.NodeWalk.{said-host}
-use Rattle.rc_step_laws.proofs.Backups.{moved-backup}
 use Rattle.rc_log_laws.proofs.Replays.{GoodWorld, IsGiven, coordinator-moved}
 use Rattle.rc_log_laws.proofs.Replays.{work_of-given, good-step, good-opening}
-use Rattle.rc_model.proofs.Tables.{put-same}
 use Rattle.rc_model.proofs.Tests.{either}
 
 -- the master has sent an entry for the place
