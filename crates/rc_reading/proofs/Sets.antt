@@ -1,13 +1,11 @@
 -- Sets by bits.
-use Rattle.std.proofs.Common.{◌≡◌, ℕ, ◌%◌, ◌^◌, ◌<◌, max, Bool, true, ◌&&◌, ◌||◌, nat_eq, nat_lt, Some}
-use Rattle.std.proofs.Common.{slice_get, refl, sym, ap, ◌∙◌, arith}
+use Rattle.std.proofs.Common.{◌≡◌, ℕ, ◌%◌, ◌^◌, ◌<◌, max, Bool, true, ◌&&◌, ◌||◌, nat_eq, nat_lt}
+use Rattle.std.proofs.Common.{refl, ap, ◌∙◌, arith}
 use Rattle.std.specs.Int.{bit_at}
 use Rattle.std.proofs.lemmas.Nat.Bits.{bit_at_or, bit_at-pow_same, bit_at-pow_other}
 use Rattle.rc_types.specs.declared.limits.TheConstants.{MAX_HOSTS}
 use Rattle.rc_reading.specs.declared.hosts.Hosts.{Hosts}
-use Rattle.rc_types.specs.declared.kinds.Kind.{Kind}
-use Rattle.rc_types.specs.declared.kinds.Kind.TheVariants as kind
-use Rattle.rc_reading.specs.All.{with_bit, has_bit, has_host, with_host, kind_number, all_kinds}
+use Rattle.rc_reading.specs.All.{with_bit, has_bit, has_host, with_host}
 use Rattle.rc_reading.proofs.Puts.{either}
 
 one_bit : (n : ℕ) → max (n % 2) 1 ≡ 1
@@ -39,31 +37,3 @@ hosts_are_sets hosts put host few =
     let lower : nat_lt host MAX_HOSTS ≡ true = grind arith in
     ap (λ b. nat_lt host MAX_HOSTS && b) (in_set hosts.bits put host) ∙ within (nat_lt host MAX_HOSTS) (nat_eq host put)
     (has_bit hosts.bits host) lower
-
-placed : (k : Kind) → slice_get all_kinds (kind_number k) ≡ Some k
-placed kind.Write = refl
-placed kind.Read = refl
-placed kind.WriteOk = refl
-placed kind.ReadOk = refl
-placed kind.Refused = refl
-placed kind.Place = refl
-placed kind.Append = refl
-placed kind.Close = refl
-placed kind.Stored = refl
-placed kind.Commit = refl
-placed kind.CommitOk = refl
-placed kind.Enlist = refl
-placed kind.Ready = refl
-placed kind.List = refl
-placed kind.Gather = refl
-placed kind.Replicas = refl
-placed kind.Plan = refl
-placed kind.Fetch = refl
-placed kind.Data = refl
-placed kind.Recovered = refl
-placed kind.Own = refl
-placed kind.SplitOk = refl
-placed kind.Free = refl
-
-pub same_place : (one other : Kind) → kind_number one ≡ kind_number other → one ≡ other
-same_place one other same = let both : Some one ≡ Some other = sym (placed one) ∙ ap (slice_get all_kinds) same ∙ placed other in cc

@@ -17,7 +17,3 @@ HostsAreSets = (hosts : Hosts) (put host : ℕ) → host < MAX_HOSTS →
 abbrev pub KindsAreSets : Type 0
 KindsAreSets = (kinds : Kinds) (put kind : Kind) →
     has_kind (with_kind kinds put) kind ≡ (nat_eq (kind_number kind) (kind_number put) || has_kind kinds kind)
-
--- a kind is known by its place
-abbrev pub KindsHavePlaces : Type 0
-KindsHavePlaces = (one other : Kind) → kind_number one ≡ kind_number other → one ≡ other

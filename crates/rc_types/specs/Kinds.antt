@@ -1,5 +1,5 @@
 -- The kinds of bodies and of events, their names and their numbers.
-use Rattle.std.specs.Prelude.{ℕ, Bool, List, [], ◌∷◌, Option, find, codes}
+use Rattle.std.specs.Prelude.{◌≡◌, ℕ, List, [], ◌∷◌, Option, find, codes}
 use Rattle.std.specs.Str.{bytes_eq}
 use Rattle.rc_types.specs.declared.events.Event.{Event}
 use Rattle.rc_types.specs.declared.events.Event.TheVariants as event
@@ -97,6 +97,10 @@ kind_number kind.Recovered = 19
 kind_number kind.Own = 20
 kind_number kind.SplitOk = 21
 kind_number kind.Free = 22
+
+-- a kind is known by its number
+abbrev pub KindsHavePlaces : Type 0
+KindsHavePlaces = (one other : Kind) → kind_number one ≡ kind_number other → one ≡ other
 
 abbrev pub event_kind_of : Event → EventKind
 event_kind_of (event.Ask to body) = of_event.Ask
