@@ -1,10 +1,8 @@
 -- What had stood durably under a term of its owner, and that acknowledged writes and what reads show had.
-use Rattle.std.proofs.Common.{◌≡◌, ◌≢◌, ℕ, zero, suc, ◌<◌, ◌≤◌, ◌&&◌, nat_lt, List, [], ◌∷◌, ◌++◌, take, Option, Some, None}
-use Rattle.std.proofs.Common.{slice_get, refl, sym, ap, ◌∙◌, subst, inl, inr, arith}
-use Rattle.std.proofs.lemmas.Bool.{and_parts, ltb-true}
+use Rattle.std.proofs.Common.{◌≡◌, ◌≢◌, ℕ, zero, suc, ◌<◌, ◌≤◌, List, [], ◌∷◌, ◌++◌, take, Option, Some, slice_get, sym, ap, ◌∙◌, subst}
+use Rattle.std.proofs.Common.{inl, inr, arith}
 use Rattle.rc_model.specs.Model.{ServerId, Entry, Setup, Event, Ack, LogPlace, places_of, Found}
 use Rattle.rc_model.specs.Model.{read_of, term_of, durable_entries, factor_of, World, step, replay_from, replay, HasAcknowledged, In}
-use Rattle.rc_model.proofs.Tests.{either}
 use Rattle.rc_step_laws.specs.All.{log_in, IsSafe, IsWriteOk}
 use Rattle.rc_step_laws.proofs.Lists.{get-begins}
 use Rattle.rc_step_laws.proofs.Places.{places-later}

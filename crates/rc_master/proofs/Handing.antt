@@ -1,5 +1,5 @@
 -- What the replay hands out is noted next.
-use Rattle.std.proofs.Common.{◌≡◌, ℕ, true, Bool, nat_eq, List, [], ◌∷◌, Option, Some, None, slice_get, refl, ap, ◌∙◌, arith}
+use Rattle.std.proofs.Common.{◌≡◌, ℕ, true, Bool, nat_eq, List, [], ◌∷◌, Option, Some, None, slice_get, refl, arith}
 use Rattle.std.proofs.lemmas.Bool.Decides.{nat_tests}
 use Rattle.rc_model.specs.Model.{Entry, Log, PartState, Task}
 use Rattle.rc_ownership.specs.Owner.{was_handed, handed_of}

@@ -1,6 +1,6 @@
 -- Entries of which some are marked, and how many of these are under a term.
-use Rattle.std.proofs.Common.{◌≡◌, ℕ, ◌+◌, ◌-◌, ◌<◌, ◌≤◌, Bool, true, false, cond, nat_eq, List, [], ◌∷◌, ◌++◌, length, take, drop}
-use Rattle.std.proofs.Common.{filter, ap, ◌∙◌, refl, arith, zero, suc}
+use Rattle.std.proofs.Common.{◌≡◌, ℕ, ◌+◌, ◌-◌, ◌<◌, ◌≤◌, Bool, true, false, cond, nat_eq, List, [], ◌∷◌, length, take, drop, filter, ap}
+use Rattle.std.proofs.Common.{◌∙◌, refl, arith, zero, suc}
 use Rattle.std.specs.Prelude.{slice_index_or}
 use Rattle.rc_model.specs.Model.{Entry, count_under}
 use Rattle.rc_ownership.specs.Marks.{marked}

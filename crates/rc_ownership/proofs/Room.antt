@@ -1,7 +1,6 @@
 -- Room to note of each part whose end wasn't told that it is.
-use Rattle.std.proofs.Common.{◌≡◌, ℕ, ◌+◌, ◌≤◌, inl, inr, Bool, true, false, cond, nat_eq}
-use Rattle.std.proofs.Common.{Option, Some, None, List, [], ◌∷◌, ◌++◌}
-use Rattle.std.proofs.Common.{length, length-append, take, zero, suc, sym, ap, subst, ◌∙◌, refl, arith}
+use Rattle.std.proofs.Common.{◌≡◌, ℕ, ◌+◌, ◌≤◌, inl, inr, Bool, true, false, cond, nat_eq, Some, List, [], ◌∷◌, ◌++◌, length, length-append}
+use Rattle.std.proofs.Common.{take, zero, suc, ap, ◌∙◌, refl, arith}
 use Rattle.std.specs.Map.{lookup, set_value}
 use Rattle.rc_types.specs.declared.kept.GrantedRange.{GrantedRange}
 use Rattle.rc_model.specs.Ownership.{PartState, joined, all_came, entries_that_came}

@@ -1,5 +1,5 @@
 -- What a backup has told, its master has sent it: each place below the length of a Stored is made.
-use Rattle.std.proofs.Common.{◌≡◌, ◌⊎◌, ℕ, ◌<◌, Bool, List, [], ◌∷◌, ◌++◌, Option, Some, None, refl, ap, ◌∙◌, inl, inr, arith}
+use Rattle.std.proofs.Common.{◌≡◌, ◌⊎◌, ℕ, ◌<◌, Bool, List, [], ◌∷◌, ◌++◌, Option, Some, None, refl, ap, inl, inr, arith}
 use Rattle.rc_model.specs.Model.{ServerId, Addr, Server, Outside, Entry, Setup, Event, Message, Stored, Enlist, put, between}
 use Rattle.rc_model.specs.Model.{to_coordinator, Backup, Master, Work, HostNode, outside_sends, coordinator_step, server_of, next_server}
 use Rattle.rc_model.specs.Model.{host_step, World, opening, NodeName, TheOutside, TheCoordinator, TheHost, Job, is_possible, work_of}

@@ -1,10 +1,8 @@
-use Rattle.std.proofs.Common.{◌≡◌, ◌+◌, ◌-◌, nat_eq, ap, subst, sym, ◌∙◌, arith}
-use Rattle.std.proofs.lemmas.Bool.Decides.{nat_tests}
+use Rattle.std.proofs.Common.{◌-◌, nat_eq, ap, subst, sym, ◌∙◌, arith}
 use Rattle.std.specs.Option.{IsSome}
-use Rattle.std.specs.Prelude.{slice_index_or}
 use Rattle.indexmap.specs.IndexMap.{get}
 use Rattle.rc_ownership.specs.Counts.{count_in}
-use Rattle.rc_ownership.proofs.Marking.{marked-le, marked-some, marked-none}
+use Rattle.rc_ownership.proofs.Marking.{marked-some, marked-none}
 use Rattle.rc_ownership.proofs.counts.count_down.Goals as goal
 use Rattle.rc_ownership.proofs.counts.count_down.Goals.{then-marks-place, else-marks-place}
 

@@ -1,4 +1,4 @@
-use Rattle.std.proofs.Common.{Some, None, take, ap, ◌∙◌}
+use Rattle.std.proofs.Common.{Some, None, ap, ◌∙◌}
 use Rattle.rc_ownership.specs.Notes.{replayed_in}
 use Rattle.rc_ownership.specs.Parts.{Fetched}
 use Rattle.rc_ownership.specs.Looks.{progress_of}
