@@ -1,4 +1,4 @@
-use Rattle.std.proofs.Common.{◌-◌, nat_eq, ap, subst, sym, ◌∙◌, arith}
+use Rattle.std.proofs.Common.{nat_eq, ap, subst, sym, ◌∙◌, arith}
 use Rattle.std.specs.Option.{IsSome}
 use Rattle.std.specs.Prelude.{slice_index_or}
 use Rattle.indexmap.specs.IndexMap.{get}
