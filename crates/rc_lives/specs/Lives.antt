@@ -3,7 +3,7 @@
 use Rattle.std.specs.Prelude.{◌≡◌, ℕ, ◌+◌, Bool, false, not, ◌&&◌, if◌then◌else◌, List, [], ◌∷◌, ◌++◌, length}
 use Rattle.rc_types.specs.declared.events.Setup.{Setup}
 use Rattle.rc_model.specs.Nodes.{Work, Take, Tick, Stop, Start, runs, is_running_at, is_for_backup, server_of}
-use Rattle.rc_model.specs.World.{NodeName, TheOutside, TheCoordinator, TheHost}
+use Rattle.rc_model.specs.World.{NodeName}
 use Rattle.rc_history.specs.Nodes.{Node, node_step, new_node}
 use Rattle.rc_history.specs.Nodes as node
 use Rattle.rc_history.specs.Remade.{SameButMaster}
