@@ -29,12 +29,12 @@ pub fn roll(
     servers: &ServerList,
     free: bool,
     log: &mut LogHead,
-    ownership: &Ownership,
+    ownership: &mut Ownership,
     sent: &mut Vec<Message>,
 ) -> Result<(), Fault>
     requires writing { is_writing log.old.phase ≡ true }
     requires some { 0 < (log_of log.old).head }
-    requires durable { durable_of ownership.now ≡ take (log_of log.old).durable (entries_of (log_of log.old)) }
+    requires durable { durable_of ownership.old ≡ take (log_of log.old).durable (entries_of (log_of log.old)) }
     ensures ok { OnOk result (begin_roll servers.now (dead_segments (keeper free (log_of log.old))) (log_of log.old)
         ≡ (log_of log.new, Ok true)) }
     ensures sends { OnOk result (sent.new.items ≡ sent.old.items ++ places_head (log_of log.new)) }
@@ -44,6 +44,7 @@ pub fn roll(
     ensures unchanged { IfErr result (λ fault. (fault ≡ OutOfMemory)
         ⊎ ((log.new ≡ log.old) × (sent.new.items ≡ sent.old.items))) }
     ensures before { before_of log.new ≡ before_of log.old }
+    ensures same { ownership.new ≡ ownership.old }
 {
     let dead = dead_segments(alloc, free, log, ownership)?;
     log.begin_roll(alloc, servers, dead.as_slice())?;

@@ -126,7 +126,7 @@ impl State {
             &self.known,
             self.free,
             &mut self.log,
-            &self.ownership,
+            &mut self.ownership,
             sent,
         )
     }

@@ -17,3 +17,6 @@ pub mod Under
 pub mod Undone
 pub mod Waiting
 pub mod ShownParts
+pub mod Bounding
+pub mod AliveEntries
+pub mod AliveSegments

@@ -3,6 +3,7 @@
 //! those of `rc_model`'s `Ownership` and `Versions`.
 #![tactic(auto)]
 
+mod alive;
 mod bounds;
 mod counts;
 mod grants;

@@ -1,10 +1,11 @@
 //! The notes of a log: its entries as they were appended, how many of them are durable, and the
-//! tables by which versions are numbered and read without a walk over them.
+//! tables by which versions are numbered and read, and dead segments found, without a walk over them.
 
 ghost use Rattle.std.specs.Prelude.{◌≡◌, ℕ, ◌+◌, ◌-◌, ◌^◌, ◌<◌, ◌≤◌, ◌++◌, ◌∷◌, [], length, take, slice_get, OnOk};
 ghost use Rattle.std.specs.Prelude.{OnErr, IfOk, true, ◌↔◌};
 ghost use Rattle.std.specs.Option.{option_copied};
 
+use crate::alive::{self, AliveEntry};
 use crate::highs::{self, Slot};
 use crate::{counts, tops};
 use indexmap::IndexMap;
@@ -19,12 +20,16 @@ use std::marker::Model;
 pub(crate) struct Notes {
     noted: Vec<Entry>,
     replayed: Vec<bool>,
-    durable: usize,
+    pub(crate) durable: usize,
     kept: usize,
     kept_durable: usize,
     highs: IndexMap<Slot, Vec<(usize, u64)>>,
     counts: IndexMap<u32, usize>,
     tops: Vec<u64>,
+    /// Of each segment, by its number, an entry that isn't outdated, where one was found.
+    pub(crate) alive: Vec<Option<AliveEntry>>,
+    /// Of each group of slots a place above those of its durable entries; none until an entry is found.
+    pub(crate) bounds: Vec<usize>,
 }
 
 impl Model for Notes {
@@ -43,12 +48,12 @@ impl Model for Notes {
     } };
 
     ghost invariant = { λ s. AreNotes s.noted.items s.replayed.items s.durable s.kept s.kept_durable s.highs
-        s.counts s.tops.items };
+        s.counts s.tops.items s.alive.items s.bounds.items };
 }
 
 impl Notes {
     ghost use Rattle.rc_model.specs.Ownership.{count_under};
-    ghost use Rattle.rc_model.specs.Versions.{next_version, greatest_version, read_of, is_outdated, is_dead};
+    ghost use Rattle.rc_model.specs.Versions.{next_version, greatest_version, read_of, is_outdated};
     ghost use Rattle.rc_ownership.specs.Highs.{highs_of};
     ghost use Rattle.rc_ownership.specs.Notes.{replayed_in};
     ghost use Rattle.rc_ownership.specs.Tops.{top_or, tops_of, LeaveRoom};
@@ -73,6 +78,8 @@ impl Notes {
             highs: IndexMap::new(alloc),
             counts: IndexMap::new(alloc),
             tops: Vec::new(alloc),
+            alive: Vec::new(alloc),
+            bounds: Vec::new(alloc),
         }
     }
 
@@ -194,6 +201,7 @@ impl Notes {
         let newly = &self.noted.as_slice()[self.durable..count];
         let marks = &self.replayed.as_slice()[self.durable..count];
         counts::count_up(&mut self.counts, newly, marks);
+        alive::raise_bounds(&mut self.bounds, newly, count);
         self.durable = count;
     }
 
@@ -204,6 +212,7 @@ impl Notes {
         let no_longer = &self.noted.as_slice()[count..self.durable];
         let marks = &self.replayed.as_slice()[count..self.durable];
         counts::count_down(&mut self.counts, no_longer, marks);
+        self.alive.clear();
         self.durable = count;
     }
 
@@ -259,18 +268,11 @@ impl Notes {
     }
 
     /// Whether a durable entry has a greater version of the entry's key under its term.
-    fn is_outdated(&self, entry: &Entry) -> bool
+    pub(crate) fn is_outdated(&self, entry: &Entry) -> bool
         ensures { result ≡ is_outdated (take self.now.durable self.now.noted) entry.now }
     {
         let highs = self.durable_highs(entry.term, entry.table, entry.key);
         entry.version < highs::last_version(highs)
-    }
-
-    /// Whether each of the entries is outdated by a durable one.
-    pub(crate) fn is_dead(&self, entries: &[Entry]) -> bool
-        ensures { result ≡ is_dead (take self.now.durable self.now.noted) entries.now }
-    {
-        entries.iter().all(|entry| self.is_outdated(entry))
     }
 
     /// How many durable entries under a term the replay had handed out.

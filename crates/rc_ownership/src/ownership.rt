@@ -1,7 +1,7 @@
 //! What a master owns, in one value.
 
 ghost use Rattle.std.specs.Prelude.{◌≡◌, ◌<◌, ◌≤◌, ◌+◌, ◌^◌, [], length, not, nat_eq, nat_lt, slice_get};
-ghost use Rattle.std.specs.Prelude.{OnOk, OnErr, IfOk, None, true, ◌↔◌, option_map};
+ghost use Rattle.std.specs.Prelude.{OnOk, OnErr, IfOk, None, true, ◌↔◌, option_map, map};
 ghost use Rattle.std.specs.List.{position};
 ghost use Rattle.rc_model.specs.Ownership.{owns_nothing};
 ghost use Rattle.rc_model.specs.Ownership as owning;
@@ -253,12 +253,14 @@ impl Ownership {
         self.notes.read(alloc, term, table, key)
     }
 
-    /// Whether each of these entries has a greater version of its key under its term among the
-    /// durable ones.
-    pub fn is_dead(&self, entries: &[Entry]) -> bool
-        ensures { result ≡ versions.is_dead (durable_of self.now) entries.now }
+    /// Whether each of these entries, which are those of the segment of this number, has a greater version of its key
+    /// under its term among the durable ones. One that has none is kept in mind, if there is memory for it, so that
+    /// the segment is gone over again only when an entry of its key may have become durable.
+    pub fn is_dead_segment(&mut self, alloc: Global, seg: u16, entries: &[(Entry, bool)]) -> bool
+        ensures dead { result ≡ versions.is_dead (durable_of self.old) (map (λ one. one.0) entries.now) }
+        ensures same { self.new ≡ self.old }
     {
-        self.notes.is_dead(entries)
+        self.notes.is_dead_segment(alloc, seg, entries)
     }
 
     /// Whether the term is known: a part under it was begun, or a range was granted.
