@@ -33,7 +33,7 @@ impl Talk for Host {
     fn hello(&mut self, _: &mut Vec<u8>) {}
 
     fn ask(&mut self, number: u64, key: u64, out: &mut Vec<u8>) {
-        Request { op: self.op, number, table: self.table, key, value: self.value.clone() }.put(out);
+        Request { op: self.op, number, table: self.table, key, value: (&self.value).into() }.put(out);
     }
 
     fn take(&mut self, bytes: &[u8], answers: &mut Vec<(u64, bool)>, _: &mut Vec<u8>) -> Result<usize, String> {

@@ -148,7 +148,7 @@ impl Client {
     /// Asks whoever has this place: hosts first, and then the coordinator.
     pub fn call(&mut self, place: u8, op: Op, table: u32, key: u64, value: &[u8]) -> Result<Reply, Lost> {
         self.number += 1;
-        let request = Request { op, number: self.number, table, key, value: value.to_vec() };
+        let request = Request { op, number: self.number, table, key, value: value.into() };
         let mut bytes = Vec::new();
         request.put(&mut bytes);
         let mut stream = match self.connections.remove(&place) {

@@ -266,8 +266,8 @@ impl Coordinator {
 
     fn route(&mut self) {
         let mut refused = None;
-        self.core.route(|_, message| {
-            if let Some(Answer::Refused(code)) = Envelope::read(message).and_then(|envelope| envelope.answer()) {
+        self.core.route(|answer| {
+            if let Answer::Refused(code) = answer {
                 refused = Some(code);
             }
         });

@@ -9,8 +9,8 @@ use crate::record::Record;
 use crate::waits::Waits;
 use crate::wire::{HEARTBEAT, NOT_UP, frames};
 use sevunthi::message::kind;
-use sevunthi::{Address, Envelope, Fault, Id, Node, Ready, Shape};
-use std::collections::{HashMap, VecDeque};
+use sevunthi::{Address, Answer, Envelope, Fault, Id, Node, Ready, Shape};
+use std::collections::{BTreeMap, VecDeque};
 use std::fmt::Display;
 use std::fs::File;
 use std::io::{self, Read};
@@ -61,6 +61,12 @@ impl Config {
     }
 }
 
+/// For so many bytes of answers to a client there is room at once.
+const ANSWERS: usize = 1024;
+
+/// What is queued for a peer has as much room at once as the last time, but no more than this.
+const MOST_BEGUN: usize = 1 << 16;
+
 /// A node with its journal, its peers and its clients.
 pub struct Core {
     pub config: Config,
@@ -73,8 +79,8 @@ pub struct Core {
     ready: Ready,
     peers: Vec<Writer>,
     outs: Vec<Vec<u8>>,
-    clients: HashMap<u64, Writer>,
-    answers: HashMap<u64, Vec<u8>>,
+    clients: BTreeMap<u64, Writer>,
+    answers: BTreeMap<u64, Vec<u8>>,
     pub local: VecDeque<Vec<u8>>,
     record: Option<Record>,
     pub text: Arc<Mutex<String>>,
@@ -153,8 +159,8 @@ impl Core {
             ready,
             peers: places.clone().map(|place| Writer::to_peer(config.at(place), config.secret.clone())).collect(),
             outs: places.map(|_| Vec::new()).collect(),
-            clients: HashMap::new(),
-            answers: HashMap::new(),
+            clients: BTreeMap::new(),
+            answers: BTreeMap::new(),
             local: VecDeque::new(),
             record,
             text,
@@ -194,30 +200,30 @@ impl Core {
         }
     }
 
-    /// Delivers a message, if it is for this node. Says whether the node has taken it.
-    pub fn deliver(&mut self, message: &[u8]) -> bool {
-        let Some(envelope) = Envelope::read(message) else { return false };
+    /// Delivers a message, if it is for this node. Gives back its front where the node has taken it.
+    pub fn deliver<'a>(&mut self, message: &'a [u8]) -> Option<Envelope<'a>> {
+        let envelope = Envelope::read(message)?;
         let place = match envelope.to {
             Address::Coordinator => usize::from(self.config.hosts),
             Address::Server(id) => usize::from(id.index),
-            Address::Outside => return false,
+            Address::Outside => return None,
         };
         if place != self.config.place() {
-            return false;
+            return None;
         }
         if let (kind::STORED, Address::Server(from)) = (envelope.kind, envelope.from) {
             self.waits.stored(from);
         }
         self.counts.works += 1;
         match self.node.deliver(message) {
-            Ok(()) => true,
+            Ok(()) => Some(envelope),
             Err(Fault::UsedUp) => failed("the node's numbers are used up", Fault::UsedUp),
-            Err(_) => false,
+            Err(_) => None,
         }
     }
 
     /// What may leave now goes to the peers' queues; what is for clients is handed to `answer`.
-    pub fn route(&mut self, mut answer: impl FnMut(&mut Core, &[u8])) {
+    pub fn route(&mut self, mut answer: impl FnMut(Answer)) {
         let mut ready = std::mem::take(&mut self.ready);
         if let Err(fault) = self.node.ready(&mut ready) {
             tell(fault);
@@ -230,14 +236,14 @@ impl Core {
         self.ready = ready;
     }
 
-    fn send(&mut self, message: &[u8], answer: &mut impl FnMut(&mut Core, &[u8])) {
+    fn send(&mut self, message: &[u8], answer: &mut impl FnMut(Answer)) {
         let Some(envelope) = Envelope::read(message) else { return };
         self.counts.messages += 1;
         if let Some(record) = &mut self.record {
             record.add(self.clock, message);
         }
         match envelope.to {
-            Address::Outside => answer(self, message),
+            Address::Outside => envelope.answer().into_iter().for_each(answer),
             Address::Coordinator => self.post(usize::from(self.config.hosts), message),
             Address::Server(id) => {
                 if matches!(envelope.kind, kind::PLACE | kind::APPEND) {
@@ -264,7 +270,7 @@ impl Core {
     /// Answers a client.
     pub fn answer(&mut self, client: u64, reply: &Reply) {
         self.counts.answered += 1;
-        reply.put(self.answers.entry(client).or_default());
+        reply.put(self.answers.entry(client).or_insert_with(|| Vec::with_capacity(ANSWERS)));
     }
 
     /// A client has come, or gone.
@@ -301,10 +307,11 @@ impl Core {
             let written = record.note(self.clock).and_then(|()| record.write());
             written.unwrap_or_else(|error| failed("the record can't be written", error));
         }
-        for (out, peer) in self.outs.iter_mut().zip(&self.peers) {
-            peer.send(std::mem::take(out));
+        for (out, peer) in self.outs.iter_mut().zip(&self.peers).filter(|(out, _)| !out.is_empty()) {
+            let next = Vec::with_capacity(out.len().min(MOST_BEGUN));
+            peer.send(std::mem::replace(out, next));
         }
-        for (client, bytes) in self.answers.drain() {
+        for (client, bytes) in std::mem::take(&mut self.answers) {
             if let Some(writer) = self.clients.get(&client) {
                 writer.send(bytes);
             }

@@ -5,7 +5,8 @@ use crate::net::Event;
 use crate::protocol::{DONE, NO_VALUE, Op, Reply, Request, UNKNOWN, WRONG};
 use crate::wire::HEARTBEAT;
 use sevunthi::message::{self, framed, kind, u32_at, u64_at};
-use sevunthi::{Answer, Envelope, Fault, Id, Work};
+use sevunthi::{Address, Answer, Envelope, Fault, Id, Work};
+use std::borrow::Cow;
 use std::collections::VecDeque;
 use std::fmt::Write as _;
 use std::io;
@@ -24,23 +25,27 @@ const SOME: usize = 32;
 /// How often a server says that it lives.
 const BEAT: Duration = Duration::from_millis(100);
 
+/// In the middle of what takes long, whether that is due is looked at once in so many messages.
+const LOOK: u64 = 8;
+
 /// F3: the head is being rolled, so that a write has to wait.
 const ROLLING: u8 = 3;
 
 /// A request and its client; none is the server itself.
-struct Asked {
+struct Asked<'a> {
     client: Option<u64>,
-    request: Request,
+    request: Request<'a>,
 }
 
 /// A host.
 struct Host {
     core: Core,
     server: Id,
-    /// Writes that were taken, in order of their places; none are those that were answered before an earlier one.
-    pending: VecDeque<(Place, Option<Asked>)>,
+    /// Writes that were taken, without their values, in order of their places; none are those that were answered before
+    /// an earlier one.
+    pending: VecDeque<(Place, Option<Asked<'static>>)>,
     /// Requests that came while the head was being rolled.
-    waiting: VecDeque<Asked>,
+    waiting: VecDeque<Asked<'static>>,
     /// Reads that were answered, with the place that the next write got, which confirms them.
     reads: VecDeque<(Place, u64, Reply, (u32, u64))>,
     /// The end of what confirms: a write was taken at the place before.
@@ -71,6 +76,13 @@ pub fn run(config: Config) -> io::Result<()> {
     host.begin();
     host.serve(&events);
     Ok(())
+}
+
+impl Asked<'_> {
+    /// The same with a value of its own.
+    fn into_owned(self) -> Asked<'static> {
+        Asked { client: self.client, request: self.request.into_owned() }
+    }
 }
 
 impl Host {
@@ -145,9 +157,7 @@ impl Host {
                 let (mut is_replaced, mut grants) = (false, Vec::new());
                 self.core.each_frame(&batch, |core, frame| match frame {
                     Frame::Message(message) => {
-                        if core.deliver(message) {
-                            grants.extend(granted(message, server));
-                        }
+                        grants.extend(core.deliver(message).and_then(|envelope| granted(&envelope, server)));
                         // a batch may take long
                         beat_if_due(beat, server, core);
                     }
@@ -176,14 +186,14 @@ impl Host {
     }
 
     /// A client's request.
-    fn ask(&mut self, client: u64, request: Request) {
+    fn ask(&mut self, client: u64, request: Request<'_>) {
         match request.op {
             Op::Put | Op::Delete | Op::Get | Op::GetFast if request.key >> 63 == 0 => {
                 let asked = Asked { client: Some(client), request };
                 if self.waiting.is_empty() {
                     self.give(asked);
                 } else {
-                    self.waiting.push_back(asked);
+                    self.waiting.push_back(asked.into_owned());
                 }
             }
             Op::Status => {
@@ -199,7 +209,7 @@ impl Host {
     }
 
     /// Gives the node a request, and takes at once what that sends. Says whether it is done with.
-    fn give(&mut self, asked: Asked) -> bool {
+    fn give(&mut self, asked: Asked<'_>) -> bool {
         // a client's keys are even, and those between them are the server's own
         let key = if asked.client.is_some() { 2 * asked.request.key } else { asked.request.key };
         let Request { op, table, ref value, .. } = asked.request;
@@ -221,33 +231,33 @@ impl Host {
         // where the head has one entry more, that is the write, and what it sends leaves with all else
         let now = self.core.node.info();
         if taken.is_ok() && is_put && (now.head, now.entries) == (place.0, place.1 + 1) {
-            return self.await_durable(place, asked);
+            return self.await_durable(place, &asked);
         }
         let mut said = None;
         let mut answers = Vec::new();
-        self.core.route(|_, message| answers.push(message.to_vec()));
-        for message in &answers {
-            match Envelope::read(message).and_then(|envelope| envelope.answer()) {
-                Some(written @ Answer::Written { .. }) => self.acknowledge(written),
-                other => said = other,
+        self.core.route(|answer| answers.push(answer));
+        for answer in answers {
+            match answer {
+                written @ Answer::Written { .. } => self.acknowledge(written),
+                other => said = Some(other),
             }
         }
         let after = self.core.node.info();
         if taken.is_ok() && is_put && said.is_none() && place != (after.head, after.entries) {
-            return self.await_durable(place, asked);
+            return self.await_durable(place, &asked);
         }
         self.conclude(asked, said, place)
     }
 
     /// A write was taken at this place.
-    fn await_durable(&mut self, place: Place, asked: Asked) -> bool {
+    fn await_durable(&mut self, place: Place, asked: &Asked<'_>) -> bool {
         self.next = (place.0, place.1 + 1);
-        self.pending.push_back((place, Some(asked)));
+        self.pending.push_back((place, Some(Asked { client: asked.client, request: asked.request.bare() })));
         true
     }
 
     /// What the node has answered at once.
-    fn conclude(&mut self, asked: Asked, said: Option<Answer>, place: Place) -> bool {
+    fn conclude(&mut self, asked: Asked<'_>, said: Option<Answer>, place: Place) -> bool {
         let number = asked.request.number;
         match said {
             Some(Answer::Read { version, value, .. }) => {
@@ -262,7 +272,7 @@ impl Host {
                 true
             }
             Some(Answer::Refused(ROLLING)) => {
-                self.waiting.push_front(asked);
+                self.waiting.push_front(asked.into_owned());
                 false
             }
             other => {
@@ -297,7 +307,7 @@ impl Host {
     }
 
     /// The request of the write at this place.
-    fn take_pending(&mut self, place: Place) -> Option<Asked> {
+    fn take_pending(&mut self, place: Place) -> Option<Asked<'static>> {
         let at = self.pending.binary_search_by_key(&place, |pending| pending.0).ok()?;
         let asked = self.pending[at].1.take();
         while self.pending.front().is_some_and(|pending| pending.1.is_none()) {
@@ -326,7 +336,7 @@ impl Host {
         let Some(&(_, _, key)) = granted else {
             return self.refuse_reads();
         };
-        let request = Request { op: Op::Put, number: 0, table, key, value: Vec::new() };
+        let request = Request { op: Op::Put, number: 0, table, key, value: Cow::default() };
         self.give(Asked { client: None, request });
     }
 
@@ -356,9 +366,7 @@ impl Host {
     }
 
     fn take_local(&mut self, message: &[u8]) {
-        if self.core.deliver(message)
-            && let Some(grant) = granted(message, self.server)
-        {
+        if let Some(grant) = self.core.deliver(message).and_then(|envelope| granted(&envelope, self.server)) {
             self.note_grant(grant);
         }
     }
@@ -371,7 +379,7 @@ impl Host {
 
     fn route(&mut self) {
         let mut answers = Vec::new();
-        self.core.route(|_, message| answers.extend(Envelope::read(message).and_then(|envelope| envelope.answer())));
+        self.core.route(|answer| answers.push(answer));
         for answer in answers {
             self.acknowledge(answer);
         }
@@ -436,7 +444,7 @@ impl Host {
 
 /// Tells the coordinator that the server lives, if it has not been told lately, in the middle of what takes long.
 fn beat_if_due(beat: &mut Instant, server: Id, core: &mut Core) {
-    if BEAT <= beat.elapsed() {
+    if core.counts.works.is_multiple_of(LOOK) && BEAT <= beat.elapsed() {
         *beat = Instant::now();
         core.post(usize::from(core.config.hosts), &heartbeat(server));
         core.flush();
@@ -451,9 +459,8 @@ fn heartbeat(server: Id) -> Vec<u8> {
 }
 
 /// The range that a message grants to this server.
-fn granted(message: &[u8], server: Id) -> Option<(u32, u64, u64)> {
-    let envelope = Envelope::read(message)?;
-    let is_own = envelope.kind == kind::OWN && envelope.to == sevunthi::Address::Server(server);
+fn granted(envelope: &Envelope<'_>, server: Id) -> Option<(u32, u64, u64)> {
+    let is_own = envelope.kind == kind::OWN && envelope.to == Address::Server(server);
     if !is_own {
         return None;
     }

@@ -1,6 +1,7 @@
 //! What clients and servers say to one another: requests and answers, each behind its length in four bytes.
 
 use sevunthi::message::{u32_at, u64_at};
+use std::borrow::Cow;
 
 /// What is asked of a host or of the coordinator.
 #[derive(Clone, Copy, Debug, PartialEq, Eq)]
@@ -30,7 +31,7 @@ const OPS: [Op; 9] =
 
 /// A request.
 #[derive(Clone, Debug, PartialEq, Eq)]
-pub struct Request {
+pub struct Request<'a> {
     /// What is asked.
     pub op: Op,
     /// The client's number of it.
@@ -40,10 +41,10 @@ pub struct Request {
     /// The key, of 63 bits.
     pub key: u64,
     /// The value.
-    pub value: Vec<u8>,
+    pub value: Cow<'a, [u8]>,
 }
 
-impl Request {
+impl<'a> Request<'a> {
     /// Adds it to `out`.
     pub fn put(&self, out: &mut Vec<u8>) {
         out.extend_from_slice(&(21 + self.value.len() as u32).to_le_bytes());
@@ -55,14 +56,24 @@ impl Request {
     }
 
     /// The request of these bytes, without their length.
-    pub fn read(bytes: &[u8]) -> Option<Request> {
+    pub fn read(bytes: &'a [u8]) -> Option<Request<'a>> {
         Some(Request {
             op: *OPS.get(usize::from(*bytes.first()?))?,
             number: u64_at(bytes, 1)?,
             table: u32_at(bytes, 9)?,
             key: u64_at(bytes, 13)?,
-            value: bytes.get(21..)?.to_vec(),
+            value: bytes.get(21..)?.into(),
         })
+    }
+
+    /// The same without its value.
+    pub fn bare(&self) -> Request<'static> {
+        Request { value: Cow::default(), ..*self }
+    }
+
+    /// The same with a value of its own.
+    pub fn into_owned(self) -> Request<'static> {
+        Request { value: self.value.to_vec().into(), ..self.bare() }
     }
 }
 

@@ -1,33 +1,35 @@
 //! Whom a host waits for.
 
 use sevunthi::Id;
-use std::collections::HashMap;
 use std::time::Duration;
 
 /// Servers that were sent what they have to store, and that have not told since that they have stored something. All
 /// times are those of the host's own [`Awake`](crate::awake::Awake).
 #[derive(Debug, Default)]
 pub struct Waits {
-    /// Since when each is waited for, and when it was sent something last.
-    sent: HashMap<Id, (Duration, Duration)>,
+    /// Each with since when it is waited for, and when it was sent something last. They are few.
+    sent: Vec<(Id, Duration, Duration)>,
 }
 
 impl Waits {
     /// This server was sent something to store.
     pub fn sent(&mut self, to: Id, now: Duration) {
-        self.sent.entry(to).or_insert((now, now)).1 = now;
+        match self.sent.iter_mut().find(|(id, ..)| *id == to) {
+            Some((.., last)) => *last = now,
+            None => self.sent.push((to, now, now)),
+        }
     }
 
     /// This server has stored something.
     pub fn stored(&mut self, from: Id) {
-        self.sent.remove(&from);
+        self.sent.retain(|(id, ..)| *id != from);
     }
 
     /// Those that were waited for at least so long, with for how long. What is waited for is sent again with each
     /// timer: who was sent nothing for half of that time is not waited for any more.
     pub fn longer_than(&mut self, least: Duration, now: Duration) -> Vec<(Id, Duration)> {
-        self.sent.retain(|_, (_, last)| now - *last < least / 2);
-        let waits = self.sent.iter().map(|(id, (since, _))| (*id, now - *since));
+        self.sent.retain(|(.., last)| now - *last < least / 2);
+        let waits = self.sent.iter().map(|(id, since, _)| (*id, now - *since));
         waits.filter(|(_, wait)| least <= *wait).collect()
     }
 

@@ -145,7 +145,7 @@ mod tests {
         let mut batch = [vec![0; HEAD], whole.clone()].concat();
         Seal::new(b"secret", [1; 16]).close(&mut batch);
         let mut request = Vec::new();
-        let asked = Request { op: Op::Put, number: 3, table: 1, key: 5, value: b"value".to_vec() };
+        let asked = Request { op: Op::Put, number: 3, table: 1, key: 5, value: b"value".into() };
         asked.put(&mut request);
         let mut dice = Dice::new(7);
         for _ in 0..count {
