@@ -23,6 +23,7 @@ mod host;
 mod journal;
 mod net;
 mod options;
+mod poly1305;
 mod protocol;
 mod record;
 mod storm;

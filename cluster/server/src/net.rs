@@ -203,10 +203,10 @@ fn serve_peer(mut stream: TcpStream, number: u64, secret: &[u8], events: &Sender
     File::open("/dev/urandom")?.read_exact(&mut challenge)?;
     stream.write_all(&challenge)?;
     let mut seal = Seal::new(secret, challenge);
-    read_pieces(stream, MOST + 40, |mut batches| {
-        let mut rest = batches.as_mut_slice();
+    read_pieces(stream, MOST + 40, |batches| {
+        let mut rest = batches.as_slice();
         while let Some(length) = u32_at(rest, 0) {
-            let (batch, others) = rest.split_at_mut(4 + length as usize);
+            let (batch, others) = rest.split_at(4 + length as usize);
             match seal.open(batch) {
                 Some(frames) if events.send(Event::Peer(number, frames.to_vec())).is_ok() => rest = others,
                 _ => return false,

@@ -4,6 +4,7 @@
 //! four. A batch is its length in four bytes, its number on this connection in eight, the sum of 32 bytes that only who
 //! has the secret can make, and frames.
 
+use crate::poly1305;
 use sevunthi::mac;
 use sevunthi::message::{u32_at, u64_at};
 
@@ -67,25 +68,30 @@ pub fn frames(bytes: &[u8]) -> impl Iterator<Item = (u64, &[u8])> {
 pub struct Seal {
     secret: Vec<u8>,
     challenge: [u8; 16],
+    /// What the frames' own sum is made with.
+    key: [u8; 32],
     number: u64,
 }
 
 impl Seal {
     /// A connection whose reader has drawn this challenge.
     pub fn new(secret: &[u8], challenge: [u8; 16]) -> Seal {
-        Seal { secret: secret.to_vec(), challenge, number: 0 }
+        Seal { secret: secret.to_vec(), challenge, key: mac(secret, &challenge), number: 0 }
     }
 
-    /// The sum of the frames that stand behind `HEAD` bytes, of which it uses the last ones.
-    fn mac(&self, headed: &mut [u8]) -> [u8; 32] {
-        headed[HEAD - 24..HEAD - 8].copy_from_slice(&self.challenge);
-        headed[HEAD - 8..HEAD].copy_from_slice(&self.number.to_le_bytes());
-        mac(&self.secret, &headed[HEAD - 24..])
+    /// The sum of the next batch, which has these frames: an HMAC over the challenge, the batch's number and the sum of
+    /// the frames, which alone nobody sees. What the key is made of is shorter, and so no batch's.
+    fn mac(&self, frames: &[u8]) -> [u8; 32] {
+        let mut said = [0; 40];
+        said[..16].copy_from_slice(&self.challenge);
+        said[16..24].copy_from_slice(&self.number.to_le_bytes());
+        said[24..].copy_from_slice(&poly1305::sum(&self.key, frames));
+        mac(&self.secret, &said)
     }
 
     /// Makes the next batch of the frames that stand behind `HEAD` bytes, in place.
     pub fn close(&mut self, headed: &mut [u8]) {
-        let sum = self.mac(headed);
+        let sum = self.mac(&headed[HEAD..]);
         let length = headed.len() as u32 - 4;
         headed[..4].copy_from_slice(&length.to_le_bytes());
         headed[4..12].copy_from_slice(&self.number.to_le_bytes());
@@ -93,14 +99,14 @@ impl Seal {
         self.number += 1;
     }
 
-    /// The frames of a batch, with its length, if it is the next one. What stood before them is lost.
-    pub fn open<'a>(&mut self, batch: &'a mut [u8]) -> Option<&'a [u8]> {
-        let head: [u8; HEAD] = batch.get(..HEAD)?.try_into().ok()?;
-        let is_next = u64_at(&head, 4)? == self.number;
-        let made = self.mac(batch);
+    /// The frames of a batch, with its length, if it is the next one.
+    pub fn open<'a>(&mut self, batch: &'a [u8]) -> Option<&'a [u8]> {
+        let (head, frames) = batch.split_at_checked(HEAD)?;
+        let is_next = u64_at(head, 4)? == self.number;
+        let made = self.mac(frames);
         let differs = made.iter().zip(&head[12..]).fold(0, |differs, (x, y)| differs | (x ^ y));
         self.number += 1;
-        (is_next && differs == 0).then_some(&batch[HEAD..])
+        (is_next && differs == 0).then_some(frames)
     }
 }
 
@@ -116,11 +122,11 @@ mod tests {
         put_frame(7, b"hello", &mut out);
         let (mut writer, mut reader) = (Seal::new(b"secret", [1; 16]), Seal::new(b"secret", [1; 16]));
         writer.close(&mut out);
-        let opened = reader.open(&mut out.clone()).expect("it is the next one").to_vec();
-        assert_eq!(frames(&opened).collect::<Vec<_>>(), [(7, &b"hello"[..])]);
-        assert_eq!(reader.open(&mut out.clone()), None);
-        assert_eq!(Seal::new(b"another", [1; 16]).open(&mut out.clone()), None);
-        assert_eq!(Seal::new(b"secret", [2; 16]).open(&mut out.clone()), None);
+        let opened = reader.open(&out).expect("it is the next one");
+        assert_eq!(frames(opened).collect::<Vec<_>>(), [(7, &b"hello"[..])]);
+        assert_eq!(reader.open(&out), None);
+        assert_eq!(Seal::new(b"another", [1; 16]).open(&out), None);
+        assert_eq!(Seal::new(b"secret", [2; 16]).open(&out), None);
     }
 
     #[test]
@@ -153,8 +159,8 @@ mod tests {
             for (clock, message) in frames(&frames_of) {
                 assert!(clock == 7 && messages.contains(&message), "{message:?} was never sent");
             }
-            let mut other = mutated(&batch, &mut dice);
-            let opened = Seal::new(b"secret", [1; 16]).open(&mut other).map(<[u8]>::to_vec);
+            let other = mutated(&batch, &mut dice);
+            let opened = Seal::new(b"secret", [1; 16]).open(&other);
             assert!(opened.is_none_or(|frames| frames == whole));
             for piece in sevunthi::message::framed(&mutated(&request, &mut dice)) {
                 let _ = Request::read(piece);
