@@ -1,12 +1,15 @@
 -- Bytes that are one coding, and nothing behind it.
-use Rattle.std.proofs.Common.{◌≡◌, ℕ, List, [], ◌∷◌, ◌++◌, length, ◌⊎◌, ⊎_elim, sym, ap, ◌∙◌, arith, Result, Ok, Err}
+use Rattle.std.proofs.Common.{◌≡◌, ℕ, List, [], ◌∷◌, ◌++◌, length, ◌⊎◌, ⊎_elim, sym, ap, subst, ◌∙◌, arith, Result, Ok, Err}
 use Rattle.std.proofs.Common.{length-append, ◌<◌, OnOk}
 use Rattle.std.proofs.lemmas.List.{append-nil}
 use Rattle.rc_types.specs.declared.events.NodeWork.{NodeWork}
 use Rattle.rc_types.specs.declared.events.NodeWork.TheVariants.{Deliver}
 use Rattle.rc_types.specs.declared.messages.Message.{Message}
 use Rattle.rc_codec.specs.Spelling.{coded_message}
+use Rattle.rc_codec.proofs.EachKind.{coded_message_law}
+use Rattle.rc_codec.proofs.Promises.{is_prefix_free}
 use Rattle.rc_keeping.specs.Spelling.{coded_work}
+use Rattle.rc_process.specs.View.{ProcessView, given, written_down}
 use Rattle.rc_session.specs.declared.faults.SessionFault.{SessionFault}
 use Rattle.rc_session.specs.View.{SessionView, takes}
 use Rattle.rc_session.specs.Claims.{TakesWork, TakesMessage}
@@ -56,16 +59,22 @@ pub nothing_behind : (bytes code rest : List ℕ) → bytes ≡ code ++ rest →
 nothing_behind bytes code [] e h = e ∙ append-nil code
 nothing_behind bytes code (b ∷ rest) e h = absurd (omega arith)
 
--- the work, or the message, that the bytes are
-pub takes_work : {A : Type 0} (answer : Result A SessionFault) (given : NodeWork) (bytes : List ℕ) (old new : SessionView) →
-    OnOk answer (new ≡ takes old given) → ((work : NodeWork) → bytes ≡ coded_work work → given ≡ work) →
+-- the work that the bytes are
+pub takes_work : {A : Type 0} (answer : Result A SessionFault) (one : NodeWork) (bytes : List ℕ) (old new : SessionView) →
+    OnOk answer (new ≡ takes old one) → ((work : NodeWork) → bytes ≡ coded_work work → one ≡ work) →
     OnOk answer (TakesWork bytes old new)
-takes_work (Ok x) given bytes old new taken same = λ work is. taken ∙ ap (takes old) (same work is)
-takes_work (Err fault) given bytes old new taken same = tt
+takes_work (Ok x) one bytes old new taken same = λ work is. taken ∙ ap (takes old) (same work is)
+takes_work (Err fault) one bytes old new taken same = tt
 
-pub takes_message : {A : Type 0} (answer : Result A SessionFault) (given : Message) (bytes : List ℕ) (old new : SessionView) →
-    OnOk answer (new ≡ takes old (Deliver given)) → ((message : Message) → bytes ≡ coded_message message → given ≡ message) →
-    OnOk answer (TakesMessage bytes old new)
-takes_message (Ok x) given bytes old new taken same =
-    λ message is. taken ∙ ap (λ (m : Message). takes old (Deliver m)) (same message is)
-takes_message (Err fault) given bytes old new taken same = tt
+-- a coding is that of one message
+one-message : (x y : Message) → coded_message x ≡ coded_message y → x ≡ y
+one-message x y e = (is_prefix_free coded_message_law x y [] [] (ap (λ (code : List ℕ). code ++ []) e)).0
+
+-- the message that was given, and what is written down of it
+pub takes_given : (old : SessionView) (process : ProcessView) (journal : List ℕ) (one : Message) (bytes : List ℕ) →
+    bytes ≡ coded_message one → process ≡ given old.process (Deliver one) →
+    journal ≡ old.journal ++ written_down old.process.node (Deliver one) →
+    TakesMessage bytes old (record old { process = process; journal = journal })
+takes_given old process journal one bytes coded taken written = λ message is.
+    let e : one ≡ message = one-message one message (sym coded ∙ is) in
+    subst (λ (m : Message). record old { process = process; journal = journal } ≡ takes old (Deliver m)) e cc

@@ -64,9 +64,14 @@ impl Session {
         let Some(messages) = &self.hand else {
             return Ok(Vec::new(self.alloc));
         };
-        let mut code = Vec::with_capacity(self.alloc, ROOM_OF_STEP)?;
-        put_framed(self.alloc, messages.as_slice(), &mut code)?;
-        Ok(code)
+        match messages.as_slice() {
+            [] => Ok(Vec::new(self.alloc)),
+            messages => {
+                let mut code = Vec::with_capacity(self.alloc, ROOM_OF_STEP)?;
+                put_framed(self.alloc, messages, &mut code)?;
+                Ok(code)
+            }
+        }
     }
 
     /// Takes in hand what one step has sent and may leave, if nothing is there. Says whether something is.
@@ -93,21 +98,22 @@ impl Session {
 fn put_framed(alloc: Global, messages: &[Message], out: &mut Vec<u8>) -> Result<(), AllocError>
     ensures { OnOk result (out.new.items ≡ out.old.items ++ all_framed messages.now) }
 {
+    let mut room = Vec::with_capacity(alloc, ROOM_OF_MESSAGE)?;
     for message in messages {
-        put_frame(alloc, message, out)?;
+        put_frame(message, &mut room, out)?;
     }
     Ok(())
 }
 
-/// One message behind the length of its coding.
-fn put_frame(alloc: Global, message: &Message, out: &mut Vec<u8>) -> Result<(), AllocError>
+/// One message behind the length of its coding, which is made in a room that serves for the next one too.
+fn put_frame(message: &Message, room: &mut Vec<u8>, out: &mut Vec<u8>) -> Result<(), AllocError>
     ensures { OnOk result (out.new.items ≡ out.old.items ++ framed message.now) }
 {
-    let mut code = Vec::with_capacity(alloc, ROOM_OF_MESSAGE)?;
-    encode_message(message, &mut code)?;
-    let Ok(length) = u32::try_from(code.len()) else {
+    room.clear();
+    encode_message(message, room)?;
+    let Ok(length) = u32::try_from(room.len()) else {
         return Err(AllocError);
     };
     length.put(out)?;
-    out.extend_from_slice(code.as_slice())
+    out.extend_from_slice(room.as_slice())
 }

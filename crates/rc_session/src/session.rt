@@ -17,9 +17,9 @@ ghost use Rattle.rc_session.specs.declared.faults.SessionFault.TheVariants as wh
 
 use crate::faults::SessionFault;
 use crate::moving::moved;
-use crate::whole::{whole_message, whole_work};
+use crate::whole::whole_work;
 use rc_codec::DecodeFault;
-use rc_process::{BackFault, Process};
+use rc_process::{BackFault, MessageFault, Process};
 use rc_types::limits::{MAX_FACTOR, MAX_HOSTS, MAX_SEGMENT};
 use rc_types::{Fault, Message, NodeWork, Seq, Setup};
 use rc_world::{NodeState, StepFault};
@@ -180,10 +180,11 @@ impl Session {
         ensures full { result ≡ Err why.UsedUp → NodeHasRoom (node_seen self.old.process.node) → ⊥ }
         ensures same { OnErr result (session_seen self.new ≡ session_seen self.old) }
     {
-        match whole_message(self.alloc, bytes) {
-            Ok(message) => self.give(&NodeWork::Deliver(message)),
-            Err(DecodeFault::Malformed) => Err(SessionFault::Malformed),
-            Err(DecodeFault::OutOfMemory) => Err(SessionFault::NoMemory),
+        match self.process.give_message(bytes, &mut self.journal) {
+            Ok(_) => Ok(()),
+            Err(MessageFault::Malformed) => Err(SessionFault::Malformed),
+            Err(MessageFault::NoMemory) => Err(SessionFault::NoMemory),
+            Err(MessageFault::NoRoom) => Err(SessionFault::UsedUp),
         }
     }
 

@@ -1,16 +1,14 @@
-//! Bytes that are one work, or one message, and nothing behind it.
+//! Bytes that are one work, and nothing behind it.
 
 ghost use Rattle.std.specs.Prelude.{◌≡◌, ◌⊎◌, Ok, Err, IfOk, IfErr};
 ghost use Rattle.rc_types.specs.declared.events.NodeWork.{NodeWork as Given};
-ghost use Rattle.rc_types.specs.declared.messages.Message.{Message as Sent};
 ghost use Rattle.rc_codec.specs.declared.faults.DecodeFault.TheVariants.{Malformed, OutOfMemory};
-ghost use Rattle.rc_codec.specs.Spelling.{coded_message};
 ghost use Rattle.rc_keeping.specs.Spelling.{coded_work};
-ghost use Rattle.rc_session.specs.Claims.{IsNoWork, IsNoMessage};
+ghost use Rattle.rc_session.specs.Claims.{IsNoWork};
 
-use rc_codec::{DecodeFault, decode_message};
+use rc_codec::DecodeFault;
 use rc_keeping::decode_work;
-use rc_types::{Message, NodeWork};
+use rc_types::NodeWork;
 use std::alloc::Global;
 
 /// The work that these bytes are.
@@ -28,29 +26,6 @@ pub(crate) fn whole_work(alloc: Global, bytes: &[u8]) -> Result<NodeWork, Decode
         Ok((work, count)) => {
             if count == bytes.len() {
                 Ok(work)
-            } else {
-                Err(DecodeFault::Malformed)
-            }
-        }
-        Err(fault) => Err(fault),
-    }
-}
-
-/// The message that these bytes are.
-///
-/// # Errors
-///
-/// `Malformed`: they are none, or one and more. `OutOfMemory`: memory was refused.
-pub(crate) fn whole_message(alloc: Global, bytes: &[u8]) -> Result<Message, DecodeFault>
-    ensures coded { IfOk result (λ message. bytes.now ≡ coded_message message) }
-    ensures found { (message : Sent) → bytes.now ≡ coded_message message →
-        (result ≡ Ok message) ⊎ (result ≡ Err OutOfMemory) }
-    ensures malformed { IfErr result (λ fault. fault ≡ Malformed → IsNoMessage bytes.now) }
-{
-    match decode_message(alloc, bytes) {
-        Ok((message, count)) => {
-            if count == bytes.len() {
-                Ok(message)
             } else {
                 Err(DecodeFault::Malformed)
             }

@@ -1,8 +1,12 @@
-use Rattle.std.proofs.Common.{⊎_elim}
-use Rattle.rc_session.proofs.Wholes.{takes_message}
+use Rattle.rc_session.proofs.Wholes.{takes_given}
 use Rattle.rc_session.proofs.session.Session.deliver.Goals as goal
+use Rattle.rc_session.proofs.session.Session.deliver.Goals.{in-Ok, in-Err-Malformed, in-Err-NoMemory, in-Err-NoRoom}
 
-pub returns-in-Ok-clause-taken : goal.returns-in-Ok-clause-taken
-returns-in-Ok-clause-taken c =
-    takes_message _ c.in-Ok.message c.args.bytes.now _ _ c.give.ensures.taken
-    (λ message is. ⊎_elim (λ e. cc) (λ e. absurd cc) (c.in-Ok.ensures.found message is))
+pub returns-clause-taken : goal.returns-clause-taken
+returns-clause-taken c = elim c.match-give_message.branch [
+  | in-Ok w ↦ rw (w.result-is, ← c.self.view_is)
+      (takes_given _ _ _ _ _ w.in-Ok.ensures.coded w.in-Ok.ensures.taken w.in-Ok.ensures.written)
+  | in-Err-Malformed w ↦ rw w.result-is tt
+  | in-Err-NoMemory w ↦ rw w.result-is tt
+  | in-Err-NoRoom w ↦ rw w.result-is tt
+]
