@@ -1,12 +1,13 @@
 -- What was found alive stays so while the notes change.
 use Rattle.std.proofs.Common.{◌≡◌, ◌⊎◌, inl, inr, ℕ, ◌+◌, ◌-◌, ◌<◌, ◌≤◌, Bool, true, false, nat_lt, ◌&&◌, List, [], ◌∷◌, ◌++◌, length}
-use Rattle.std.proofs.Common.{take, drop, slice_get, slice_set, Some, None, Option, refl, sym, ap, subst, ◌∙◌, arith, length-append, zero, suc, replicate}
+use Rattle.std.proofs.Common.{take, drop, slice_get, slice_set, Some, None, Option, refl, sym, ap, subst, ◌∙◌, arith}
+use Rattle.std.proofs.Common.{length-append, zero, suc, replicate}
 use Rattle.std.proofs.lemmas.List.{take-append-le, take-take}
 use Rattle.std.proofs.lemmas.Bool.Decides.{nat_tests}
 use Rattle.rc_types.specs.declared.entries.Entry.{Entry}
 use Rattle.rc_model.specs.Versions.{is_of, is_outdated}
 use Rattle.rc_ownership.specs.declared.alive.AliveEntry.{AliveEntry}
-use Rattle.rc_ownership.specs.Alive.{group_of, AreBounds, WasAlive, AreAlive}
+use Rattle.rc_ownership.specs.Alive.{group_of, WasAlive, AreAlive}
 use Rattle.rc_ownership.specs.Slots.{slot_of}
 use Rattle.rc_ownership.proofs.Bounding.{set-there, among-first, among-first-back, in-middle, none-passes, below-taken}
 

@@ -1,10 +1,7 @@
 -- Bounds of groups, place by place, and what was found alive.
-use Rattle.std.proofs.Common.{◌≡◌, ◌⊎◌, inl, inr, ℕ, zero, suc, ◌+◌, ◌-◌, ◌<◌, ◌≤◌, Bool, true, false, List, [], ◌∷◌, ◌++◌, length, take, drop}
-use Rattle.std.proofs.Common.{true≢false, ◌||◌, slice_get, slice_set, Some, None, Option, refl, sym, ap, subst, ◌∙◌, arith}
+use Rattle.std.proofs.Common.{◌≡◌, ◌⊎◌, inl, inr, ℕ, zero, suc, ◌+◌, ◌<◌, ◌≤◌, Bool, true, false, ◌||◌, true≢false, List, []}
+use Rattle.std.proofs.Common.{◌∷◌, ◌++◌, length, take, drop, slice_get, slice_set, Some, refl, ap, subst, ◌∙◌, arith}
 use Rattle.std.specs.List.{list_any}
-use Rattle.rc_types.specs.declared.entries.Entry.{Entry}
-use Rattle.rc_ownership.specs.Alive.{group_of, AreBounds, WasAlive, AreAlive}
-use Rattle.rc_ownership.specs.Slots.{slot_of}
 
 -- what stands in a list of which one place was set: what was set there, or what stood there
 pub set-there : {X : Type 0} (xs : List X) (place other : ℕ) (x y : X) → slice_get (slice_set xs place x) other ≡ Some y →

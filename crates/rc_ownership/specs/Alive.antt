@@ -31,7 +31,8 @@ abbrev pub WasAlive : List Entry → AliveEntry → Type 0
 WasAlive noted found = IsAlive (take found.durable noted) found
 
 -- the bounds are such, and so is what was found of each segment
-pub record AreAlive (noted : List Entry) (durable : ℕ) (alive : List (Option AliveEntry)) (bounds : List ℕ) : Type 0 where
+pub record AreAlive (noted : List Entry) (durable : ℕ) (alive : List (Option AliveEntry)) (bounds : List ℕ)
+    : Type 0 where
   pub bounded : AreBounds noted durable bounds
   pub within : (seg : ℕ) (found : AliveEntry) → slice_get alive seg ≡ Some (Some found) → found.durable ≤ durable
   pub found : (seg : ℕ) (found : AliveEntry) → slice_get alive seg ≡ Some (Some found) → WasAlive noted found

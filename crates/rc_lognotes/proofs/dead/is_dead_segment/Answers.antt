@@ -4,7 +4,7 @@ use Rattle.rc_lognotes.specs.Keeper.{keeper}
 use Rattle.rc_lognotes.proofs.Outdated.{unknown-open, open-alive, none-unknown}
 use Rattle.rc_lognotes.proofs.dead.is_dead_segment.Goals as goal
 
-pub returns-in_default : goal.returns-in_default
-returns-in_default c =
+pub returns-in_default-clause-dead : goal.returns-in_default-clause-dead
+returns-in_default-clause-dead c =
     open-alive (keeper true (log_of c.args.log.now)) c.args.seg
     (unknown-open c.args.log.now c.args.seg (none-unknown _ _ c.in_default.ensures))

@@ -13,10 +13,11 @@ loop-entry-preserved c =
     let group_is = c.group_of.ensures ∙ ap group_of c.slot_of.ensures in
     record {
       raised = λ place entry bound at there.
-          let there_then = subst (λ bounds. slice_get bounds (group_of (slot_of entry)) ≡ Some bound) c.raise_bound.ensures there in
+          let group = group_of (slot_of entry) in
+          let there_then = subst (λ bounds. slice_get bounds group ≡ Some bound) c.raise_bound.ensures there in
           let among = subst (λ n. slice_get (take n c.args.newly.now) place ≡ Some entry) one_more at in
           elim (taken-more c.args.newly.now c.loop-entry.entry-index place entry c.entry-item.result among here) [
-            | inl earlier ↦ elim (set-there c.loop-entry.bounds.items c.group_of.result (group_of (slot_of entry)) c.args.durable bound there_then) [
+            | inl earlier ↦ elim (set-there c.loop-entry.bounds.items c.group_of.result group c.args.durable bound there_then) [
               | inl same ↦ same
               | inr before ↦ c.loop-entry.invariant.raised place entry bound earlier before
             ]

@@ -44,7 +44,7 @@ invariant_of-self c =
           alive-durable c.self.inside.noted.items c.self.inside.durable c.args.count c.self.inside.alive.items
           c.self.inside.bounds.items c.raise_bounds.new.bounds.items (omega arith) c.self.invariant.alive_are
           (λ place entry bound at there. c.raise_bounds.ensures.raised place entry bound
-          (subst (λ (entries : List Entry). slice_get (take (c.args.count - c.self.inside.durable) (drop c.self.inside.durable entries)) place
-          ≡ Some entry) (sym c.as_slice.ensures.value) at) there)
+          (subst (λ (noted : List Entry). slice_get (take (c.args.count - c.self.inside.durable) (drop c.self.inside.durable noted))
+          place ≡ Some entry) (sym c.as_slice.ensures.value) at) there)
           c.raise_bounds.ensures.others;
     }

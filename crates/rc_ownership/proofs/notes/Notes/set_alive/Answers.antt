@@ -1,5 +1,5 @@
 use Rattle.std.proofs.Common.{ap, sym, subst, ◌∙◌}
-use Rattle.rc_ownership.specs.Alive.{IsAlive, WasAlive}
+use Rattle.rc_ownership.specs.Alive.{WasAlive}
 use Rattle.rc_ownership.proofs.AliveEntries.{alive-kept}
 use Rattle.rc_ownership.proofs.notes.Notes.set_alive.Goals as goal
 
