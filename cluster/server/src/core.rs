@@ -3,7 +3,7 @@
 use crate::awake::Awake;
 use crate::faults::{Failing, Mangle, Wrong};
 use crate::journal::{self, Journal};
-use crate::net::{Event, Writer, listen};
+use crate::net::{Event, PeerWriter, Writer, listen};
 use crate::protocol::Reply;
 use crate::record::Record;
 use crate::waits::Waits;
@@ -64,9 +64,6 @@ impl Config {
 /// For so many bytes of answers to a client there is room at once.
 const ANSWERS: usize = 1024;
 
-/// What is queued for a peer has as much room at once as the last time, but no more than this.
-const MOST_BEGUN: usize = 1 << 16;
-
 /// A node with its journal, its peers and its clients.
 pub struct Core {
     pub config: Config,
@@ -77,7 +74,7 @@ pub struct Core {
     began: Instant,
     base: u64,
     ready: Ready,
-    peers: Vec<Writer>,
+    peers: Vec<PeerWriter>,
     outs: Vec<Vec<u8>>,
     clients: BTreeMap<u64, Writer>,
     answers: BTreeMap<u64, Vec<u8>>,
@@ -157,7 +154,7 @@ impl Core {
             began: Instant::now(),
             base: since_boot(),
             ready,
-            peers: places.clone().map(|place| Writer::to_peer(config.at(place), config.secret.clone())).collect(),
+            peers: places.clone().map(|place| PeerWriter::new(config.at(place), config.secret.clone())).collect(),
             outs: places.map(|_| Vec::new()).collect(),
             clients: BTreeMap::new(),
             answers: BTreeMap::new(),
@@ -308,8 +305,7 @@ impl Core {
             written.unwrap_or_else(|error| failed("the record can't be written", error));
         }
         for (out, peer) in self.outs.iter_mut().zip(&self.peers).filter(|(out, _)| !out.is_empty()) {
-            let next = Vec::with_capacity(out.len().min(MOST_BEGUN));
-            peer.send(std::mem::replace(out, next));
+            peer.send(out);
         }
         for (client, bytes) in std::mem::take(&mut self.answers) {
             if let Some(writer) = self.clients.get(&client) {

@@ -1,9 +1,10 @@
-//! Connections: each is read by a thread that hands whole pieces over, and written by another.
+//! Connections: each is read by a thread that hands whole pieces over, and written by another. What a peer takes at
+//! once the node's thread writes.
 
 use crate::wire::{HEAD, MOST, Seal};
 use sevunthi::message::u32_at;
 use std::fs::File;
-use std::io::{self, Read, Write};
+use std::io::{self, ErrorKind, Read, Write};
 use std::net::{TcpListener, TcpStream};
 use std::sync::atomic::{AtomicUsize, Ordering};
 use std::sync::mpsc::{Receiver, Sender, channel};
@@ -28,6 +29,9 @@ pub enum Event {
 /// A batch that has so many bytes is sent before more is added, so that who takes it is soon done with it.
 const LONG: usize = 1 << 18;
 
+/// What has fewer bytes is written by the node's thread, where a peer's connection takes it at once.
+const SHORT: usize = 1 << 16;
+
 /// What is written to a connection by a thread of its own.
 pub struct Writer {
     to: Sender<Vec<u8>>,
@@ -40,7 +44,12 @@ impl Writer {
         if bytes.is_empty() || MOST < self.queued.load(Ordering::Relaxed) {
             return;
         }
-        self.queued.fetch_add(bytes.len(), Ordering::Relaxed);
+        self.push(bytes);
+    }
+
+    /// Queues these bytes, which count until the thread is done with them.
+    fn push(&self, bytes: Vec<u8>) {
+        self.queued.fetch_add(weight(&bytes), Ordering::Relaxed);
         let _ = self.to.send(bytes);
     }
 
@@ -50,52 +59,142 @@ impl Writer {
         (Writer { to, queued: Arc::clone(&queued) }, from, queued)
     }
 
-    /// A writer to this peer, who is connected to when there is something to write. What a broken connection had is
-    /// lost.
-    pub fn to_peer(address: String, secret: Vec<u8>) -> Writer {
-        let (writer, from, queued) = Writer::new();
-        thread::spawn(move || {
-            let mut open: Option<(TcpStream, Seal)> = None;
-            let mut batch = Vec::new();
-            while let Ok(bytes) = from.recv() {
-                batch.resize(HEAD, 0);
-                batch.extend_from_slice(&bytes);
-                while batch.len() < LONG {
-                    let Ok(more) = from.try_recv() else { break };
-                    batch.extend_from_slice(&more);
-                }
-                queued.fetch_sub(batch.len() - HEAD, Ordering::Relaxed);
-                if open.is_none() {
-                    open = connect(&address, &secret).ok();
-                }
-                if let Some((stream, seal)) = &mut open {
-                    seal.close(&mut batch);
-                    if stream.write_all(&batch).is_err() {
-                        open = None;
-                    }
-                }
-                batch.clear();
-                batch.shrink_to(LONG);
-            }
-        });
-        writer
-    }
-
     /// A writer to a client.
     fn to_client(mut stream: TcpStream) -> Writer {
         let (writer, from, queued) = Writer::new();
         thread::spawn(move || {
-            while let Ok(mut bytes) = from.recv() {
-                while let Ok(more) = from.try_recv() {
-                    bytes.extend_from_slice(&more);
-                }
-                queued.fetch_sub(bytes.len(), Ordering::Relaxed);
+            while let Some((bytes, weight)) = all_queued(&from, MOST) {
+                queued.fetch_sub(weight, Ordering::Relaxed);
                 if stream.write_all(&bytes).is_err() {
                     return;
                 }
             }
         });
         writer
+    }
+}
+
+/// How much bytes in a queue count: what is empty counts too.
+fn weight(bytes: &[u8]) -> usize {
+    bytes.len() + 1
+}
+
+/// Waits for what is queued, and takes all of it, or so much, with how much it counts.
+fn all_queued(from: &Receiver<Vec<u8>>, most: usize) -> Option<(Vec<u8>, usize)> {
+    let mut bytes = from.recv().ok()?;
+    let mut count = weight(&bytes);
+    while bytes.len() < most {
+        let Ok(more) = from.try_recv() else { break };
+        count += weight(&more);
+        bytes.extend_from_slice(&more);
+    }
+    Some((bytes, count))
+}
+
+/// A writer to a peer. While nothing is queued the node's thread writes, as far as the connection takes it at once; all
+/// else is left to a thread, which connects, and may wait.
+pub struct PeerWriter {
+    writer: Writer,
+    link: Arc<Mutex<Link>>,
+}
+
+/// A connection to a peer, if there is one, which takes nothing that it would have to wait for; a batch, and how many
+/// bytes of it are written. It is the thread's own while something is queued.
+#[derive(Default)]
+struct Link {
+    open: Option<(TcpStream, Seal)>,
+    batch: Vec<u8>,
+    written: usize,
+}
+
+impl PeerWriter {
+    /// A writer to this peer, who is connected to when there is something to write. What a broken connection had is
+    /// lost.
+    pub fn new(address: String, secret: Vec<u8>) -> PeerWriter {
+        let (writer, from, queued) = Writer::new();
+        let link = Arc::new(Mutex::new(Link::default()));
+        let shared = Arc::clone(&link);
+        thread::spawn(move || {
+            while let Some((frames, weight)) = all_queued(&from, LONG) {
+                let Ok(mut link) = shared.lock() else { return };
+                link.write_all(&frames, &address, &secret);
+                drop(link);
+                queued.fetch_sub(weight, Ordering::Release);
+            }
+        });
+        PeerWriter { writer, link }
+    }
+
+    /// Writes these frames, or queues them. Room for the next ones is left in their place.
+    pub fn send(&self, frames: &mut Vec<u8>) {
+        if !frames.is_empty()
+            && frames.len() < SHORT
+            && self.writer.queued.load(Ordering::Acquire) == 0
+            && let Ok(mut link) = self.link.lock()
+            && link.open.is_some()
+        {
+            if !link.write_some(frames) {
+                // what is left of the batch is the thread's
+                self.writer.push(Vec::new());
+            }
+            frames.clear();
+        } else {
+            let next = Vec::with_capacity(frames.len().min(SHORT));
+            self.writer.send(std::mem::replace(frames, next));
+        }
+    }
+}
+
+impl Link {
+    /// Makes a batch of these frames.
+    fn begin(&mut self, frames: &[u8]) {
+        self.batch.clear();
+        self.batch.resize(HEAD, 0);
+        self.batch.extend_from_slice(frames);
+        self.written = 0;
+        if let Some((_, seal)) = &mut self.open {
+            seal.close(&mut self.batch);
+        }
+    }
+
+    /// Writes what the connection takes of these frames at once. Says whether nothing is left.
+    fn write_some(&mut self, frames: &[u8]) -> bool {
+        self.begin(frames);
+        let Some((stream, _)) = &mut self.open else { return true };
+        match stream.write(&self.batch) {
+            Ok(count) => self.written = count,
+            Err(error) if matches!(error.kind(), ErrorKind::WouldBlock | ErrorKind::Interrupted) => {}
+            Err(_) => self.open = None,
+        }
+        self.open.is_none() || self.written == self.batch.len()
+    }
+
+    /// Writes what is left of the batch, and then these frames, to a new connection where there is none.
+    fn write_all(&mut self, frames: &[u8], address: &str, secret: &[u8]) {
+        self.finish();
+        if frames.is_empty() {
+            return;
+        }
+        if self.open.is_none() {
+            self.open = connect(address, secret).ok();
+        }
+        self.begin(frames);
+        self.finish();
+    }
+
+    /// Writes what is left of the batch, and waits for that.
+    fn finish(&mut self) {
+        if let Some((stream, _)) = &mut self.open
+            && self.written < self.batch.len()
+        {
+            let written = stream.set_nonblocking(false).and_then(|()| stream.write_all(&self.batch[self.written..]));
+            if written.and_then(|()| stream.set_nonblocking(true)).is_err() {
+                self.open = None;
+            }
+        }
+        self.batch.clear();
+        self.batch.shrink_to(LONG);
+        self.written = 0;
     }
 }
 
@@ -109,6 +208,7 @@ fn connect(address: &str, secret: &[u8]) -> io::Result<(TcpStream, Seal)> {
     let mut challenge = [0; 16];
     stream.read_exact(&mut challenge)?;
     stream.set_write_timeout(Some(Duration::from_secs(2)))?;
+    stream.set_nonblocking(true)?;
     Ok((stream, Seal::new(secret, challenge)))
 }
 
@@ -221,6 +321,45 @@ fn serve_peer(mut stream: TcpStream, number: u64, secret: &[u8], events: &Sender
 #[cfg(test)]
 mod tests {
     use super::*;
+    use crate::wire::{frames, put_frame};
+
+    /// More than a connection holds, to one who reads nothing at first.
+    #[test]
+    fn frames_come_whole_and_in_order_from_either_thread() -> io::Result<()> {
+        let listener = TcpListener::bind("127.0.0.1:0")?;
+        let writer = PeerWriter::new(listener.local_addr()?.to_string(), b"secret".to_vec());
+        let count = 4000;
+        let reader = thread::spawn(move || -> io::Result<Vec<u64>> {
+            let (mut stream, _) = listener.accept()?;
+            stream.read_exact(&mut [0])?;
+            stream.write_all(&[7; 16])?;
+            thread::sleep(Duration::from_millis(300));
+            let (mut seal, mut clocks) = (Seal::new(b"secret", [7; 16]), Vec::new());
+            read_pieces(stream, MOST, |pieces| {
+                let mut rest = pieces.as_slice();
+                while let Some(length) = u32_at(rest, 0) {
+                    let (batch, others) = rest.split_at(4 + length as usize);
+                    clocks.extend(seal.open(batch).into_iter().flat_map(frames).map(|(clock, _)| clock));
+                    rest = others;
+                }
+                clocks.len() < count
+            });
+            Ok(clocks)
+        });
+        let (message, mut out) = (vec![1; 10_000], Vec::new());
+        for clock in 0..count as u64 {
+            put_frame(clock, &message, &mut out);
+            writer.send(&mut out);
+            assert!(out.is_empty());
+            if clock % 1000 == 0 || clock + 20 > count as u64 {
+                // the thread connects, or has caught up
+                thread::sleep(Duration::from_millis(50));
+            }
+        }
+        let clocks = reader.join().expect("it has not panicked")?;
+        assert!(clocks.into_iter().eq(0..count as u64));
+        Ok(())
+    }
 
     /// Gives so many bytes at a time.
     struct Slowly<'a>(&'a [u8], usize);
