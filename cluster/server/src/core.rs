@@ -219,7 +219,7 @@ impl Core {
         }
     }
 
-    /// What may leave now goes to the peers' queues; what is for clients is handed to `answer`.
+    /// What may leave now is put together for each peer; what is for clients is handed to `answer`.
     pub fn route(&mut self, mut answer: impl FnMut(Answer)) {
         let mut ready = std::mem::take(&mut self.ready);
         if let Err(fault) = self.node.ready(&mut ready) {

@@ -25,9 +25,6 @@ const SOME: usize = 32;
 /// How often a server says that it lives.
 const BEAT: Duration = Duration::from_millis(100);
 
-/// In the middle of what takes long, whether that is due is looked at once in so many messages.
-const LOOK: u64 = 8;
-
 /// F3: the head is being rolled, so that a write has to wait.
 const ROLLING: u8 = 3;
 
@@ -444,7 +441,7 @@ impl Host {
 
 /// Tells the coordinator that the server lives, if it has not been told lately, in the middle of what takes long.
 fn beat_if_due(beat: &mut Instant, server: Id, core: &mut Core) {
-    if core.counts.works.is_multiple_of(LOOK) && BEAT <= beat.elapsed() {
+    if BEAT <= beat.elapsed() {
         *beat = Instant::now();
         core.post(usize::from(core.config.hosts), &heartbeat(server));
         core.flush();

@@ -49,7 +49,7 @@ impl Writer {
 
     /// Queues these bytes, which count until the thread is done with them.
     fn push(&self, bytes: Vec<u8>) {
-        self.queued.fetch_add(weight(&bytes), Ordering::Relaxed);
+        self.queued.fetch_add(weight(bytes.capacity()), Ordering::Relaxed);
         let _ = self.to.send(bytes);
     }
 
@@ -74,18 +74,18 @@ impl Writer {
     }
 }
 
-/// How much bytes in a queue count: what is empty counts too.
-fn weight(bytes: &[u8]) -> usize {
-    bytes.len() + 1
+/// How much bytes in a queue count that take so much room: what is empty counts too.
+fn weight(room: usize) -> usize {
+    room + 1
 }
 
 /// Waits for what is queued, and takes all of it, or so much, with how much it counts.
 fn all_queued(from: &Receiver<Vec<u8>>, most: usize) -> Option<(Vec<u8>, usize)> {
     let mut bytes = from.recv().ok()?;
-    let mut count = weight(&bytes);
+    let mut count = weight(bytes.capacity());
     while bytes.len() < most {
         let Ok(more) = from.try_recv() else { break };
-        count += weight(&more);
+        count += weight(more.capacity());
         bytes.extend_from_slice(&more);
     }
     Some((bytes, count))
@@ -98,8 +98,8 @@ pub struct PeerWriter {
     link: Arc<Mutex<Link>>,
 }
 
-/// A connection to a peer, if there is one, which takes nothing that it would have to wait for; a batch, and how many
-/// bytes of it are written. It is the thread's own while something is queued.
+/// A connection to a peer, if there is one; its last batch, and how many bytes of that are written. The connection does
+/// not block, but while the thread finishes a batch. While something is queued only the thread uses this.
 #[derive(Default)]
 struct Link {
     open: Option<(TcpStream, Seal)>,
@@ -356,6 +356,7 @@ mod tests {
                 thread::sleep(Duration::from_millis(50));
             }
         }
+        drop(writer);
         let clocks = reader.join().expect("it has not panicked")?;
         assert!(clocks.into_iter().eq(0..count as u64));
         Ok(())

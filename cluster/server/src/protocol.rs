@@ -73,7 +73,8 @@ impl<'a> Request<'a> {
 
     /// The same with a value of its own.
     pub fn into_owned(self) -> Request<'static> {
-        Request { value: self.value.to_vec().into(), ..self.bare() }
+        let bare = self.bare();
+        Request { value: self.value.into_owned().into(), ..bare }
     }
 }
 

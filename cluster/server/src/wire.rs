@@ -80,7 +80,8 @@ impl Seal {
     }
 
     /// The sum of the next batch, which has these frames: an HMAC over the challenge, the batch's number and the sum of
-    /// the frames, which alone nobody sees. What the key is made of is shorter, and so no batch's.
+    /// the frames, which nobody sees. The key is an HMAC over 16 bytes, a batch's is over 40: neither can be taken for
+    /// the other.
     fn mac(&self, frames: &[u8]) -> [u8; 32] {
         let mut said = [0; 40];
         said[..16].copy_from_slice(&self.challenge);
