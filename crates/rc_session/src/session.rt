@@ -171,7 +171,8 @@ impl Session {
     ///
     /// # Errors
     ///
-    /// `UsedUp`, which comes first, whatever the bytes are; `Malformed`, `NoMemory`. After each nothing has changed.
+    /// `Malformed`, `NoMemory`, `UsedUp`; `Refused` never, where the node is a host or the coordinator. After each
+    /// nothing has changed.
     pub fn deliver(&mut self, bytes: &[u8]) -> Result<(), SessionFault>
         ensures taken { OnOk result (TakesMessage bytes.now (session_seen self.old) (session_seen self.new)) }
         ensures coded { OnOk result (IsNoMessage bytes.now → ⊥) }
