@@ -16,3 +16,4 @@ pub mod StuckLemmas
 pub mod ListRuleLemmas
 pub mod FiledLemmas
 pub mod WatchLemmas
+pub mod Beginnings

@@ -177,9 +177,28 @@ impl LogHead {
         self.phase = Phase::Writing;
     }
 
+    /// Frees the segments that the head's digest leaves out: none, where it begins with all of the old head's.
+    fn free_left_out(&mut self)
+        requires { 1 < (log_of self.old).head }
+        ensures freed { log_of self.new ≡ with_freed (left_out (log_of self.old)) (log_of self.old) }
+        ensures before { before_of self.new ≡ before_of self.old }
+    {
+        if !self.leaves_none_out() {
+            self.free_each();
+        }
+    }
+
+    /// Whether the head's digest begins with all of the old head's: then it leaves none out.
+    fn leaves_none_out(&self) -> bool
+        requires { 1 < (log_of self.now).head }
+        ensures { result ≡ true → left_out (log_of self.now) ≡ [] }
+    {
+        begins_with(self.newest().digest(), self.previous().digest())
+    }
+
     /// Frees the segments that the head's digest leaves out. It goes over the old head's digest once, and over the
     /// head's once more for each that this lacks.
-    fn free_left_out(&mut self)
+    fn free_each(&mut self)
         requires { 1 < (log_of self.old).head }
         ensures freed { log_of self.new ≡ with_freed (left_out (log_of self.old)) (log_of self.old) }
         ensures before { before_of self.new ≡ before_of self.old }
@@ -249,9 +268,19 @@ impl LogHead {
     }
 }
 
+/// Those of the numbers that the others lack: none, where the others begin with all of them.
+fn without(alloc: Global, numbers: &[u16], others: &[u16]) -> Result<Vec<u16>, AllocError>
+    ensures { IfOk result (λ rest. rest.items ≡ filter (λ seg. not (list_any (nat_eq seg) others.now)) numbers.now) }
+{
+    if begins_with(others, numbers) {
+        return Ok(Vec::new(alloc));
+    }
+    lacking(alloc, numbers, others)
+}
+
 /// Those of the numbers that the others lack. Where the others are these without some, it goes over them once, and once
 /// more for each that they lack.
-fn without(alloc: Global, numbers: &[u16], others: &[u16]) -> Result<Vec<u16>, AllocError>
+fn lacking(alloc: Global, numbers: &[u16], others: &[u16]) -> Result<Vec<u16>, AllocError>
     ensures { IfOk result (λ rest. rest.items ≡ filter (λ seg. not (list_any (nat_eq seg) others.now)) numbers.now) }
 {
     let mut rest = Vec::new(alloc);
@@ -264,6 +293,21 @@ fn without(alloc: Global, numbers: &[u16], others: &[u16]) -> Result<Vec<u16>, A
         }
     }
     Ok(rest)
+}
+
+/// Whether the numbers begin with these: then they lack none of them.
+fn begins_with(numbers: &[u16], first: &[u16]) -> bool
+    ensures { result ≡ true → filter (λ seg. not (list_any (nat_eq seg) numbers.now)) first.now ≡ [] }
+{
+    if numbers.len() < first.len() {
+        return false;
+    }
+    for place in 0..first.len() {
+        if numbers[place] != first[place] {
+            return false;
+        }
+    }
+    true
 }
 
 /// Whether the number stands at this place of these.

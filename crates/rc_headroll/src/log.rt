@@ -167,6 +167,15 @@ impl LogHead {
         Some(&self.segments[usize::from(seg) - 1])
     }
 
+    /// Keeps in mind that the entry of this segment with so many before it was found not to be outdated.
+    pub fn keep_found(&mut self, seg: u16, offset: usize)
+        ensures { self.new ≡ self.old }
+    {
+        if self.has(seg) {
+            self.segments[usize::from(seg) - 1].keep_found(offset);
+        }
+    }
+
     /// Whether there is a segment of this number.
     pub fn has(&self, seg: u16) -> bool
         ensures { result ≡ has_segment (log_of self.now) seg }

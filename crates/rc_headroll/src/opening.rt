@@ -203,6 +203,11 @@ fn without_dead(
     ensures { IfOk result (λ rest.
         rest.items ≡ filter (λ seg. nat_eq seg head || not (list_any (nat_eq seg) dead.now)) digest.now) }
 {
+    if dead.is_empty() {
+        let mut all = Vec::new(alloc);
+        all.extend_from_slice(digest)?;
+        return Ok(all);
+    }
     digest
         .iter()
         .copied()

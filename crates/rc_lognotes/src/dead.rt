@@ -1,7 +1,8 @@
 //! Which segments of a log are dead.
 
-ghost use Rattle.std.specs.Prelude.{◌≡◌, ◌<◌, true, take, IfOk};
+ghost use Rattle.std.specs.Prelude.{◌≡◌, ◌<◌, true, false, take, map, IfOk};
 ghost use Rattle.rc_model.specs.Log.{entries_of};
+ghost use Rattle.rc_model.specs.Versions.{is_dead};
 ghost use Rattle.rc_model.specs.Master.{is_dead_segment, dead_segments};
 ghost use Rattle.rc_headroll.specs.LogData.{log_of};
 ghost use Rattle.rc_ownership.specs.Owner.{durable_of};
@@ -9,26 +10,29 @@ ghost use Rattle.rc_lognotes.specs.Keeper.{keeper};
 
 use rc_headroll::LogHead;
 use rc_ownership::Ownership;
+use rc_segment::Segment;
 use std::alloc::{AllocError, Global};
 
 /// The dead segments of the head's digest, where the master frees any.
 pub(crate) fn dead_segments(
     alloc: Global,
     free: bool,
-    log: &LogHead,
+    log: &mut LogHead,
     ownership: &mut Ownership,
 ) -> Result<Vec<u16>, AllocError>
-    requires durable { durable_of ownership.old ≡ take (log_of log.now).durable (entries_of (log_of log.now)) }
-    requires some { 0 < (log_of log.now).head }
-    ensures dead { IfOk result (λ segs. segs.items ≡ dead_segments (keeper free (log_of log.now))) }
+    requires durable { durable_of ownership.old ≡ take (log_of log.old).durable (entries_of (log_of log.old)) }
+    requires some { 0 < (log_of log.old).head }
+    ensures dead { IfOk result (λ segs. segs.items ≡ dead_segments (keeper free (log_of log.old))) }
+    ensures log { log.new ≡ log.old }
     ensures same { ownership.new ≡ ownership.old }
 {
     let mut dead = Vec::new(alloc);
     if !free {
         return Ok(dead);
     }
-    let digest = log.newest().digest();
-    for seg in digest {
+    let digest = log.newest().share_digest()?;
+    let segs = digest.as_slice();
+    for seg in segs {
         if is_dead_segment(alloc, *seg, log, ownership) {
             dead.push(*seg)?;
         }
@@ -37,14 +41,32 @@ pub(crate) fn dead_segments(
 }
 
 /// Whether the segment is shut and each of its entries has a greater version of its key under its term among
-/// the durable ones.
-fn is_dead_segment(alloc: Global, seg: u16, log: &LogHead, ownership: &mut Ownership) -> bool
-    requires { durable_of ownership.old ≡ take (log_of log.now).durable (entries_of (log_of log.now)) }
-    ensures dead { result ≡ is_dead_segment (keeper true (log_of log.now)) seg }
+/// the durable ones. One that is found to have none is kept in mind.
+fn is_dead_segment(alloc: Global, seg: u16, log: &mut LogHead, ownership: &mut Ownership) -> bool
+    requires { durable_of ownership.old ≡ take (log_of log.old).durable (entries_of (log_of log.old)) }
+    ensures dead { result ≡ is_dead_segment (keeper true (log_of log.old)) seg }
+    ensures log { log.new ≡ log.old }
     ensures same { ownership.new ≡ ownership.old }
 {
     let Some(segment) = log.segment(seg) else {
         return false;
     };
-    segment.is_shut() && ownership.is_dead_segment(alloc, seg, segment.entries())
+    if !segment.is_shut() || is_known_alive(seg, segment, ownership) {
+        return false;
+    }
+    let Some(offset) = ownership.find_alive(alloc, seg, segment.entries()) else {
+        return true;
+    };
+    log.keep_found(seg, offset);
+    false
+}
+
+/// Whether an entry of the segment was found that is still known not to be outdated. It is no walk.
+fn is_known_alive(seg: u16, segment: &Segment, ownership: &Ownership) -> bool
+    ensures { result ≡ true → is_dead (durable_of ownership.now) (map (λ one. one.0) segment.now.entries) ≡ false }
+{
+    match segment.found() {
+        Some(found) => ownership.is_known_alive(seg, found),
+        None => false,
+    }
 }

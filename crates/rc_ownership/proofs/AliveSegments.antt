@@ -9,25 +9,10 @@ use Rattle.rc_ownership.specs.Alive.{IsAliveAt}
 abbrev pub bare : List (Entry × Bool) → List Entry
 bare entries = map (λ one. one.0) entries
 
-and-false : (a : Bool) → (a && false) ≡ false
-and-false true = refl
-and-false false = refl
-
 pub and-swap : (a b c d : Bool) → (b && c) ≡ d → (b && (a && c)) ≡ (a && d)
 and-swap true b c d e = e
 and-swap false true c d e = refl
 and-swap false false c d e = refl
-
--- one that isn't outdated makes the segment alive
-pub one-alive : (durable : List Entry) (entries : List (Entry × Bool)) (place : ℕ) (one : Entry × Bool) →
-    slice_get entries place ≡ Some one → is_outdated durable one.0 ≡ false → is_dead durable (bare entries) ≡ false
-one-alive durable [] place one at alive = cc
-one-alive durable (first ∷ entries) zero one at alive =
-    let same : first ≡ one = cc in
-    ap (λ b. b && is_dead durable (bare entries)) (ap (λ (o : Entry × Bool). is_outdated durable o.0) same ∙ alive)
-one-alive durable (first ∷ entries) (suc place) one at alive =
-    ap (λ b. is_outdated durable first.0 && b) (one-alive durable entries place one at alive)
-    ∙ and-false (is_outdated durable first.0)
 
 -- a segment is dead where its entries from one on are, and those before it
 pub dead-parts : (durable : List Entry) (entries : List (Entry × Bool)) (start : ℕ) →

@@ -1,15 +1,18 @@
 -- Segments of which an entry was found that isn't outdated.
-use Rattle.std.specs.Prelude.{◌≡◌, ℕ, ◌+◌, ◌*◌, ◌%◌, ◌<◌, ◌≤◌, false, Bool, List, length, take, slice_get, Option, Some}
+use Rattle.std.specs.Prelude.{◌≡◌, ℕ, ◌+◌, ◌*◌, ◌/◌, ◌%◌, ◌<◌, ◌≤◌, false, Bool, List, length, take}
+use Rattle.std.specs.Prelude.{slice_get, Option, Some}
 use Rattle.rc_types.specs.declared.entries.Entry.{Entry}
 use Rattle.rc_model.specs.Versions.{is_outdated}
 use Rattle.rc_ownership.specs.declared.highs.Slot.{Slot}
 use Rattle.rc_ownership.specs.declared.alive.AliveEntry.{AliveEntry}
-use Rattle.rc_ownership.specs.declared.alive.TheConstants.{GROUPS}
+use Rattle.rc_ownership.specs.declared.alive.TheConstants.{FACTOR}
 use Rattle.rc_ownership.specs.Slots.{slot_of}
 
--- the group of a slot
+-- the group of a slot: ten bits
 abbrev pub group_of : Slot → ℕ
-group_of slot = (slot.key % GROUPS + (slot.table * 31 + slot.term * 997)) % GROUPS
+group_of slot =
+    let numbers : ℕ = slot.key + (slot.table * 31 + slot.term * 997) in
+    numbers % 18446744073709551616 * FACTOR % 18446744073709551616 / 18014398509481984
 
 -- each durable entry stands below the bound of its group, where there are bounds
 abbrev pub AreBounds : List Entry → ℕ → List ℕ → Type 0

@@ -13,8 +13,11 @@ use crate::notes::Notes;
 use rc_types::Entry;
 use std::alloc::{AllocError, Global};
 
-/// How many groups the slots are in. It is a prime, so keys in even steps are in groups of all numbers.
-const GROUPS: u64 = 1021;
+/// How many groups the slots are in: as many as ten bits number.
+const GROUPS: u64 = 1024;
+
+/// By what a slot's numbers are multiplied, so that the upper bits depend on all of them.
+const FACTOR: u64 = 11_400_714_819_323_198_485;
 
 /// An entry of a segment that was not outdated when it was found.
 #[derive(Clone, Copy)]
@@ -34,7 +37,7 @@ fn group_of(slot: Slot) -> usize
     ensures { result ≡ group_of slot }
 {
     let others = u64::from(slot.table) * 31 + u64::from(slot.term) * 997;
-    ((slot.key % GROUPS + others) % GROUPS) as usize
+    (slot.key.wrapping_add(others).wrapping_mul(FACTOR) >> 54) as usize
 }
 
 /// A bound for each group, where so many entries are durable.
@@ -72,42 +75,36 @@ pub(crate) fn raise_bounds(bounds: &mut Vec<usize>, newly: &[Entry], durable: us
 }
 
 impl Notes {
-    /// Whether each of a segment's entries is outdated by a durable one. Where one is found that isn't, that is kept if
-    /// there is memory for it: until an entry of its group becomes durable, nobody goes over the segment again.
-    pub(crate) fn is_dead_segment(
+    /// The first of a segment's entries that isn't outdated by a durable one: from where one was found last on, and
+    /// then from the first on. It is kept if there is memory for it: until an entry of its group becomes durable, it is
+    /// known not to be outdated.
+    pub(crate) fn find_alive(
         &mut self,
         alloc: Global,
         seg: u16,
         entries: &[(Entry, bool)],
-    ) -> bool
-        ensures dead { result ≡ is_dead (take self.old.durable self.old.noted) (map (λ one. one.0) entries.now) }
+    ) -> Option<usize>
+        ensures dead { is_none result ≡ is_dead (take self.old.durable self.old.noted)
+            (map (λ one. one.0) entries.now) }
         ensures same { self.new ≡ self.old }
     {
-        if self.is_known_alive(seg, entries) {
-            return false;
-        }
         let start = match self.alive.get(usize::from(seg)) {
             Some(Some(found)) => found.offset.min(entries.len()),
             _ => 0,
         };
         let Some(offset) = self.first_alive_from(entries, start) else {
-            return true;
+            return None;
         };
         self.keep_alive(alloc, seg, offset, &entries[offset].0);
-        false
+        Some(offset)
     }
 
-    /// Whether the entry that was found of the segment is one of these, and is still known not to be outdated. It is no
-    /// walk.
-    fn is_known_alive(&self, seg: u16, entries: &[(Entry, bool)]) -> bool
-        ensures { result ≡ true → is_dead (take self.now.durable self.now.noted) (map (λ one. one.0) entries.now)
-            ≡ false }
+    /// Whether this is the entry that was found of the segment, and is still known not to be outdated. It is no walk.
+    pub(crate) fn is_known_alive(&self, seg: u16, entry: &Entry) -> bool
+        ensures { result ≡ true → is_outdated (take self.now.durable self.now.noted) entry.now ≡ false }
     {
-        let Some(found) = self.known_alive(usize::from(seg)) else {
-            return false;
-        };
-        match entries.get(found.offset) {
-            Some((entry, _)) => slot_of(entry) == found.slot && entry.version == found.version,
+        match self.known_alive(usize::from(seg)) {
+            Some(found) => slot_of(entry) == found.slot && entry.version == found.version,
             None => false,
         }
     }

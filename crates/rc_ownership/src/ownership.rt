@@ -1,7 +1,7 @@
 //! What a master owns, in one value.
 
 ghost use Rattle.std.specs.Prelude.{◌≡◌, ◌<◌, ◌≤◌, ◌+◌, ◌^◌, [], length, not, nat_eq, nat_lt, slice_get};
-ghost use Rattle.std.specs.Prelude.{OnOk, OnErr, IfOk, None, true, ◌↔◌, option_map, map};
+ghost use Rattle.std.specs.Prelude.{OnOk, OnErr, IfOk, None, true, ◌↔◌, option_map, map, is_none, false};
 ghost use Rattle.std.specs.List.{position};
 ghost use Rattle.rc_model.specs.Ownership.{owns_nothing};
 ghost use Rattle.rc_model.specs.Ownership as owning;
@@ -253,14 +253,26 @@ impl Ownership {
         self.notes.read(alloc, term, table, key)
     }
 
-    /// Whether each of these entries, which are those of the segment of this number, has a greater version of its key
-    /// under its term among the durable ones. One that has none is kept in mind, if there is memory for it, so that
-    /// the segment is gone over again only when an entry of its key may have become durable.
-    pub fn is_dead_segment(&mut self, alloc: Global, seg: u16, entries: &[(Entry, bool)]) -> bool
-        ensures dead { result ≡ versions.is_dead (durable_of self.old) (map (λ one. one.0) entries.now) }
+    /// The first of a segment's entries that has no greater version of its key under its term among the durable ones:
+    /// from where one was found last on, and then from the first on. It is kept in mind, if there is memory for it.
+    pub fn find_alive(
+        &mut self,
+        alloc: Global,
+        seg: u16,
+        entries: &[(Entry, bool)],
+    ) -> Option<usize>
+        ensures dead { is_none result ≡ versions.is_dead (durable_of self.old) (map (λ one. one.0) entries.now) }
         ensures same { self.new ≡ self.old }
     {
-        self.notes.is_dead_segment(alloc, seg, entries)
+        self.notes.find_alive(alloc, seg, entries)
+    }
+
+    /// Whether this entry was found last of the segment of this number, and since then no entry of its key, or of
+    /// those that share a group with it, has become durable. It is no walk.
+    pub fn is_known_alive(&self, seg: u16, entry: &Entry) -> bool
+        ensures { result ≡ true → versions.is_outdated (durable_of self.now) entry.now ≡ false }
+    {
+        self.notes.is_known_alive(seg, entry)
     }
 
     /// Whether the term is known: a part under it was begun, or a range was granted.

@@ -3,3 +3,4 @@ pub mod Concerned
 pub mod Resting
 pub mod States
 pub mod Lists
+pub mod Found

@@ -6,6 +6,7 @@ use Rattle.rc_lognotes.proofs.dead.dead_segments.Given as goal
 
 abbrev pub invariant-loop-seg : goal.invariant-loop-seg
 invariant-loop-seg l = record {
-  dead : l.dead.items ≡ filter (is_dead_segment (keeper true (log_of l.log))) (take l.seg-index l.digest);
+  dead : l.dead.items ≡ filter (is_dead_segment (keeper true (log_of l.log))) (take l.seg-index l.segs);
+  log : l.log ≡ l.initial.log;
   same : l.ownership ≡ l.initial.ownership;
 }

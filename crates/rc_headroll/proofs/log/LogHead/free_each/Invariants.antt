@@ -2,7 +2,7 @@ use Rattle.std.proofs.Common.{◌≡◌, ◌≤◌, length}
 use Rattle.rc_model.specs.Model.{with_freed, old_head_of}
 use Rattle.rc_headroll.specs.LogData.{log_of, before_of}
 use Rattle.rc_headroll.proofs.LogSteps.{left_to}
-use Rattle.rc_headroll.proofs.log.LogHead.free_left_out.Given as goal
+use Rattle.rc_headroll.proofs.log.LogHead.free_each.Given as goal
 
 -- those among the numbers so far that are left out were freed
 abbrev pub invariant-loop-index : goal.invariant-loop-index

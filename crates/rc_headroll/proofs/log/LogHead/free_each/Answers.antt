@@ -2,8 +2,8 @@ use Rattle.std.proofs.Common.{◌<◌, length, ap, ◌∙◌, arith}
 use Rattle.rc_model.specs.Model.{Log, old_head_of}
 use Rattle.rc_headroll.specs.LogData.{log_of}
 use Rattle.rc_headroll.proofs.LogSteps.{left_to, freed-heads, freed-previous, freed-more, freed-not}
-use Rattle.rc_headroll.proofs.log.LogHead.free_left_out.Goals as goal
-use Rattle.rc_headroll.proofs.log.LogHead.free_left_out.Goals.{then-stands, else-stands}
+use Rattle.rc_headroll.proofs.log.LogHead.free_each.Goals as goal
+use Rattle.rc_headroll.proofs.log.LogHead.free_each.Goals.{then-stands, else-stands}
 
 pub stands-requires-clause-more : goal.stands-requires-clause-more
 stands-requires-clause-more c =
