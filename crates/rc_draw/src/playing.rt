@@ -46,6 +46,7 @@ pub(crate) fn play(
             Ok(())
         }
         Err((_, Fault::BadEvent)) => Ok(()),
+        // (only memory is left)
         Err(_) => Err(AllocError),
     }
 }

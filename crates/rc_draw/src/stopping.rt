@@ -206,6 +206,7 @@ fn take(alloc: Global, run: &mut Run<Global>, event: &Event) -> Result<(), Alloc
     match run.take(alloc, event) {
         Ok(()) => Ok(()),
         Err(Fault::BadEvent) => Ok(()),
+        // (only memory is left)
         Err(_) => Err(AllocError),
     }
 }

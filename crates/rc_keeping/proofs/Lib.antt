@@ -4,4 +4,4 @@ pub mod RecordLaws
 pub mod SealLaws
 pub mod JournalLaws
 pub mod ComingBack
-pub mod Fours
+pub mod Sum

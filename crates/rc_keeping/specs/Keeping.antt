@@ -1,5 +1,5 @@
 -- Which works a node keeps, and what it is that was made anew from them.
-use Rattle.std.specs.Prelude.{Bool, true, false, ◌≡◌, if◌then◌else◌, List, [], ◌∷◌, filter}
+use Rattle.std.specs.Prelude.{true, ◌≡◌, if◌then◌else◌, List, [], ◌∷◌, filter}
 use Rattle.rc_model.specs.Coordinator.{Coordinator}
 use Rattle.rc_model.specs.Nodes.{HostNode}
 use Rattle.rc_history.specs.Nodes.{TheCoordinator, TheHost}

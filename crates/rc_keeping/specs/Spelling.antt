@@ -1,5 +1,6 @@
--- The bytes of a work, of a record, and of a journal. `docs/FORMATS.md` has the same in prose.
-use Rattle.std.specs.Prelude.{ℕ, ◌+◌, ◌*◌, ◌%◌, List, [], ◌∷◌, ◌++◌, length}
+-- The bytes of a work, of a record, and of a journal. `docs/BYTES.md` has the same in prose.
+use Rattle.std.specs.Prelude.{ℕ, ◌*◌, ◌/◌, ◌%◌, bit_xor, List, [], ◌∷◌, ◌++◌, length}
+use Rattle.std.specs.Int.{w64, from_le_bytes}
 use Rattle.rc_codec.specs.Parts.{four_bytes, eight_bytes, listed}
 use Rattle.rc_codec.specs.Spelling.{id_code, kept_code, body_code, message_code}
 use Rattle.rc_types.specs.declared.events.NodeWork.{NodeWork}
@@ -21,13 +22,22 @@ work_code (work.Split table at) = 8 ∷ four_bytes table ++ eight_bytes at
 abbrev pub coded_work : NodeWork → List ℕ
 coded_work w = 1 ∷ work_code w
 
--- a sum over bytes that goes on from another one
+-- a sum with one more number: the exclusive or of both, multiplied; then the exclusive or of that and its upper half
+abbrev pub sum_with : ℕ → ℕ → ℕ
+sum_with sum n =
+    let product : ℕ = bit_xor sum n * 11400714819323198485 % 18446744073709551616 in
+    bit_xor product (product / 4294967296)
+
+-- a sum over bytes that goes on from another one: eight of them are one number, and each that is left over is one
 unfoldable pub sum_from : ℕ → List ℕ → ℕ
 sum_from sum [] = sum
-sum_from sum (b ∷ rest) = sum_from ((sum * 16777619 + b) % 4294967296) rest
+sum_from sum (a ∷ b ∷ c ∷ d ∷ e ∷ f ∷ g ∷ h ∷ rest) =
+    sum_from (sum_with sum (from_le_bytes w64 (a ∷ b ∷ c ∷ d ∷ e ∷ f ∷ g ∷ h ∷ []))) rest
+sum_from sum (b ∷ rest) = sum_from (sum_with sum b) rest
 
+-- the upper half
 abbrev pub sum_of : List ℕ → ℕ
-sum_of bytes = sum_from 2166136261 bytes
+sum_of bytes = sum_from 14695981039346656037 bytes / 4294967296
 
 -- how many bytes there are, in eight bytes, the sum over them, in four, and the bytes
 abbrev pub sealed : List ℕ → List ℕ

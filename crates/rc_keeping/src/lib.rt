@@ -9,7 +9,8 @@
 //! A record is the length of a coded work in eight bytes, a sum over its bytes in four, and these bytes: the version of
 //! the format, which is 1, the kind of the work in one byte, and its fields, as `rc_codec` codes them. The sum guards
 //! against accidents: a write that was cut off, a block of zeros, a bit that fell over. It does not guard against
-//! whoever means to deceive, who can compute it too. `seal` and `unseal` put other bytes into such a frame.
+//! whoever means to deceive, who can compute it too. `seal` and `unseal` put other bytes into such a frame, and take
+//! them out.
 //!
 //! To be read in this order: `specs/Keeping.antt` and `keeping`, which works are kept; `specs/Spelling.antt`, the
 //! bytes; `specs/Claims.antt`, what is promised of a journal; `works`, `records` and `journals`, the calls; `laws`.
@@ -24,5 +25,5 @@ mod works;
 
 pub use journals::{read_back, write_down};
 pub use keeping::keeps;
-pub use seals::{seal, unseal};
+pub use seals::{seal, seal_after, unseal};
 pub use works::{decode_work, encode_work};

@@ -1,13 +1,13 @@
 //! Bytes with their length and their sum before them, whatever they say.
 
-ghost use Rattle.std.specs.Prelude.{◌≡◌, ◌++◌, IfOk, IfErr, OnOk, OnErr};
+ghost use Rattle.std.specs.Prelude.{◌≡◌, ◌++◌, ◌∷◌, IfOk, IfErr, OnOk, OnErr};
 ghost use Rattle.rc_codec.specs.Claims.{BeginsWithNone};
 ghost use Rattle.rc_codec.specs.Reading.{Gives};
 ghost use Rattle.rc_codec.specs.declared.faults.DecodeFault.TheVariants.{Malformed};
 ghost use Rattle.rc_keeping.specs.Spelling.{sealed};
 ghost use Rattle.rc_keeping.specs.Readers.{opened_with, opened_at};
 
-use crate::records::{put_sealed, sum_of};
+use crate::records::{put_sealed, put_sealed_after, sum_of};
 use rc_codec::{DecodeFault, Take};
 use std::alloc::{AllocError, Global};
 
@@ -21,6 +21,18 @@ pub fn seal(code: &[u8], out: &mut Vec<u8>) -> Result<(), AllocError>
     ensures err { OnErr result (out.new.items ≡ out.old.items) }
 {
     put_sealed(code, out)
+}
+
+/// Adds a byte and these bytes behind it at the end of `out`, as `seal` does where they stand in one piece.
+///
+/// # Errors
+///
+/// Memory was refused; `out` is as before.
+pub fn seal_after(first: u8, code: &[u8], out: &mut Vec<u8>) -> Result<(), AllocError>
+    ensures ok { OnOk result (out.new.items ≡ out.old.items ++ sealed (first ∷ code.now)) }
+    ensures err { OnErr result (out.new.items ≡ out.old.items) }
+{
+    put_sealed_after(first, code, out)
 }
 
 /// The bytes that stand at the front with their length and their sum before them, and what follows. Nothing is copied.

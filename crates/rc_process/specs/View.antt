@@ -8,7 +8,7 @@ use Rattle.rc_types.specs.declared.messages.Message.{Message}
 use Rattle.rc_codec.specs.Spelling.{coded_message}
 use Rattle.rc_model.specs.Backup.{open_names}
 use Rattle.rc_model.specs.Headline.{In}
-use Rattle.rc_history.specs.Nodes.{Node, TheOutside, TheCoordinator, TheHost, name_of}
+use Rattle.rc_history.specs.Nodes.{Node, TheHost, name_of}
 use Rattle.rc_world.specs.NodeView.{NodeData, node_seen, node_runs, work_at, after_work}
 use Rattle.rc_keeping.specs.Spelling.{record_of}
 use Rattle.rc_keeping.specs.Claims.{AreReadFrom}

@@ -1,17 +1,16 @@
 //! A message that has come as bytes.
 
-ghost use Rattle.std.specs.Prelude.{◌≡◌, ◌↔◌, ◌⊎◌, ◌++◌, ◌∷◌, Err, OnOk, OnErr, IfOk, IfErr};
+ghost use Rattle.std.specs.Prelude.{◌≡◌, ◌↔◌, ◌⊎◌, ◌++◌, Err, OnOk, OnErr, IfOk, IfErr};
 ghost use Rattle.rc_types.specs.declared.events.NodeWork.TheVariants.{Deliver};
 ghost use Rattle.rc_codec.specs.Spelling.{coded_message};
 ghost use Rattle.rc_world.specs.NodeView.{node_seen, NodeHasRoom};
-ghost use Rattle.rc_keeping.specs.Spelling.{sealed};
 ghost use Rattle.rc_process.specs.View.{IsNoMessage, IsDelivery, IsDeliveryOf, process_seen, written_down, given};
 ghost use Rattle.rc_process.specs.declared.faults.MessageFault.TheVariants.{Malformed, NoMemory, NoRoom};
 
 use crate::faults::MessageFault;
 use crate::process::Process;
 use rc_codec::{DecodeFault, decode_message};
-use rc_keeping::seal;
+use rc_keeping::seal_after;
 use rc_types::{Message, NodeWork};
 use std::alloc::{AllocError, Allocator, Global};
 
@@ -89,7 +88,8 @@ impl<A: Allocator + Clone> Process<A> {
         ensures err { OnErr result (out.new.items ≡ out.old.items) }
     {
         if self.keeps(work) {
-            seal_delivery(self.alloc(), bytes, out)
+            // (a 1 for the version; the bytes' own version stands for the kind of the work, which is 1, too)
+            seal_after(1, bytes, out)
         } else {
             Ok(())
         }
@@ -114,18 +114,6 @@ fn message_in(alloc: Global, bytes: &[u8]) -> Result<Message, MessageFault>
         Err(DecodeFault::Malformed) => Err(MessageFault::Malformed),
         Err(DecodeFault::OutOfMemory) => Err(MessageFault::NoMemory),
     }
-}
-
-/// Adds the record of a delivery of the message of these bytes: in their frame a 1, for the version, and then the
-/// bytes, whose own version stands for the kind of the work, which is 1, too.
-fn seal_delivery(alloc: Global, bytes: &[u8], out: &mut Vec<u8>) -> Result<(), AllocError>
-    ensures ok { OnOk result (out.new.items ≡ out.old.items ++ sealed (1 ∷ bytes.now)) }
-    ensures err { OnErr result (out.new.items ≡ out.old.items) }
-{
-    let mut code = Vec::with_capacity(alloc, bytes.len().saturating_add(1))?;
-    code.push(1u8)?;
-    code.extend_from_slice(bytes)?;
-    seal(code.as_slice(), out)
 }
 
 /// The message of a delivery.

@@ -171,8 +171,7 @@ impl Session {
     ///
     /// # Errors
     ///
-    /// `Malformed`, `NoMemory`, `UsedUp`; `Refused` never, where the node is a host or the coordinator. After each
-    /// nothing has changed.
+    /// `UsedUp`, which comes first, whatever the bytes are; `Malformed`, `NoMemory`. After each nothing has changed.
     pub fn deliver(&mut self, bytes: &[u8]) -> Result<(), SessionFault>
         ensures taken { OnOk result (TakesMessage bytes.now (session_seen self.old) (session_seen self.new)) }
         ensures coded { OnOk result (IsNoMessage bytes.now → ⊥) }

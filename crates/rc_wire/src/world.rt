@@ -87,6 +87,7 @@ fn run<N: Naming + Send + Sync, R: Threads + Wait + Sync>(
     match run_nodes(rt, alloc, &wire, seats, steps, &Free) {
         Ok(seats) => Ok((closed(alloc, wire, seats)?, true)),
         Err((seats, Fault::BadEvent)) => Ok((closed(alloc, wire, seats)?, false)),
+        // (only memory is left)
         Err(_) => Err(AllocError),
     }
 }

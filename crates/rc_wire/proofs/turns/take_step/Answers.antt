@@ -3,7 +3,7 @@ use Rattle.std.proofs.Common.{inl, inr, ap, ◌∙◌, refl}
 use Rattle.std.specs.Prelude.{Err}
 use Rattle.std.proofs.lemmas.Result.{err_from_is_err_and}
 use Rattle.rc_wire.proofs.Stuck.{IsRefused, bad-at, memory-not-bad}
-use Rattle.rc_wire.proofs.Turning.{ok-always, err-always, takes-committed, grows-prepared, grows-through, grows-later, grows-takes}
+use Rattle.rc_wire.proofs.Turning.{err-always, takes-committed, grows-prepared, grows-through, grows-later, grows-takes}
 use Rattle.rc_wire.proofs.turns.take_step.Goals as goal
 
 pub returns-in_err-commit-clause-err : goal.returns-in_err-commit-clause-err
