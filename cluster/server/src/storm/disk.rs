@@ -71,15 +71,20 @@ pub fn forget_save(folder: &Path) {
     let _ = fs::remove_file(folder.join(SAFE_BEFORE));
 }
 
-/// Cuts what was not safe off somewhere, and damages some of what is left of it.
+/// Cuts what was not safe off somewhere, or leaves zeros in its place, and damages some of what is left of it.
 fn spoil_end(path: &Path, safe: u64, dice: &mut Dice, lost: &mut Lost) -> io::Result<()> {
     let Ok(file) = OpenOptions::new().write(true).open(path) else { return Ok(()) };
-    let length = file.metadata()?.len();
+    // behind its bytes a journal's file has zeros
+    let whole = fs::read(path)?;
+    let length = whole.iter().rposition(|byte| *byte != 0).map_or(0, |last| last as u64 + 1);
     if length <= safe {
         return Ok(());
     }
     let left = safe + dice.below(length - safe + 1);
     file.set_len(left)?;
+    if dice.below(2) == 0 {
+        file.set_len(whole.len() as u64)?;
+    }
     lost.bytes = length - left;
     if left <= safe || dice.below(2) == 0 {
         return Ok(());
@@ -92,7 +97,7 @@ fn spoil_end(path: &Path, safe: u64, dice: &mut Dice, lost: &mut Lost) -> io::Re
         // the length is there, and the bytes are not
         _ => {
             file.set_len(at)?;
-            file.set_len(length)?;
+            file.set_len(whole.len() as u64)?;
         }
     }
     lost.is_damaged = true;
@@ -140,7 +145,7 @@ mod tests {
         let folder = std::env::temp_dir().join(format!("sevunthi-cut-{}", std::process::id()));
         fs::create_dir_all(&folder)?;
         let journal = folder.join("journal");
-        let whole: Vec<u8> = (1..=200).collect();
+        let whole: Vec<u8> = (1..=200).chain([0; 50]).collect();
         let (mut shorter, mut damaged) = (0, 0);
         for seed in 0..200 {
             fs::write(&journal, &whole)?;
@@ -148,7 +153,7 @@ mod tests {
             let lost = cut_power(&folder, &mut Dice::new(seed))?;
             let left = fs::read(&journal)?;
             assert_eq!(&left[..120], &whole[..120]);
-            assert!(left.len() <= 200);
+            assert!(left.len() <= 250);
             assert!(known(&folder, "known").is_some_and(|known| known <= 120));
             shorter += usize::from(left.len() < 200);
             damaged += usize::from(lost.is_damaged);
