@@ -11,14 +11,14 @@ use std::test::Fail;
 
 /// The save of the example: a host that has fenced one master, of which it keeps that one segment was freed.
 const EXAMPLE: [u8; 61] = [
-    0x31, 0, 0, 0, 0, 0, 0, 0, 0x64, 0x3d, 0x32, 0x24, 1, 9, 2, 2, 4, 0, 1, 1, 0, 0, 0, 1, 2, 1, 0,
+    0x31, 0, 0, 0, 0, 0, 0, 0, 0x50, 0x5e, 0xeb, 0x89, 1, 9, 2, 2, 4, 0, 1, 1, 0, 0, 0, 1, 2, 1, 0,
     0, 0, 1, 0, 0, 0, 0, 0, 0, 0, 0, 1, 0, 0, 0, 1, 0, 0, 0, 0, 0, 0, 0, 0, 1, 0, 0, 0, 0, 0, 0, 0,
     3, 0,
 ];
 
 /// The save of the coordinator before anything has happened.
 const NEW_COORDINATOR: [u8; 78] = [
-    0x42, 0, 0, 0, 0, 0, 0, 0, 0x6a, 0x13, 0xfb, 0x6f, 1, 0xa, 0, 0, 0, 0, 0, 0, 0, 0, 0, 0, 0, 0,
+    0x42, 0, 0, 0, 0, 0, 0, 0, 0xef, 0x1b, 0x72, 0xc0, 1, 0xa, 0, 0, 0, 0, 0, 0, 0, 0, 0, 0, 0, 0,
     0, 0, 0, 0, 0, 0, 0, 0, 0, 0, 0, 0, 0, 0, 0, 0, 0, 0, 0, 0, 0, 0, 0, 0, 0, 0, 0, 0, 0, 0, 0, 0,
     0, 0, 0, 0, 0, 0, 0, 0, 0, 0, 0, 0, 0, 0, 0, 0, 0, 0, 0, 0,
 ];
