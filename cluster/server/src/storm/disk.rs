@@ -82,7 +82,7 @@ fn spoil_end(path: &Path, safe: u64, dice: &mut Dice, lost: &mut Lost) -> io::Re
     }
     let left = safe + dice.below(length - safe + 1);
     file.set_len(left)?;
-    if left % 2 == 0 {
+    if left.is_multiple_of(2) {
         file.set_len(whole.len() as u64)?;
     }
     lost.bytes = length - left;
