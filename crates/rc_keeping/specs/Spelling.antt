@@ -22,7 +22,8 @@ work_code (work.Split table at) = 8 ∷ four_bytes table ++ eight_bytes at
 abbrev pub coded_work : NodeWork → List ℕ
 coded_work w = 1 ∷ work_code w
 
--- a sum with one more number: the exclusive or of both, multiplied; then the exclusive or of that and its upper half
+-- a sum with one more number: the exclusive or of both, multiplied, below 2^64; then the exclusive or of that and its
+-- upper half, a quotient by 2^32
 abbrev pub sum_with : ℕ → ℕ → ℕ
 sum_with sum n =
     let product : ℕ = bit_xor sum n * 11400714819323198485 % 18446744073709551616 in

@@ -14,7 +14,8 @@ use std::alloc::{AllocError, Global};
 /// Where a sum over bytes begins, so that bytes that are all 0 do not have the sum 0.
 const FIRST_SUM: u64 = 14_695_981_039_346_656_037;
 
-/// By what a sum is multiplied with each number: an odd one, all of whose halves are mixed.
+/// By what a sum is multiplied with each number, so that the upper bits depend on all of them. It is odd, so that
+/// different numbers have different products.
 const FACTOR: u64 = 11_400_714_819_323_198_485;
 
 /// The sum over these bytes.

@@ -8,7 +8,7 @@ use Rattle.rc_ownership.specs.declared.alive.AliveEntry.{AliveEntry}
 use Rattle.rc_ownership.specs.declared.alive.TheConstants.{FACTOR}
 use Rattle.rc_ownership.specs.Slots.{slot_of}
 
--- the group of a slot: ten bits
+-- the group of a slot: of a product of 64 bits the upper ten, so a quotient by 2^54
 abbrev pub group_of : Slot → ℕ
 group_of slot =
     let numbers : ℕ = slot.key + (slot.table * 31 + slot.term * 997) in

@@ -13,7 +13,7 @@ use crate::notes::Notes;
 use rc_types::Entry;
 use std::alloc::{AllocError, Global};
 
-/// How many groups the slots are in: as many as ten bits number.
+/// How many groups the slots are in: as many as the upper ten bits of a product number, so those from the 54th on.
 const GROUPS: u64 = 1024;
 
 /// By what a slot's numbers are multiplied, so that the upper bits depend on all of them.
