@@ -57,6 +57,8 @@ pub mod kind {
     pub const PLACE: u8 = 5;
     /// Entries are to be added to a replica.
     pub const APPEND: u8 = 6;
+    /// A replica is to be closed.
+    pub const CLOSE: u8 = 7;
     /// What is kept of a replica.
     pub const STORED: u8 = 8;
     /// A server is there.
@@ -69,6 +71,10 @@ pub mod kind {
     pub const REPLICAS: u8 = 15;
     /// A recovery begins.
     pub const PLAN: u8 = 16;
+    /// Entries are to be sent to a recovery's master.
+    pub const FETCH: u8 = 17;
+    /// These entries.
+    pub const DATA: u8 = 18;
     /// A range is granted.
     pub const OWN: u8 = 20;
 }

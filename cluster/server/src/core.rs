@@ -17,7 +17,7 @@ use std::io::{self, Read};
 use std::path::PathBuf;
 use std::sync::mpsc::{Receiver, channel};
 use std::sync::{Arc, Mutex};
-use std::time::{Instant, SystemTime, UNIX_EPOCH};
+use std::time::{Duration, Instant, SystemTime, UNIX_EPOCH};
 
 /// How a process of the cluster is to run.
 #[derive(Clone, Debug)]
@@ -208,8 +208,8 @@ impl Core {
         if place != self.config.place() {
             return None;
         }
-        if let (kind::STORED, Address::Server(from)) = (envelope.kind, envelope.from) {
-            self.waits.stored(from);
+        if let (kind::STORED | kind::DATA, Address::Server(from)) = (envelope.kind, envelope.from) {
+            self.waits.answered(from);
         }
         self.counts.works += 1;
         match self.node.deliver(message) {
@@ -243,12 +243,17 @@ impl Core {
             Address::Outside => envelope.answer().into_iter().for_each(answer),
             Address::Coordinator => self.post(usize::from(self.config.hosts), message),
             Address::Server(id) => {
-                if matches!(envelope.kind, kind::PLACE | kind::APPEND) {
-                    self.waits.sent(id, self.awake.now());
+                if matches!(envelope.kind, kind::PLACE | kind::APPEND | kind::CLOSE | kind::FETCH) {
+                    self.waits.asked(id, self.awake.now());
                 }
                 self.post(usize::from(id.index), message);
             }
         }
+    }
+
+    /// Who has answered nothing for as long as one waits, with for how long.
+    pub fn waited_for(&mut self) -> Vec<(Id, Duration)> {
+        self.waits.longer_than(Duration::from_millis(self.config.silence), self.awake.now())
     }
 
     /// Queues a frame for a peer, or for this node itself.

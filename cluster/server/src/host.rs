@@ -115,7 +115,7 @@ impl Host {
             self.core.awake.turn();
             if BEAT <= self.beat.elapsed() {
                 self.beat = Instant::now();
-                self.send_heartbeat();
+                send_heartbeat(self.server, &mut self.core);
                 self.show();
             }
             if Duration::from_millis(self.core.config.tick) <= tick.elapsed() {
@@ -382,22 +382,6 @@ impl Host {
         }
     }
 
-    /// Tells the coordinator that the server lives, and whom it has waited for in vain.
-    fn send_heartbeat(&mut self) {
-        let mut beat = heartbeat(self.server);
-        for (id, _) in self.waited_for() {
-            beat.extend_from_slice(&id.code());
-        }
-        let coordinator = usize::from(self.core.config.hosts);
-        self.core.post(coordinator, &beat);
-    }
-
-    /// Who has stored nothing for as long as one waits, though there is something to store.
-    fn waited_for(&mut self) -> Vec<(Id, Duration)> {
-        let (silence, now) = (Duration::from_millis(self.core.config.silence), self.core.awake.now());
-        self.core.waits.longer_than(silence, now)
-    }
-
     /// The state, as text.
     fn text(&mut self) -> String {
         let info = self.core.node.info();
@@ -424,7 +408,7 @@ impl Host {
         for (name, value) in rows {
             let _ = writeln!(text, "sevunthi_{name}{{host=\"{}\"}} {value}", info.server.index);
         }
-        for (id, wait) in self.waited_for() {
+        for (id, wait) in self.core.waited_for() {
             let (index, wait) = (info.server.index, wait.as_millis());
             let _ = writeln!(text, "sevunthi_waits_milliseconds{{host=\"{index}\",for=\"{id}\"}} {wait}");
         }
@@ -443,16 +427,19 @@ impl Host {
 fn beat_if_due(beat: &mut Instant, server: Id, core: &mut Core) {
     if BEAT <= beat.elapsed() {
         *beat = Instant::now();
-        core.post(usize::from(core.config.hosts), &heartbeat(server));
+        send_heartbeat(server, core);
         core.flush();
     }
 }
 
-/// What tells that a server lives.
-fn heartbeat(server: Id) -> Vec<u8> {
+/// Tells the coordinator that the server lives, and whom it has waited for in vain.
+fn send_heartbeat(server: Id, core: &mut Core) {
     let mut beat = vec![HEARTBEAT];
     beat.extend_from_slice(&server.code());
-    beat
+    for (id, _) in core.waited_for() {
+        beat.extend_from_slice(&id.code());
+    }
+    core.post(usize::from(core.config.hosts), &beat);
 }
 
 /// The range that a message grants to this server.

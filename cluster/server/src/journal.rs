@@ -6,8 +6,8 @@ use std::io::{self, ErrorKind, Seek, SeekFrom};
 use std::os::unix::fs::FileExt;
 use std::path::{Path, PathBuf};
 
-/// So far ahead of its bytes a journal's file is filled with zeros, which are no record: a sync that does not change how
-/// long the file is takes half of the time.
+/// So far ahead of its bytes a journal's file is filled with zeros, which are no record: a sync that does not change
+/// how long the file is takes half of the time.
 const AHEAD: usize = 1 << 20;
 
 /// The file of a node's journal, locked. Behind the journal's bytes it has zeros.
@@ -113,8 +113,8 @@ impl Journal {
         Ok(())
     }
 
-    /// Fills the file with zeros, where so many bytes would reach its end. Where that fails, as on a full disk, the bytes
-    /// may still have their place.
+    /// Fills the file with zeros, where so many bytes would reach its end. Where that fails, as on a full disk, the
+    /// bytes may still have their place.
     fn fill(&mut self, count: usize) {
         if count <= self.filled {
             return;

@@ -46,7 +46,7 @@ const USAGE: &str = "usage: sevunthi COMMAND ..
   status                                    the state of all
   bench [--clients 64] [--seconds 5] [--size 100] [--table 1]
   trace FILE..                              records, as a trace that `ramseg audit` reads
-  storm [--seed 1] [--seconds 60] --folder F    drawn faults on a cluster of its own
+  storm [--seed 1] [--seconds 60] [--only kill,pair] --folder F    drawn faults on a cluster of its own
   serve ..                                  one node; `up` starts these
 All take --address 127.0.0.1 and --port 7300, the port of host 0, and --hosts 4.";
 

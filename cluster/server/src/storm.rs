@@ -87,6 +87,15 @@ enum Fault {
 }
 
 impl Fault {
+    /// Those of these names, with commas between them; all where there is none.
+    fn deck(names: &str) -> Result<Vec<Fault>, String> {
+        if names.is_empty() {
+            return Ok(PACK.to_vec());
+        }
+        let named = |name| PACK.into_iter().find(|fault| fault.name() == name).ok_or(format!("no fault is {name}"));
+        names.split(',').map(named).collect()
+    }
+
     fn name(self) -> &'static str {
         match self {
             Fault::Kill => "kill",
@@ -117,8 +126,9 @@ pub fn run(options: &Options) -> Result<bool, String> {
     let seed: u64 = options.get("--seed", 1)?;
     let seconds: u64 = options.get("--seconds", 60)?;
     let most = Duration::from_millis(options.get("--gap", 3000)?);
+    let deck = Fault::deck(&options.get("--only", String::new())?)?;
     let target = Target { address: "127.0.0.1".into(), port: options.get("--port", 7600)?, hosts: 4 };
-    let mut storm = Storm::begin(seed, target.clone(), folder.clone())?;
+    let mut storm = Storm::begin(seed, target.clone(), folder.clone(), deck)?;
     let (ends, history) = (Arc::new(AtomicBool::new(false)), Arc::new(Mutex::new(String::new())));
     let machine = Machine::new(&folder).map_err(|error| error.to_string())?;
     let clients: Vec<_> = (0..CLIENTS)
@@ -148,6 +158,8 @@ struct Storm {
     dice: Dice,
     client: Client,
     began: Instant,
+    /// What may happen, and what of it is still to be dealt.
+    deck: Vec<Fault>,
     pack: Vec<Fault>,
     counts: BTreeMap<&'static str, u64>,
     /// Those whose disk loses what was not safe when their process ends by itself.
@@ -158,7 +170,7 @@ struct Storm {
 
 impl Storm {
     /// A cluster in this folder, with its table.
-    fn begin(seed: u64, target: Target, folder: PathBuf) -> Result<Storm, String> {
+    fn begin(seed: u64, target: Target, folder: PathBuf, deck: Vec<Fault>) -> Result<Storm, String> {
         let more = ["--record", "--faults", "--factor", "2", "--segment", "64", "--tick", "100"];
         let mut cluster = Cluster::new(target.clone(), &folder, more.map(String::from).to_vec())?;
         cluster.start_all()?;
@@ -167,6 +179,7 @@ impl Storm {
             dice: Dice::new(seed ^ 0x5eed),
             client: Client::new(target),
             began: Instant::now(),
+            deck,
             pack: Vec::new(),
             counts: PACK.iter().map(|fault| (fault.name(), 0)).collect(),
             losing: HashSet::new(),
@@ -199,7 +212,7 @@ impl Storm {
         self.wait(300, 1800);
         self.start_ended()?;
         let fault = self.pack.pop().unwrap_or_else(|| {
-            self.pack = PACK.to_vec();
+            self.pack.clone_from(&self.deck);
             self.dice.shuffle(&mut self.pack);
             self.pack.pop().unwrap_or(Fault::Kill)
         });
