@@ -1,12 +1,13 @@
 //! The process of the coordinator.
 
 use crate::core::{Config, Core, Frame, tell};
+use crate::cut_off::{CutOff, Sight};
 use crate::net::Event;
 use crate::protocol::{DONE, Op, Reply, Request, WRONG};
 use crate::wire::NOT_UP;
 use sevunthi::message::{framed, kind};
 use sevunthi::{Address, Answer, Due, Envelope, Fault, Id, Work};
-use std::collections::{BTreeMap, HashMap, HashSet};
+use std::collections::{HashMap, HashSet};
 use std::fmt::Write as _;
 use std::io;
 use std::sync::mpsc::{Receiver, RecvTimeoutError};
@@ -24,8 +25,9 @@ struct Coordinator {
     connections: HashMap<u64, Id>,
     /// Those whose connection has ended since they were heard last.
     gone: HashSet<Id>,
-    /// Of each host the server that was heard last, and whom it waits for.
-    waiting: BTreeMap<u8, (Id, Vec<Id>)>,
+    cut_off: CutOff,
+    /// The hosts whose servers can't enlist for now.
+    left_out: Vec<u8>,
     /// What was due last.
     last: Option<Due>,
     /// What was said of the last request.
@@ -41,7 +43,8 @@ pub fn run(config: Config) -> io::Result<()> {
         heard: HashMap::new(),
         connections: HashMap::new(),
         gone: HashSet::new(),
-        waiting: BTreeMap::new(),
+        cut_off: CutOff::default(),
+        left_out: Vec::new(),
         last: None,
         refused: None,
         is_due: false,
@@ -100,36 +103,37 @@ impl Coordinator {
     /// that one waits, or for a quarter of that where its connection has ended too: a host that lives connects again
     /// with its next heartbeat.
     fn do_dues(&mut self) {
-        let silence = Duration::from_millis(self.core.config.silence);
-        let Ok(servers) = self.core.node.servers() else { return };
-        let now = self.core.awake.now();
-        let heard: Vec<Id> = self.heard.values().filter(|(_, at)| now - *at < silence).map(|(id, _)| *id).collect();
-        let is_silent = |id: &Id| {
-            let last = self.heard.get(&id.index).filter(|(other, _)| other == id).map_or(Duration::ZERO, |(_, at)| *at);
-            let most = if self.gone.contains(id) { silence / 4 } else { silence };
-            most <= now - last
-        };
-        let mut silent: Vec<Id> =
-            servers.into_iter().filter(|(id, is_up)| *is_up && is_silent(id)).map(|(id, _)| id).collect();
-        self.add_cut_off(&heard, &mut silent);
-        for due in self.core.node.dues(&heard, &silent, &[]).unwrap_or_default() {
-            self.do_due(due);
+        let sight = self.sight();
+        let mut silent: Vec<Id> = sight.up.iter().filter(|id| self.is_silent(id)).copied().collect();
+        silent.extend(self.cut_off.suspects(&sight, &silent));
+        for due in self.core.node.dues(&sight.heard, &silent, &[]).unwrap_or_default() {
+            if !matches!(due, Due::Restart(id) if self.left_out.contains(&id.index)) {
+                self.do_due(due);
+            }
         }
+        let sight = self.sight();
+        self.left_out = self.cut_off.left_out(&sight);
     }
 
-    /// Adds those that are heard here, and not where they are waited for: whom one other waits for, and who itself
-    /// waits for several.
-    fn add_cut_off(&self, heard: &[Id], silent: &mut Vec<Id>) {
-        for (id, waits) in self.waiting.values().filter(|(id, _)| heard.contains(id)) {
-            let waits: Vec<&Id> = waits.iter().filter(|other| heard.contains(other)).collect();
-            if silent.contains(id) || waits.iter().any(|other| silent.contains(other)) {
-                continue;
-            }
-            match waits[..] {
-                [] => {}
-                [other] => silent.push(*other),
-                _ => silent.push(*id),
-            }
+    fn is_silent(&self, id: &Id) -> bool {
+        let silence = Duration::from_millis(self.core.config.silence);
+        let last = self.heard.get(&id.index).filter(|(other, _)| other == id).map_or(Duration::ZERO, |(_, at)| *at);
+        let most = if self.gone.contains(id) { silence / 4 } else { silence };
+        most <= self.core.awake.now() - last
+    }
+
+    fn sight(&mut self) -> Sight {
+        let (silence, now) = (Duration::from_millis(self.core.config.silence), self.core.awake.now());
+        let servers = self.core.node.servers().unwrap_or_default();
+        let tablets = self.core.node.tablets().unwrap_or_default();
+        Sight {
+            up: servers.into_iter().filter(|(_, is_up)| *is_up).map(|(id, _)| id).collect(),
+            heard: self.heard.values().filter(|(_, at)| now - *at < silence).map(|(id, _)| *id).collect(),
+            owners: tablets.iter().map(|tablet| tablet.owner).collect(),
+            is_recovering: tablets.iter().any(|tablet| tablet.crashed),
+            factor: usize::from(self.core.config.factor),
+            silence,
+            now,
         }
     }
 
@@ -161,11 +165,15 @@ impl Coordinator {
         match event {
             Event::Peer(connection, batch) => {
                 let (mut heard, mut waiting, mut is_due) = (Vec::new(), Vec::new(), false);
+                let left_out = &self.left_out;
                 self.core.each_frame(&batch, |core, frame| match frame {
                     Frame::Message(message) => {
                         if let Some(Envelope { from: Address::Server(id), kind, .. }) = Envelope::read(message) {
                             heard.push(id);
                             is_due |= matches!(kind, kind::REPLICAS | kind::READY);
+                            if kind == kind::ENLIST && left_out.contains(&id.index) {
+                                return;
+                            }
                         }
                         core.deliver(message);
                     }
@@ -175,7 +183,7 @@ impl Coordinator {
                     }
                     Frame::NotUp(_) => {}
                 });
-                self.waiting.extend(waiting.into_iter().map(|(id, waits)| (id.index, (id, waits))));
+                waiting.into_iter().for_each(|(id, waits)| self.cut_off.hear(id, waits));
                 self.is_due |= is_due;
                 for id in heard {
                     self.connections.insert(connection, id);
@@ -281,8 +289,13 @@ impl Coordinator {
         for (id, is_up) in self.core.node.servers().unwrap_or_default() {
             let last = self.heard.get(&id.index).filter(|(other, _)| *other == id);
             let heard = last.map_or("not heard".into(), |(_, at)| format!("heard {} ms ago", (now - *at).as_millis()));
+            let state = match is_up {
+                true => "up",
+                false if self.left_out.contains(&id.index) => "left out",
+                false => "crashed",
+            };
             if is_up || last.is_some() {
-                let _ = writeln!(text, "server {id} {} {heard}", if is_up { "up" } else { "crashed" });
+                let _ = writeln!(text, "server {id} {state} {heard}");
             }
         }
         for tablet in self.core.node.tablets().unwrap_or_default() {

@@ -16,6 +16,7 @@ mod bench;
 mod client;
 mod coordinator;
 mod core;
+mod cut_off;
 mod dice;
 mod etcd;
 mod faults;

@@ -232,7 +232,8 @@ impl Storm {
             Fault::PowerCoordinator => self.end(coordinator, true)?,
             Fault::Stop => self.stand_still(host),
             Fault::StopCoordinator => {
-                self.wait_until_served(5)?;
+                // (one that was cut off may be left out)
+                self.wait_until_served(5, coordinator - 1)?;
                 self.stand_still(coordinator);
             }
             Fault::Save => return self.end_in_save(any, false),
@@ -385,8 +386,8 @@ impl Storm {
         Ok(ended.into_iter().map(|(place, _)| place).collect())
     }
 
-    /// Waits until each host was heard, and nothing is being recovered, for so many seconds at most.
-    fn wait_until_served(&mut self, seconds: u64) -> Result<bool, String> {
+    /// Waits until so many hosts are up and were heard, and nothing is being recovered, for so many seconds at most.
+    fn wait_until_served(&mut self, seconds: u64, hosts: usize) -> Result<bool, String> {
         let began = Instant::now();
         while began.elapsed() < Duration::from_secs(seconds) {
             self.start_ended()?;
@@ -394,7 +395,7 @@ impl Storm {
             if let Some(reply) = self.client.call_coordinator(Op::Status, 0, 0) {
                 let text = String::from_utf8_lossy(&reply.value).into_owned();
                 let heard = text.lines().filter(|line| line.contains(" up heard ")).count();
-                if heard == self.coordinator() && !text.contains("is being recovered") {
+                if hosts <= heard && !text.contains("is being recovered") {
                     return Ok(true);
                 }
             }
@@ -444,7 +445,7 @@ impl Storm {
             }
             self.cluster.start(place)?;
         }
-        if self.wait_until_served(30)? {
+        if self.wait_until_served(30, self.coordinator())? {
             return Ok(refused);
         }
         Err("the cluster is not served with the journals as they were".into())
