@@ -5,7 +5,7 @@ use crate::etcd::Etcd;
 use crate::options::Options;
 use crate::protocol::{DONE, NO_VALUE, Op, Reply, Request};
 use sevunthi::message::u32_at;
-use std::collections::HashMap;
+use std::collections::VecDeque;
 use std::fs;
 use std::io::{Read, Write};
 use std::net::TcpStream;
@@ -108,25 +108,50 @@ pub fn run(options: &Options, target: &Target) -> Result<bool, String> {
     Ok(0 < count)
 }
 
+/// Requests that are not answered yet, by their numbers, each with when it was asked. They are answered nearly in
+/// order.
+#[derive(Default)]
+struct Asked {
+    /// How many were taken away at the front.
+    first: u64,
+    at: VecDeque<Option<Instant>>,
+}
+
+impl Asked {
+    /// How many were asked so far: the next one's number.
+    fn count(&self) -> u64 {
+        self.first + self.at.len() as u64
+    }
+
+    /// When the request of this number was asked, which is answered now.
+    fn take(&mut self, number: u64) -> Option<Instant> {
+        let since = self.at.get_mut(usize::try_from(number.checked_sub(self.first)?).ok()?)?.take();
+        while self.at.front().is_some_and(Option::is_none) {
+            self.at.pop_front();
+            self.first += 1;
+        }
+        since
+    }
+}
+
 fn ask_all(mut stream: TcpStream, talk: &mut dyn Talk, load: &Load) -> Result<Measured, String> {
     let told = |error: std::io::Error| format!("the server: {error}");
     stream.set_read_timeout(Some(Duration::from_secs(20))).map_err(told)?;
-    let (mut asked, mut out, mut at) = (0, Vec::new(), HashMap::new());
+    let (mut out, mut asked) = (Vec::new(), Asked::default());
     talk.hello(&mut out);
-    let mut ask = |talk: &mut dyn Talk, out: &mut Vec<u8>, at: &mut HashMap<u64, Instant>| {
-        talk.ask(asked, asked % load.keys, out);
-        at.insert(asked, Instant::now());
-        asked += 1;
-        asked < load.most
+    let ask = |talk: &mut dyn Talk, out: &mut Vec<u8>, asked: &mut Asked, now: Instant| {
+        talk.ask(asked.count(), asked.count() % load.keys, out);
+        asked.at.push_back(Some(now));
+        asked.count() < load.most
     };
     let began = Instant::now();
     let mut goes_on = true;
     for _ in 0..load.clients {
-        goes_on = goes_on && ask(talk, &mut out, &mut at);
+        goes_on = goes_on && ask(talk, &mut out, &mut asked, began);
     }
     let mut measured = Measured { seconds: 0.0, refused: 0, latencies: Vec::new() };
     let (mut buffer, mut more, mut answers) = (Vec::new(), [0; 1 << 16], Vec::new());
-    while !at.is_empty() {
+    while !asked.at.is_empty() {
         stream.write_all(&out).map_err(told)?;
         out.clear();
         match stream.read(&mut more).map_err(told)? {
@@ -135,14 +160,16 @@ fn ask_all(mut stream: TcpStream, talk: &mut dyn Talk, load: &Load) -> Result<Me
         }
         let used = talk.take(&buffer, &mut answers, &mut out)?;
         buffer.drain(..used);
+        let now = Instant::now();
+        goes_on = goes_on && (now - began).as_secs_f64() < load.seconds;
         for (number, is_done) in answers.drain(..) {
-            let Some(since) = at.remove(&number) else { continue };
+            let Some(since) = asked.take(number) else { continue };
             if is_done {
-                measured.latencies.push(since.elapsed().as_micros() as u32);
+                measured.latencies.push((now - since).as_micros() as u32);
             } else {
                 measured.refused += 1;
             }
-            goes_on = goes_on && began.elapsed().as_secs_f64() < load.seconds && ask(talk, &mut out, &mut at);
+            goes_on = goes_on && ask(talk, &mut out, &mut asked, now);
         }
     }
     measured.seconds = began.elapsed().as_secs_f64();

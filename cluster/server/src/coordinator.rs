@@ -99,22 +99,21 @@ impl Coordinator {
         }
     }
 
-    /// What is due, for who was heard and who was not. A server is silent when nothing has come from it for the time
-    /// that one waits, or for a quarter of that where its connection has ended too: a host that lives connects again
-    /// with its next heartbeat.
+    /// What is due, for who was heard and who was not.
     fn do_dues(&mut self) {
         let sight = self.sight();
         let mut silent: Vec<Id> = sight.up.iter().filter(|id| self.is_silent(id)).copied().collect();
         silent.extend(self.cut_off.suspects(&sight, &silent));
-        for due in self.core.node.dues(&sight.heard, &silent, &[]).unwrap_or_default() {
-            if !matches!(due, Due::Restart(id) if self.left_out.contains(&id.index)) {
-                self.do_due(due);
-            }
+        let heard: Vec<Id> = sight.heard.into_iter().map(|(id, _)| id).collect();
+        for due in self.core.node.dues(&heard, &silent, &[]).unwrap_or_default() {
+            self.do_due(due);
         }
         let sight = self.sight();
         self.left_out = self.cut_off.left_out(&sight);
     }
 
+    /// A server is silent when nothing has come from it for the time that one waits, or for a quarter of that where its
+    /// connection has ended too: a host that lives connects again with its next heartbeat.
     fn is_silent(&self, id: &Id) -> bool {
         let silence = Duration::from_millis(self.core.config.silence);
         let last = self.heard.get(&id.index).filter(|(other, _)| other == id).map_or(Duration::ZERO, |(_, at)| *at);
@@ -122,13 +121,14 @@ impl Coordinator {
         most <= self.core.awake.now() - last
     }
 
+    /// What is seen of the servers now.
     fn sight(&mut self) -> Sight {
         let (silence, now) = (Duration::from_millis(self.core.config.silence), self.core.awake.now());
         let servers = self.core.node.servers().unwrap_or_default();
         let tablets = self.core.node.tablets().unwrap_or_default();
         Sight {
             up: servers.into_iter().filter(|(_, is_up)| *is_up).map(|(id, _)| id).collect(),
-            heard: self.heard.values().filter(|(_, at)| now - *at < silence).map(|(id, _)| *id).collect(),
+            heard: self.heard.values().map(|(id, at)| (*id, now - *at)).filter(|(_, ago)| *ago < silence).collect(),
             owners: tablets.iter().map(|tablet| tablet.owner).collect(),
             is_recovering: tablets.iter().any(|tablet| tablet.crashed),
             factor: usize::from(self.core.config.factor),

@@ -253,7 +253,8 @@ impl Core {
 
     /// Who has answered nothing for as long as one waits, with for how long.
     pub fn waited_for(&mut self) -> Vec<(Id, Duration)> {
-        self.waits.longer_than(Duration::from_millis(self.config.silence), self.awake.now())
+        let [silence, tick] = [self.config.silence, self.config.tick].map(Duration::from_millis);
+        self.waits.longer_than(silence, (silence / 2).max(2 * tick), self.awake.now())
     }
 
     /// Queues a frame for a peer, or for this node itself.

@@ -22,6 +22,9 @@ const LAST_HEAD: u16 = 60_000;
 /// After so many requests that came at once, what they send leaves, so that the others can begin.
 const SOME: usize = 32;
 
+/// For so long a server takes what has come, before it makes that safe and sends what it has to say.
+const TURN: Duration = Duration::from_millis(20);
+
 /// How often a server says that it lives.
 const BEAT: Duration = Duration::from_millis(100);
 
@@ -107,7 +110,8 @@ impl Host {
     fn serve(&mut self, events: &Receiver<Event>) {
         let mut tick = Instant::now();
         loop {
-            match events.recv_timeout(Duration::from_millis(20)) {
+            let wait = if self.core.local.is_empty() { TURN } else { Duration::ZERO };
+            match events.recv_timeout(wait) {
                 Ok(event) => self.take_some(event, events),
                 Err(RecvTimeoutError::Timeout) => {}
                 Err(RecvTimeoutError::Disconnected) => return,
@@ -143,7 +147,7 @@ impl Host {
         let mut event = Some(first);
         while let Some(one) = event {
             self.take(one);
-            event = if began.elapsed() < Duration::from_millis(20) { events.try_recv().ok() } else { None };
+            event = if began.elapsed() < TURN { events.try_recv().ok() } else { None };
         }
     }
 
@@ -344,17 +348,22 @@ impl Host {
         }
     }
 
-    /// All that is there is written, made safe and sent, until nothing waits.
+    /// All that is there is written, made safe and sent, until nothing waits, or for a turn: what the server still has
+    /// to say to itself then has to wait, so that the others are answered.
     fn settle(&mut self) {
+        let began = Instant::now();
         for _ in 0..64 {
             self.route();
             let was_synced = self.core.make_safe();
             if was_synced {
                 self.route();
             }
-            let Some(message) = self.core.local.pop_front() else { break };
-            self.take_local(&message);
-            while let Some(message) = self.core.local.pop_front() {
+            if self.core.local.is_empty() || TURN <= began.elapsed() {
+                break;
+            }
+            while began.elapsed() < TURN
+                && let Some(message) = self.core.local.pop_front()
+            {
                 self.take_local(&message);
                 beat_if_due(&mut self.beat, self.server, &mut self.core);
             }

@@ -26,9 +26,9 @@ impl Waits {
     }
 
     /// Those that were waited for at least so long, with for how long. What is waited for is asked again with each
-    /// timer: who was asked nothing for half of that time is not waited for any more.
-    pub fn longer_than(&mut self, least: Duration, now: Duration) -> Vec<(Id, Duration)> {
-        self.asked.retain(|(.., last)| now - *last < least / 2);
+    /// timer: who was asked nothing for so long an idle time is not waited for any more.
+    pub fn longer_than(&mut self, least: Duration, idle: Duration, now: Duration) -> Vec<(Id, Duration)> {
+        self.asked.retain(|(.., last)| now - *last < idle);
         let waits = self.asked.iter().map(|(id, since, _)| (*id, now - *since));
         waits.filter(|(_, wait)| least <= *wait).collect()
     }
@@ -57,7 +57,7 @@ mod tests {
                 waits.answered(other);
             }
         }
-        assert_eq!(waits.longer_than(at(1000), at(1000)), [(one, at(1000))]);
-        assert_eq!(waits.longer_than(at(1000), at(1600)), []);
+        assert_eq!(waits.longer_than(at(1000), at(500), at(1000)), [(one, at(1000))]);
+        assert_eq!(waits.longer_than(at(1000), at(500), at(1600)), []);
     }
 }

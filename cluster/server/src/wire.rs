@@ -14,7 +14,7 @@ pub const MOST: usize = 256 << 20;
 /// How many bytes of a batch stand before its frames: length, number and sum.
 pub const HEAD: usize = 44;
 
-/// The first byte of what is no message of the protocol: a heartbeat of a server, with its id.
+/// The first byte of what is no message of the protocol: a heartbeat of a server, with its id, and whom it waits for.
 pub const HEARTBEAT: u8 = 0;
 
 /// The coordinator's answer to the heartbeat of one that its list shows crashed.

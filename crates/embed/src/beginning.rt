@@ -1,13 +1,18 @@
 //! How each node begins.
 
+ghost use Rattle.std.specs.Prelude.{◌≡◌};
 ghost use Rattle.rc_world.specs.HostView.{IsWithinLimits};
+ghost use Rattle.rc_world.specs.NodeView.{node_seen};
+ghost use Rattle.embed.specs.Beginning.{begun, small_setup};
 
 use rc_types::{NodeName, Seq, Setup};
 use rc_world::NodeState;
 use std::alloc::Global;
 
 /// The node before anything has happened. It takes no memory.
-pub(crate) fn begun(name: NodeName, alloc: Global) -> NodeState<Global> {
+pub(crate) fn begun(name: NodeName, alloc: Global) -> NodeState<Global>
+    ensures { node_seen result ≡ begun name }
+{
     match name {
         NodeName::Outside => NodeState::outside(alloc),
         NodeName::Coordinator => NodeState::coordinator(alloc, alloc),
@@ -17,7 +22,8 @@ pub(crate) fn begun(name: NodeName, alloc: Global) -> NodeState<Global> {
 
 /// What all hosts are made with: small segments, so that heads roll, which are freed once they are dead.
 fn setup(alloc: Global) -> Setup
-    ensures { IsWithinLimits result }
+    ensures made { result ≡ small_setup }
+    ensures within { IsWithinLimits result }
 {
     Setup {
         factor: 2,
