@@ -2,7 +2,7 @@
 
 use crate::core::{Config, Core, Frame, tell};
 use crate::cut_off::{CutOff, Sight};
-use crate::net::Event;
+use crate::events::{Event, EventReceiver, TURN};
 use crate::protocol::{DONE, Op, Reply, Request, WRONG};
 use crate::wire::NOT_UP;
 use sevunthi::message::{framed, kind};
@@ -10,7 +10,6 @@ use sevunthi::{Address, Answer, Due, Envelope, Fault, Id, Work};
 use std::collections::{HashMap, HashSet};
 use std::fmt::Write as _;
 use std::io;
-use std::sync::mpsc::{Receiver, RecvTimeoutError};
 use std::time::{Duration, Instant};
 
 /// A refusal where no tablet holds the key, or its owner has crashed.
@@ -55,21 +54,10 @@ pub fn run(config: Config) -> io::Result<()> {
 }
 
 impl Coordinator {
-    fn serve(&mut self, events: &Receiver<Event>) {
+    fn serve(&mut self, events: &EventReceiver) {
         let (mut beat, mut tick) = (Instant::now(), Instant::now());
         loop {
-            match events.recv_timeout(Duration::from_millis(20)) {
-                Ok(event) => {
-                    let began = Instant::now();
-                    let mut event = Some(event);
-                    while let Some(one) = event {
-                        self.take(one);
-                        event = if began.elapsed().as_millis() < 20 { events.try_recv().ok() } else { None };
-                    }
-                }
-                Err(RecvTimeoutError::Timeout) => {}
-                Err(RecvTimeoutError::Disconnected) => return,
-            }
+            events.take_turn(TURN, |event| self.take(event));
             self.core.awake.turn();
             if self.is_due || Duration::from_millis(100) <= beat.elapsed() {
                 beat = Instant::now();
@@ -190,6 +178,7 @@ impl Coordinator {
                     self.hear(id);
                 }
             }
+            Event::Synced => self.core.end_sync(),
             Event::PeerDown(connection) => self.gone.extend(self.connections.remove(&connection)),
             Event::Client(client, bytes) => {
                 for bytes in framed(&bytes) {
@@ -260,11 +249,11 @@ impl Coordinator {
         tablets.iter().find(holds).filter(|tablet| !tablet.crashed).map(|tablet| tablet.owner)
     }
 
-    /// All that is there is written, made safe and sent, until nothing waits.
+    /// All that is there is written, made safe and sent, until nothing waits: who asks is told what came of it.
     fn settle(&mut self) {
         for _ in 0..64 {
             self.route();
-            if !self.core.make_safe() {
+            if !self.core.make_safe_now() {
                 break;
             }
         }

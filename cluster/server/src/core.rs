@@ -1,11 +1,13 @@
 //! What hosts and the coordinator have in common: a node with its journal, its peers and its clients.
 
 use crate::awake::Awake;
+use crate::events::{self, Event, EventReceiver};
 use crate::faults::{Failing, Mangle, Wrong};
-use crate::journal::{self, Journal};
-use crate::net::{Event, PeerWriter, Writer, listen};
+use crate::journal::{self, Journal, Synced};
+use crate::net::{PeerWriter, Writer, listen};
 use crate::protocol::Reply;
 use crate::record::Record;
+use crate::superseded::without_superseded;
 use crate::waits::Waits;
 use crate::wire::{HEARTBEAT, NOT_UP, frames};
 use sevunthi::message::kind;
@@ -15,7 +17,6 @@ use std::fmt::Display;
 use std::fs::File;
 use std::io::{self, Read};
 use std::path::PathBuf;
-use std::sync::mpsc::{Receiver, channel};
 use std::sync::{Arc, Mutex};
 use std::time::{Duration, Instant, SystemTime, UNIX_EPOCH};
 
@@ -44,6 +45,8 @@ pub struct Config {
     pub silence: u64,
     /// How many bytes a journal grows before it is made short.
     pub long: usize,
+    /// When a host has taken so much since the last sync, the next one is left to a thread, and the host goes on.
+    pub beside: u64,
     /// Whether each message is recorded.
     pub record: bool,
     /// Whether faults can be asked for.
@@ -61,8 +64,9 @@ impl Config {
     }
 }
 
-/// For so many bytes of answers to a client there is room at once.
-const ANSWERS: usize = 1024;
+/// For so many bytes of answers to a client there is room at once. The thread that sends them frees this; it is more
+/// than the C library would keep at hand for that thread.
+const ANSWERS: usize = 2048;
 
 /// A node with its journal, its peers and its clients.
 pub struct Core {
@@ -84,6 +88,8 @@ pub struct Core {
     pub mangle: Mangle,
     pub awake: Awake,
     pub waits: Waits,
+    /// How much was taken when the last sync began.
+    synced_at: u64,
 }
 
 /// What was counted.
@@ -118,11 +124,11 @@ pub fn failed(what: &str, error: impl Display) -> ! {
 
 impl Core {
     /// Opens the folder, makes the node or has it come back, and listens.
-    pub fn open(config: Config) -> io::Result<(Core, Receiver<Event>)> {
+    pub fn open(config: Config) -> io::Result<(Core, EventReceiver)> {
         let found = journal::find(&config.folder)?;
         let mut ready = Ready::default();
         let failing = if config.faults { Failing::in_folder(&config.folder) } else { Failing::default() };
-        let (mut node, journal) = match &found.bytes {
+        let (mut node, mut journal) = match &found.bytes {
             Some(bytes) => {
                 let mut node = Node::come_back(bytes, found.known)
                     .unwrap_or_else(|fault| failed("this node must not start", fault));
@@ -141,8 +147,10 @@ impl Core {
         };
         node.synced(journal.length).map_err(io::Error::other)?;
         ready.journal.clear();
-        let (events, from) = channel();
+        let (events, from) = events::channel();
         let text = Arc::new(Mutex::new(String::new()));
+        let done = events.clone();
+        journal.sync_beside(move || _ = done.send(Event::Synced));
         listen(&config.at(config.place()), config.secret.clone(), events, Arc::clone(&text))?;
         let places = 0..=usize::from(config.hosts);
         let record = config.record.then(|| Record::open(&config.folder)).transpose()?;
@@ -164,6 +172,7 @@ impl Core {
             mangle: Mangle::default(),
             awake: Awake::new(),
             waits: Waits::default(),
+            synced_at: 0,
             config,
         };
         core.tick_clock();
@@ -226,7 +235,7 @@ impl Core {
             tell(fault);
         }
         self.tick_clock();
-        for message in ready.messages() {
+        for message in without_superseded(ready.messages()) {
             self.send(message, &mut answer);
         }
         ready.messages.clear();
@@ -263,7 +272,7 @@ impl Core {
             self.local.push_back(message.to_vec());
             return;
         }
-        if self.mangle.is_deaf(place) {
+        if self.mangle.is_deaf(place) || place == usize::from(self.config.hosts) && self.is_stuck() {
             return;
         }
         let Some(out) = self.outs.get_mut(place) else { return };
@@ -284,24 +293,66 @@ impl Core {
         }
     }
 
-    /// Writes what the node has written down; and where something waits for that, syncs it. Says whether it did.
+    /// Whether a sync takes so long that nobody should wait for this node: the coordinator hears nothing from it then.
+    fn is_stuck(&self) -> bool {
+        self.journal.is_stuck(Duration::from_millis(self.config.silence) / 8)
+    }
+
+    /// Takes what the node has written down. What is recorded has to be noted before that is written.
+    fn take_journal(&mut self) -> Vec<u8> {
+        if let Some(record) = self.record.as_mut().filter(|_| !self.ready.journal.is_empty()) {
+            record.note(self.clock).unwrap_or_else(|error| failed("the clock can't be noted", error));
+        }
+        let next = Vec::with_capacity(self.ready.journal.len());
+        std::mem::replace(&mut self.ready.journal, next)
+    }
+
+    /// Where something waits until what the node has written down is safe, has it written and synced beside, while more
+    /// is taken. Says whether that is under way: what comes meanwhile has to wait, and a long journal is left alone.
+    pub fn begin_sync(&mut self) -> bool {
+        if !self.journal.is_syncing && self.ready.waits && !self.is_long() {
+            self.synced_at = self.counts.works;
+            let bytes = self.take_journal();
+            self.journal.begin_sync(bytes).unwrap_or_else(|error| failed("the journal can't be written", error));
+        }
+        self.journal.is_syncing
+    }
+
+    /// A sync that was begun may have ended.
+    pub fn end_sync(&mut self) {
+        let synced = self.journal.poll_sync().unwrap_or_else(|error| failed("the journal can't be synced", error));
+        synced.into_iter().for_each(|synced| _ = self.note_synced(synced));
+    }
+
+    fn note_synced(&mut self, synced: Synced) -> bool {
+        self.counts.syncing += synced.took.as_nanos() as u64;
+        self.node.synced(synced.safe).is_ok()
+    }
+
+    /// Writes what the node has written down; and where something waits for that, makes it safe: beside where much was
+    /// taken since the last sync, else at once. Says whether it did so at once.
     pub fn make_safe(&mut self) -> bool {
+        let is_much = self.config.beside <= self.counts.works - self.synced_at;
+        if (self.journal.is_syncing || is_much) && self.begin_sync() {
+            return false;
+        }
+        self.make_safe_now()
+    }
+
+    /// The same, but always at once.
+    pub fn make_safe_now(&mut self) -> bool {
+        let synced = self.journal.wait_sync().unwrap_or_else(|error| failed("the journal can't be synced", error));
+        synced.into_iter().for_each(|synced| _ = self.note_synced(synced));
         if !self.ready.journal.is_empty() {
-            if let Some(record) = &mut self.record {
-                record.note(self.clock).unwrap_or_else(|error| failed("the clock can't be noted", error));
-            }
-            let bytes = std::mem::take(&mut self.ready.journal);
+            let bytes = self.take_journal();
             self.journal.add(&bytes).unwrap_or_else(|error| failed("the journal can't be written", error));
-            self.ready.journal = bytes;
-            self.ready.journal.clear();
         }
         if !self.ready.waits {
             return false;
         }
-        let began = Instant::now();
-        self.journal.sync().unwrap_or_else(|error| failed("the journal can't be synced", error));
-        self.counts.syncing += began.elapsed().as_nanos() as u64;
-        self.node.synced(self.journal.length).is_ok()
+        self.synced_at = self.counts.works;
+        let synced = self.journal.sync().unwrap_or_else(|error| failed("the journal can't be synced", error));
+        self.note_synced(synced)
     }
 
     /// What was queued leaves.
@@ -320,9 +371,14 @@ impl Core {
         }
     }
 
+    /// Whether the journal is to be made short.
+    fn is_long(&self) -> bool {
+        self.config.long <= self.journal.length - self.journal.saved
+    }
+
     /// Makes a long journal short.
     pub fn shorten(&mut self) {
-        if self.journal.length - self.journal.saved < self.config.long || !self.ready.journal.is_empty() {
+        if !self.is_long() || self.journal.is_syncing || !self.ready.journal.is_empty() {
             return;
         }
         match self.node.save() {
@@ -350,6 +406,9 @@ impl Core {
             Some(Wrong::Deaf(mask)) => self.mangle.deaf = mask,
             Some(Wrong::Mangle(often)) => self.mangle.often = often,
             Some(Wrong::Jump(nanoseconds)) => self.base = self.base.saturating_add_signed(nanoseconds),
+            Some(Wrong::DiskStands(milliseconds)) => {
+                self.journal.failing.stands_until = Instant::now().checked_add(Duration::from_millis(milliseconds));
+            }
             Some(Wrong::Nothing) => self.journal.failing = Failing::in_folder(&self.config.folder),
             None => {}
         }

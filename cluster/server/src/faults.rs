@@ -2,9 +2,11 @@
 //! full disk is a file beside the journal, so that it outlives the process.
 
 use crate::wire::put_frame;
-use std::fs::{self, File};
+use std::fs;
 use std::io::{self, ErrorKind, Write};
 use std::path::{Path, PathBuf};
+use std::thread;
+use std::time::Instant;
 
 /// While this file is there, each write to the journal writes half, and the disk is full.
 pub const FULL: &str = "full";
@@ -31,6 +33,8 @@ pub enum Wrong {
     Jump(i64),
     /// What was to go wrong with the journal, and has not yet, is not to.
     Nothing,
+    /// The disk stands still for so many milliseconds.
+    DiskStands(u64),
 }
 
 impl Wrong {
@@ -44,6 +48,7 @@ impl Wrong {
             Wrong::Mangle(often) => (4, often),
             Wrong::Jump(nanoseconds) => (5, nanoseconds.cast_unsigned()),
             Wrong::Nothing => (6, 0),
+            Wrong::DiskStands(milliseconds) => (7, milliseconds),
         }
     }
 
@@ -57,6 +62,7 @@ impl Wrong {
             4 => Wrong::Mangle(how),
             5 => Wrong::Jump(how.cast_signed()),
             6 => Wrong::Nothing,
+            7 => Wrong::DiskStands(how),
             _ => return None,
         })
     }
@@ -68,6 +74,8 @@ pub struct Failing {
     folder: Option<PathBuf>,
     /// The next sync fails.
     pub sync: bool,
+    /// The disk stands still until then.
+    pub stands_until: Option<Instant>,
     /// The process ends in the next save, after this step.
     pub end_in_save: Option<u8>,
     /// The next save finds the disk full.
@@ -81,7 +89,7 @@ impl Failing {
     }
 
     /// Writes bytes, or half of them where the disk is to be full.
-    pub fn write(&self, file: &mut File, bytes: &[u8], is_save: bool) -> io::Result<()> {
+    pub fn write(&self, mut file: impl Write, bytes: &[u8], is_save: bool) -> io::Result<()> {
         let is_full = self.folder.as_ref().is_some_and(|folder| folder.join(FULL).exists());
         if is_full && !bytes.is_empty() || is_save && self.full_in_save {
             file.write_all(&bytes[..bytes.len() / 2])?;
@@ -90,8 +98,11 @@ impl Failing {
         file.write_all(bytes)
     }
 
-    /// Fails where the next sync is to fail.
+    /// Waits while the disk is to stand still, and fails where the next sync is to fail.
     pub fn sync(&self) -> io::Result<()> {
+        if let Some(until) = self.stands_until {
+            thread::sleep(until.saturating_duration_since(Instant::now()));
+        }
         if self.sync { Err(io::Error::other("the disk has failed")) } else { Ok(()) }
     }
 
@@ -184,12 +195,13 @@ mod tests {
             Wrong::Mangle(100),
             Wrong::Jump(-7),
             Wrong::Nothing,
+            Wrong::DiskStands(1500),
         ];
         for wrong in all {
             let (what, how) = wrong.code();
             assert_eq!(Wrong::read(what, how), Some(wrong));
         }
-        assert_eq!(Wrong::read(7, 0), None);
+        assert_eq!(Wrong::read(8, 0), None);
         assert_eq!(Wrong::read(1, 256), None);
     }
 

@@ -1,7 +1,7 @@
 //! The process of a host.
 
 use crate::core::{Config, Core, Frame, failed, tell};
-use crate::net::Event;
+use crate::events::{Event, EventReceiver, TURN};
 use crate::protocol::{DONE, NO_VALUE, Op, Reply, Request, UNKNOWN, WRONG};
 use crate::wire::HEARTBEAT;
 use sevunthi::message::{self, framed, kind, u32_at, u64_at};
@@ -10,7 +10,6 @@ use std::borrow::Cow;
 use std::collections::VecDeque;
 use std::fmt::Write as _;
 use std::io;
-use std::sync::mpsc::{Receiver, RecvTimeoutError};
 use std::time::{Duration, Instant};
 
 /// A place of the log.
@@ -22,8 +21,8 @@ const LAST_HEAD: u16 = 60_000;
 /// After so many requests that came at once, what they send leaves, so that the others can begin.
 const SOME: usize = 32;
 
-/// For so long a server takes what has come, before it makes that safe and sends what it has to say.
-const TURN: Duration = Duration::from_millis(20);
+/// After so much was taken, what that has to say leaves.
+const MANY: u64 = 128;
 
 /// How often a server says that it lives.
 const BEAT: Duration = Duration::from_millis(100);
@@ -103,19 +102,26 @@ impl Host {
         for (_, client, reply, _) in std::mem::take(&mut self.reads) {
             self.core.answer(client, &Reply::bare(5, reply.number));
         }
+        // what the server says waits until its start is safe
+        self.route();
+        self.core.make_safe_now();
         self.settle();
         tell(format_args!("server {} begins", self.server));
     }
 
-    fn serve(&mut self, events: &Receiver<Event>) {
+    fn serve(&mut self, events: &EventReceiver) {
         let mut tick = Instant::now();
         loop {
             let wait = if self.core.local.is_empty() { TURN } else { Duration::ZERO };
-            match events.recv_timeout(wait) {
-                Ok(event) => self.take_some(event, events),
-                Err(RecvTimeoutError::Timeout) => {}
-                Err(RecvTimeoutError::Disconnected) => return,
-            }
+            let mut passed_on = self.core.counts.works;
+            events.take_turn(wait, |event| {
+                let is_safe = matches!(event, Event::Synced);
+                self.take(event);
+                if is_safe || passed_on + MANY <= self.core.counts.works || !self.waiting.is_empty() {
+                    passed_on = self.core.counts.works;
+                    self.pass_on();
+                }
+            });
             self.core.awake.turn();
             if BEAT <= self.beat.elapsed() {
                 self.beat = Instant::now();
@@ -141,14 +147,12 @@ impl Host {
         }
     }
 
-    /// Takes what is there, for a while.
-    fn take_some(&mut self, first: Event, events: &Receiver<Event>) {
-        let began = Instant::now();
-        let mut event = Some(first);
-        while let Some(one) = event {
-            self.take(one);
-            event = if began.elapsed() < TURN { events.try_recv().ok() } else { None };
-        }
+    /// What was taken leaves, as far as it may; all else is made safe beside, while more is taken.
+    fn pass_on(&mut self) {
+        self.retry();
+        self.route();
+        self.core.begin_sync();
+        self.core.flush();
     }
 
     fn take(&mut self, event: Event) {
@@ -183,6 +187,7 @@ impl Host {
             Event::ClientUp(client, writer) => self.core.set_client(client, Some(writer)),
             Event::ClientDown(client) => self.core.set_client(client, None),
             Event::PeerDown(_) => {}
+            Event::Synced => self.core.end_sync(),
         }
     }
 
@@ -319,9 +324,14 @@ impl Host {
 
     /// What had to wait for a roll is asked again.
     fn retry(&mut self) {
-        while let Some(asked) = self.waiting.pop_front() {
+        for number in 1.. {
+            let Some(asked) = self.waiting.pop_front() else { return };
             if !self.give(asked) {
                 return;
+            }
+            if number % SOME == 0 {
+                self.route();
+                self.core.flush();
             }
         }
     }
@@ -348,8 +358,8 @@ impl Host {
         }
     }
 
-    /// All that is there is written, made safe and sent, until nothing waits, or for a turn: what the server still has
-    /// to say to itself then has to wait, so that the others are answered.
+    /// What is there is written and made safe, or that begins, and what may leave is sent. For a turn the server takes
+    /// what it has to say to itself; the others have to be answered too.
     fn settle(&mut self) {
         let began = Instant::now();
         for _ in 0..64 {

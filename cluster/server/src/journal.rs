@@ -5,6 +5,10 @@ use std::fs::{self, File, OpenOptions};
 use std::io::{self, ErrorKind, Seek, SeekFrom};
 use std::os::unix::fs::FileExt;
 use std::path::{Path, PathBuf};
+use std::sync::mpsc::{Receiver, Sender, TryRecvError, channel};
+use std::sync::{Arc, Mutex, MutexGuard};
+use std::thread;
+use std::time::{Duration, Instant};
 
 /// So far ahead of its bytes a journal's file is filled with zeros, which are no record: a sync that does not change
 /// how long the file is takes half of the time.
@@ -13,8 +17,7 @@ const AHEAD: usize = 1 << 20;
 /// The file of a node's journal, locked. Behind the journal's bytes it has zeros.
 pub struct Journal {
     folder: PathBuf,
-    file: File,
-    known: File,
+    files: Arc<Mutex<Files>>,
     _lock: File,
     /// How many bytes it has.
     pub length: usize,
@@ -23,10 +26,45 @@ pub struct Journal {
     /// How often it was synced.
     pub syncs: u64,
     safe: usize,
-    /// How many bytes the file has, with the zeros.
-    filled: usize,
     /// What is to fail, where a test asks for it.
     pub failing: Failing,
+    /// The thread that writes and syncs it beside, if there is one.
+    beside: Option<Beside>,
+    /// Whether that thread was asked, and its answer was not taken.
+    pub is_syncing: bool,
+    /// When it was asked last.
+    began: Instant,
+}
+
+/// How to speak with a thread that writes and syncs a journal.
+struct Beside {
+    asked: Sender<Asked>,
+    done: Receiver<io::Result<Synced>>,
+}
+
+/// The journal's file, and the one that says how many of its bytes are safe.
+struct Files {
+    file: File,
+    known: File,
+    /// How many bytes were written.
+    length: usize,
+    /// How many bytes the file has, with the zeros.
+    filled: usize,
+}
+
+/// What was asked of the thread beside: these bytes are to be added, and all made safe.
+struct Asked {
+    bytes: Vec<u8>,
+    failing: Failing,
+}
+
+/// A sync has ended.
+#[derive(Clone, Copy, Debug)]
+pub struct Synced {
+    /// So many bytes are safe.
+    pub safe: usize,
+    /// So long it took.
+    pub took: Duration,
 }
 
 /// What stands in a folder: the journal's bytes, if there is one, and how many were known to be safe.
@@ -69,46 +107,10 @@ fn sync_folder(folder: &Path) -> io::Result<()> {
     File::open(folder)?.sync_all()
 }
 
-impl Journal {
-    /// The first journal of a node, which is these bytes. It stands there whole and safe, or not at all.
-    pub fn create(folder: &Path, found: Found, first: &[u8], failing: Failing) -> io::Result<Journal> {
-        let next = folder.join("next");
-        let mut file = OpenOptions::new().create(true).truncate(true).write(true).open(&next)?;
-        failing.write(&mut file, first, false)?;
-        file.sync_all()?;
-        fs::rename(&next, folder.join("journal"))?;
-        sync_folder(folder)?;
-        let journal = Journal::open(folder, found, first.len(), failing)?;
-        journal.note(journal.length)?;
-        Ok(journal)
-    }
-
-    /// The journal that was found, cut to its good bytes.
-    pub fn open(folder: &Path, found: Found, good: usize, failing: Failing) -> io::Result<Journal> {
-        let mut file = OpenOptions::new().write(true).open(folder.join("journal"))?;
-        file.set_len(good as u64)?;
-        file.sync_all()?;
-        file.seek(SeekFrom::End(0))?;
-        let known = OpenOptions::new().create(true).truncate(false).write(true).open(folder.join("known"))?;
-        sync_folder(folder)?;
-        Ok(Journal {
-            folder: folder.into(),
-            file,
-            known,
-            _lock: found.lock,
-            length: good,
-            saved: good,
-            syncs: 0,
-            safe: good,
-            filled: good,
-            failing,
-        })
-    }
-
-    /// Adds bytes at its end. After an error the process has to end.
-    pub fn add(&mut self, bytes: &[u8]) -> io::Result<()> {
+impl Files {
+    fn add(&mut self, bytes: &[u8], failing: &Failing) -> io::Result<()> {
         self.fill(self.length + bytes.len());
-        self.failing.write(&mut self.file, bytes, false)?;
+        failing.write(&self.file, bytes, false)?;
         self.length += bytes.len();
         Ok(())
     }
@@ -125,21 +127,148 @@ impl Journal {
         }
     }
 
-    /// Makes all its bytes safe. After an error the process has to end.
-    pub fn sync(&mut self) -> io::Result<()> {
-        self.failing.sync()?;
+    fn sync(&self) -> io::Result<Synced> {
+        let began = Instant::now();
         self.file.sync_data()?;
+        self.note(self.length)?;
+        Ok(Synced { safe: self.length, took: began.elapsed() })
+    }
+
+    /// Notes that so many bytes are safe.
+    fn note(&self, safe: usize) -> io::Result<()> {
+        self.known.write_all_at(&(safe as u64).to_le_bytes(), 0)
+    }
+}
+
+fn no_thread() -> io::Error {
+    io::Error::other("the journal has no thread")
+}
+
+/// The files, which whoever failed with them has left to nobody.
+fn lock(files: &Mutex<Files>) -> io::Result<MutexGuard<'_, Files>> {
+    files.lock().map_err(|_| no_thread())
+}
+
+impl Journal {
+    /// The first journal of a node, which is these bytes. It stands there whole and safe, or not at all.
+    pub fn create(folder: &Path, found: Found, first: &[u8], failing: Failing) -> io::Result<Journal> {
+        let next = folder.join("next");
+        let mut file = OpenOptions::new().create(true).truncate(true).write(true).open(&next)?;
+        failing.write(&mut file, first, false)?;
+        file.sync_all()?;
+        fs::rename(&next, folder.join("journal"))?;
+        sync_folder(folder)?;
+        let journal = Journal::open(folder, found, first.len(), failing)?;
+        lock(&journal.files)?.note(journal.length)?;
+        Ok(journal)
+    }
+
+    /// The journal that was found, cut to its good bytes.
+    pub fn open(folder: &Path, found: Found, good: usize, failing: Failing) -> io::Result<Journal> {
+        let mut file = OpenOptions::new().write(true).open(folder.join("journal"))?;
+        file.set_len(good as u64)?;
+        file.sync_all()?;
+        file.seek(SeekFrom::End(0))?;
+        let known = OpenOptions::new().create(true).truncate(false).write(true).open(folder.join("known"))?;
+        sync_folder(folder)?;
+        Ok(Journal {
+            folder: folder.into(),
+            files: Arc::new(Mutex::new(Files { file, known, length: good, filled: good })),
+            _lock: found.lock,
+            length: good,
+            saved: good,
+            syncs: 0,
+            safe: good,
+            failing,
+            beside: None,
+            is_syncing: false,
+            began: Instant::now(),
+        })
+    }
+
+    /// Adds bytes at its end, while nobody syncs it beside. After an error the process has to end.
+    pub fn add(&mut self, bytes: &[u8]) -> io::Result<()> {
+        lock(&self.files)?.add(bytes, &self.failing)?;
+        self.length += bytes.len();
+        Ok(())
+    }
+
+    /// Makes all its bytes safe. After an error the process has to end.
+    pub fn sync(&mut self) -> io::Result<Synced> {
+        self.failing.sync()?;
+        let synced = lock(&self.files)?.sync()?;
+        self.note_synced(synced);
+        Ok(synced)
+    }
+
+    /// From now on a thread of its own can write and sync it, while the node goes on. It says when it has done so.
+    pub fn sync_beside(&mut self, tell: impl Fn() + Send + 'static) {
+        let (ask, asked) = channel::<Asked>();
+        let (answer, done) = channel();
+        let files = Arc::clone(&self.files);
+        thread::spawn(move || {
+            for Asked { bytes, failing } in asked {
+                let synced = lock(&files).and_then(|mut files| {
+                    files.add(&bytes, &failing)?;
+                    failing.sync()?;
+                    files.sync()
+                });
+                if answer.send(synced).is_err() {
+                    return;
+                }
+                tell();
+            }
+        });
+        self.beside = Some(Beside { asked: ask, done });
+    }
+
+    /// Has that thread, which is not at it, add bytes and make all safe. After an error the process has to end.
+    pub fn begin_sync(&mut self, bytes: Vec<u8>) -> io::Result<()> {
+        let length = self.length + bytes.len();
+        let asked = Asked { bytes, failing: self.failing.clone() };
+        if self.beside.as_ref().is_none_or(|beside| beside.asked.send(asked).is_err()) {
+            return Err(no_thread());
+        }
+        self.length = length;
+        self.is_syncing = true;
+        self.began = Instant::now();
+        Ok(())
+    }
+
+    /// Whether the thread has been at it for longer than this.
+    pub fn is_stuck(&self, most: Duration) -> bool {
+        self.is_syncing && most < self.began.elapsed()
+    }
+
+    /// What came of the sync that was begun, if it has ended. After an error the process has to end.
+    pub fn poll_sync(&mut self) -> io::Result<Option<Synced>> {
+        self.end_sync(|beside| match beside.done.try_recv() {
+            Ok(synced) => Some(synced),
+            Err(TryRecvError::Empty) => None,
+            Err(TryRecvError::Disconnected) => Some(Err(no_thread())),
+        })
+    }
+
+    /// Waits for the sync that was begun, if it was, and says what came of it. After an error the process has to end.
+    pub fn wait_sync(&mut self) -> io::Result<Option<Synced>> {
+        self.end_sync(|beside| Some(beside.done.recv().unwrap_or_else(|_| Err(no_thread()))))
+    }
+
+    fn end_sync(&mut self, answer: impl FnOnce(&Beside) -> Option<io::Result<Synced>>) -> io::Result<Option<Synced>> {
+        let beside = self.beside.as_ref().filter(|_| self.is_syncing);
+        let Some(synced) = beside.and_then(answer).transpose()? else { return Ok(None) };
+        self.is_syncing = false;
+        self.note_synced(synced);
+        Ok(Some(synced))
+    }
+
+    fn note_synced(&mut self, synced: Synced) {
         self.syncs += 1;
-        self.safe = self.length;
-        self.note(self.length)
+        self.safe = synced.safe;
     }
 
-    fn note(&self, known: usize) -> io::Result<()> {
-        self.known.write_all_at(&(known as u64).to_le_bytes(), 0)
-    }
-
-    /// A save takes its place: second file, sync, rename, sync of the folder. Until the new length is noted nothing is
-    /// known to be safe of whichever file stands there.
+    /// A save takes its place, while nobody syncs it beside: second file, sync, rename, sync of the folder. Until the
+    /// new length is noted nothing is known to be safe of whichever file stands there.
     pub fn replace(&mut self, save: &[u8]) -> io::Result<()> {
         self.failing.keep_before(self.safe)?;
         let next = self.folder.join("next");
@@ -149,20 +278,22 @@ impl Journal {
         self.failing.after(1);
         file.sync_all()?;
         self.failing.after(2);
-        self.note(0)?;
-        self.known.sync_all()?;
+        let mut files = lock(&self.files)?;
+        files.note(0)?;
+        files.known.sync_all()?;
         self.failing.after(3);
         fs::rename(&next, self.folder.join("journal"))?;
         self.failing.after(4);
         sync_folder(&self.folder)?;
         self.failing.after(5);
-        self.file = OpenOptions::new().write(true).open(self.folder.join("journal"))?;
-        self.file.seek(SeekFrom::End(0))?;
-        self.filled = save.len();
+        files.file = OpenOptions::new().write(true).open(self.folder.join("journal"))?;
+        files.file.seek(SeekFrom::End(0))?;
+        files.filled = save.len();
+        files.length = save.len();
         self.length = save.len();
         self.saved = save.len();
         self.safe = save.len();
-        self.note(self.length)
+        files.note(save.len())
     }
 }
 
@@ -187,6 +318,33 @@ mod tests {
         drop(found);
         fs::remove_file(folder.join("journal"))?;
         assert!(find(&folder).is_err());
+        fs::remove_dir_all(&folder)
+    }
+
+    #[test]
+    fn a_thread_writes_and_syncs_while_its_node_goes_on() -> io::Result<()> {
+        let folder = empty_folder("beside");
+        let mut journal = Journal::create(&folder, find(&folder)?, b"first", Failing::default())?;
+        assert!(journal.begin_sync(b"nobody".to_vec()).is_err(), "there is no thread yet");
+        let (tell, told) = channel();
+        journal.sync_beside(move || tell.send(()).expect("somebody waits"));
+        for (more, safe) in [(&b" and more"[..], 14), (b"", 14), (b" again", 20)] {
+            journal.begin_sync(more.to_vec())?;
+            assert!(journal.is_syncing && journal.length == safe);
+            if more.is_empty() {
+                assert_eq!(journal.wait_sync()?.map(|synced| synced.safe), Some(safe));
+            }
+            told.recv().map_err(io::Error::other)?;
+            let polled = if more.is_empty() { None } else { Some(safe) };
+            assert_eq!(journal.poll_sync()?.map(|synced| synced.safe), polled);
+            assert!(!journal.is_syncing && journal.wait_sync()?.is_none());
+        }
+        journal.add(b", at once")?;
+        assert_eq!((journal.sync()?.safe, journal.syncs), (29, 4));
+        drop(journal);
+        let found = find(&folder)?;
+        assert_eq!(found.known, 29);
+        assert!(found.bytes.is_some_and(|bytes| bytes.starts_with(b"first and more again, at once\0")));
         fs::remove_dir_all(&folder)
     }
 

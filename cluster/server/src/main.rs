@@ -19,6 +19,7 @@ mod core;
 mod cut_off;
 mod dice;
 mod etcd;
+mod events;
 mod faults;
 mod host;
 mod journal;
@@ -28,6 +29,7 @@ mod poly1305;
 mod protocol;
 mod record;
 mod storm;
+mod superseded;
 mod supervisor;
 mod trace;
 mod waits;
@@ -49,7 +51,9 @@ const USAGE: &str = "usage: sevunthi COMMAND ..
   trace FILE..                              records, as a trace that `ramseg audit` reads
   storm [--seed 1] [--seconds 60] [--only kill,pair] --folder F    drawn faults on a cluster of its own
   serve ..                                  one node; `up` starts these
-All take --address 127.0.0.1 and --port 7300, the port of host 0, and --hosts 4.";
+All take --address 127.0.0.1 and --port 7300, the port of host 0, and --hosts 4. `up` and `serve` take --factor 2,
+--segment 1024, --tick 200 and --silence 1000 (milliseconds), --long 268435456 (bytes of journal until a save), --beside
+24 (works since the last sync for which a thread does the next), --record and --faults.";
 
 fn main() -> ExitCode {
     let mut words = std::env::args().skip(1);
@@ -57,7 +61,12 @@ fn main() -> ExitCode {
         eprintln!("{USAGE}");
         return ExitCode::from(2);
     };
-    match run(&command, &Options::new(words)) {
+    let options = Options::new(words);
+    if ["help", "--help", "-h"].contains(&command.as_str()) || options.has("--help") {
+        say!("{USAGE}");
+        return ExitCode::SUCCESS;
+    }
+    match run(&command, &options) {
         Ok(true) => ExitCode::SUCCESS,
         Ok(false) => ExitCode::FAILURE,
         Err(why) => {

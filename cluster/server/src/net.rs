@@ -1,6 +1,7 @@
 //! Connections: each is read by a thread that hands whole pieces over, and written by another. What a peer takes at
 //! once the node's thread writes.
 
+use crate::events::{Event, EventSender};
 use crate::wire::{HEAD, MOST, Seal};
 use sevunthi::message::u32_at;
 use std::fs::File;
@@ -11,20 +12,6 @@ use std::sync::mpsc::{Receiver, Sender, channel};
 use std::sync::{Arc, Mutex};
 use std::thread;
 use std::time::Duration;
-
-/// What comes to the node's thread.
-pub enum Event {
-    /// The frames of a batch that came on the peer's connection of this number.
-    Peer(u64, Vec<u8>),
-    /// That connection has ended.
-    PeerDown(u64),
-    /// Whole requests of a client, each behind its length.
-    Client(u64, Vec<u8>),
-    /// A client is there, to be answered here.
-    ClientUp(u64, Writer),
-    /// It has gone.
-    ClientDown(u64),
-}
 
 /// A batch that has so many bytes is sent before more is added, so that who takes it is soon done with it.
 const LONG: usize = 1 << 18;
@@ -252,7 +239,7 @@ fn whole(bytes: &[u8], most: usize) -> Option<usize> {
 }
 
 /// Listens, and hands over what comes. Who asks by HTTP is shown the text.
-pub fn listen(address: &str, secret: Vec<u8>, events: Sender<Event>, text: Arc<Mutex<String>>) -> io::Result<()> {
+pub fn listen(address: &str, secret: Vec<u8>, events: EventSender, text: Arc<Mutex<String>>) -> io::Result<()> {
     let listener = TcpListener::bind(address)?;
     thread::spawn(move || {
         for (number, stream) in listener.incoming().enumerate() {
@@ -270,7 +257,7 @@ fn serve(
     mut stream: TcpStream,
     number: u64,
     secret: &[u8],
-    events: &Sender<Event>,
+    events: &EventSender,
     text: &Mutex<String>,
 ) -> io::Result<()> {
     stream.set_nodelay(true)?;
@@ -280,9 +267,9 @@ fn serve(
         b'P' => serve_peer(stream, number, secret, events),
         b'C' => {
             let up = Event::ClientUp(number, Writer::to_client(stream.try_clone()?));
-            if events.send(up).is_ok() {
-                read_pieces(stream, 1 << 20, |bytes| events.send(Event::Client(number, bytes)).is_ok());
-                let _ = events.send(Event::ClientDown(number));
+            if events.send(up) {
+                read_pieces(stream, 1 << 20, |bytes| events.send(Event::Client(number, bytes)));
+                events.send(Event::ClientDown(number));
             }
             Ok(())
         }
@@ -298,7 +285,7 @@ fn serve(
 }
 
 /// Takes batches of a peer until one is not the next that who has the secret has made.
-fn serve_peer(mut stream: TcpStream, number: u64, secret: &[u8], events: &Sender<Event>) -> io::Result<()> {
+fn serve_peer(mut stream: TcpStream, number: u64, secret: &[u8], events: &EventSender) -> io::Result<()> {
     let mut challenge = [0; 16];
     File::open("/dev/urandom")?.read_exact(&mut challenge)?;
     stream.write_all(&challenge)?;
@@ -308,13 +295,13 @@ fn serve_peer(mut stream: TcpStream, number: u64, secret: &[u8], events: &Sender
         while let Some(length) = u32_at(rest, 0) {
             let (batch, others) = rest.split_at(4 + length as usize);
             match seal.open(batch) {
-                Some(frames) if events.send(Event::Peer(number, frames.to_vec())).is_ok() => rest = others,
+                Some(frames) if events.send(Event::Peer(number, frames.to_vec())) => rest = others,
                 _ => return false,
             }
         }
         true
     });
-    let _ = events.send(Event::PeerDown(number));
+    events.send(Event::PeerDown(number));
     Ok(())
 }
 

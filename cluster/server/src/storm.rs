@@ -23,7 +23,7 @@ use std::thread;
 use std::time::{Duration, Instant};
 
 /// What may happen. A pack of these is shuffled, and dealt to its end, again and again.
-const PACK: [Fault; 24] = [
+const PACK: [Fault; 25] = [
     Fault::Kill,
     Fault::Kill,
     Fault::KillCoordinator,
@@ -47,6 +47,7 @@ const PACK: [Fault; 24] = [
     Fault::FullInSave,
     Fault::FailingSync,
     Fault::FailingSync,
+    Fault::DiskStands,
     Fault::Clock,
 ];
 
@@ -82,6 +83,8 @@ enum Fault {
     FullInSave,
     /// A sync fails, and some of what it should have made safe is lost.
     FailingSync,
+    /// A host's disk stands still.
+    DiskStands,
     /// A clock jumps, ahead or back.
     Clock,
 }
@@ -115,6 +118,7 @@ impl Fault {
             Fault::FullCoordinator => "full-coordinator",
             Fault::FullInSave => "full-in-save",
             Fault::FailingSync => "failing-sync",
+            Fault::DiskStands => "disk-stands",
             Fault::Clock => "clock",
         }
     }
@@ -171,7 +175,9 @@ struct Storm {
 impl Storm {
     /// A cluster in this folder, with its table.
     fn begin(seed: u64, target: Target, folder: PathBuf, deck: Vec<Fault>) -> Result<Storm, String> {
-        let more = ["--record", "--faults", "--factor", "2", "--segment", "64", "--tick", "100"];
+        // every other cluster leaves all its syncs to threads
+        let beside = if seed.is_multiple_of(2) { "24" } else { "0" };
+        let more = ["--record", "--faults", "--factor", "2", "--segment", "64", "--tick", "100", "--beside", beside];
         let mut cluster = Cluster::new(target.clone(), &folder, more.map(String::from).to_vec())?;
         cluster.start_all()?;
         let mut storm = Storm {
@@ -263,6 +269,12 @@ impl Storm {
                 self.losing.insert(any);
                 self.ask(any, Wrong::Sync);
                 return self.await_end(any);
+            }
+            Fault::DiskStands => {
+                let pause = self.dice.between(1000, 5000);
+                self.say(&format!("the disk of {host} stands still for {pause} ms"));
+                self.ask(host, Wrong::DiskStands(pause));
+                thread::sleep(Duration::from_millis(pause));
             }
             Fault::Clock => {
                 let ahead = self.dice.between(1, 20) as i64;

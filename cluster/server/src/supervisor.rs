@@ -16,6 +16,10 @@ use std::time::Duration;
 /// How many bytes a secret has.
 const SECRET: usize = 32;
 
+/// A node takes and frees as many pieces of memory of a size as it is given messages at once. The C library keeps but
+/// seven of them at hand, unless it is told otherwise.
+const TUNABLES: (&str, &str) = ("GLIBC_TUNABLES", "glibc.malloc.tcache_count=2000");
+
 /// Runs one node, until its input ends: whoever started it has then ended.
 pub fn serve(options: &Options) -> Result<(), String> {
     let folder: PathBuf = options.get("--folder", String::new())?.into();
@@ -37,6 +41,7 @@ pub fn serve(options: &Options) -> Result<(), String> {
         tick: options.get("--tick", 200)?,
         silence: options.get("--silence", 1000)?,
         long: options.get("--long", 256 << 20)?,
+        beside: options.get("--beside", 24)?,
         record: options.has("--record"),
         faults: options.has("--faults"),
     };
@@ -105,7 +110,9 @@ impl Cluster {
         let is_coordinator = place + 1 == self.places();
         let index = if is_coordinator { Vec::new() } else { vec!["--index".to_string(), place.to_string()] };
         let program = std::env::current_exe().map_err(|error| error.to_string())?;
+        let tunables = std::env::var(TUNABLES.0).unwrap_or_else(|_| TUNABLES.1.to_string());
         let child = Command::new(program)
+            .env(TUNABLES.0, tunables)
             .args(["serve", "--hosts", &self.target.hosts.to_string()])
             .args(&index)
             .args(["--address", &self.target.address, "--port", &self.target.port.to_string()])
@@ -171,7 +178,7 @@ impl Drop for Cluster {
 pub fn up(options: &Options) -> Result<(), String> {
     let folder: PathBuf = options.get("--folder", "cluster-data".to_string())?.into();
     let mut more = Vec::new();
-    for name in ["--factor", "--segment", "--tick", "--silence", "--long"] {
+    for name in ["--factor", "--segment", "--tick", "--silence", "--long", "--beside"] {
         let value = options.get(name, String::new())?;
         if !value.is_empty() {
             more.extend([name.to_string(), value]);

@@ -1,0 +1,132 @@
+//! What comes to the node's thread. That something is safe now is taken before what peers say, and that before what
+//! clients ask: a node that has much to do lets clients wait, and not the protocol.
+
+use crate::net::Writer;
+use std::sync::mpsc::{self, Receiver, Sender};
+use std::time::{Duration, Instant};
+
+/// What comes to the node's thread.
+pub enum Event {
+    /// The frames of a batch that came on the peer's connection of this number.
+    Peer(u64, Vec<u8>),
+    /// That connection has ended.
+    PeerDown(u64),
+    /// A sync of the journal has ended.
+    Synced,
+    /// Whole requests of a client, each behind its length.
+    Client(u64, Vec<u8>),
+    /// A client is there, to be answered here.
+    ClientUp(u64, Writer),
+    /// It has gone.
+    ClientDown(u64),
+}
+
+/// For so long a node takes what has come, before it sees to all else.
+pub const TURN: Duration = Duration::from_millis(20);
+
+/// Hands events over.
+#[derive(Clone)]
+pub struct EventSender {
+    disk: Sender<Event>,
+    /// None says that there is one in another queue.
+    peers: Sender<Option<Event>>,
+    clients: Sender<Event>,
+}
+
+/// Takes events.
+pub struct EventReceiver {
+    disk: Receiver<Event>,
+    peers: Receiver<Option<Event>>,
+    clients: Receiver<Event>,
+}
+
+/// The two ends of what comes to a node's thread.
+pub fn channel() -> (EventSender, EventReceiver) {
+    let (disk, from_disk) = mpsc::channel();
+    let (peers, from_peers) = mpsc::channel();
+    let (clients, from_clients) = mpsc::channel();
+    let receiver = EventReceiver { disk: from_disk, peers: from_peers, clients: from_clients };
+    (EventSender { disk, peers, clients }, receiver)
+}
+
+impl EventSender {
+    /// Hands an event over. Says whether somebody is there to take it.
+    pub fn send(&self, event: Event) -> bool {
+        match event {
+            Event::Peer(..) | Event::PeerDown(_) => return self.peers.send(Some(event)).is_ok(),
+            Event::Synced => self.disk.send(event),
+            Event::Client(..) | Event::ClientUp(..) | Event::ClientDown(_) => self.clients.send(event),
+        }
+        .is_ok_and(|()| self.peers.send(None).is_ok())
+    }
+}
+
+impl EventReceiver {
+    /// The next event, if one is there: of clients only where nothing else is.
+    fn next(&self) -> Option<Event> {
+        let of_disk = || self.disk.try_recv().ok();
+        let of_peers = || self.peers.try_iter().flatten().next();
+        // what came of the disk meanwhile has been told of in the peers' queue, and that was passed over
+        of_disk().or_else(of_peers).or_else(of_disk).or_else(|| self.clients.try_recv().ok())
+    }
+
+    /// Waits so long for an event, and then takes what is there, for a turn; at its end one of clients, so that none of
+    /// them waits for ever.
+    pub fn take_turn(&self, wait: Duration, mut take: impl FnMut(Event)) {
+        let waited = self.next().or_else(|| self.peers.recv_timeout(wait).ok().flatten());
+        let began = Instant::now();
+        let rest = std::iter::from_fn(|| if began.elapsed() < TURN { self.next() } else { None });
+        waited.into_iter().chain(rest).for_each(&mut take);
+        self.clients.try_recv().into_iter().for_each(take);
+    }
+}
+
+#[cfg(test)]
+mod tests {
+    use super::*;
+
+    fn number(event: Event) -> Option<u64> {
+        match event {
+            Event::Peer(number, _) | Event::PeerDown(number) => Some(number),
+            Event::Client(number, _) | Event::ClientDown(number) => Some(100 + number),
+            Event::Synced => Some(1000),
+            Event::ClientUp(..) => None,
+        }
+    }
+
+    fn taken(receiver: &EventReceiver) -> Vec<u64> {
+        let mut taken = Vec::new();
+        receiver.take_turn(Duration::from_millis(50), |event| taken.extend(number(event)));
+        taken
+    }
+
+    #[test]
+    fn peers_come_before_clients_each_in_order() {
+        let (sender, receiver) = channel();
+        let client = |number| Event::Client(number, Vec::new());
+        let peer = |number| Event::Peer(number, Vec::new());
+        for event in [client(1), peer(2), Event::ClientDown(3), Event::PeerDown(4), client(5), Event::Synced] {
+            assert!(sender.send(event));
+        }
+        assert_eq!(taken(&receiver), [1000, 2, 4, 101, 103, 105]);
+        assert_eq!(taken(&receiver), []);
+        assert!(sender.send(client(6)));
+        assert_eq!(taken(&receiver), [106]);
+    }
+
+    #[test]
+    fn peers_do_not_keep_clients_waiting_for_ever() {
+        let (sender, receiver) = channel();
+        let client = || sender.send(Event::Client(1, Vec::new()));
+        assert!(client() && client() && sender.send(Event::PeerDown(0)));
+        let mut taken = Vec::new();
+        receiver.take_turn(Duration::ZERO, |event| {
+            let number = number(event);
+            taken.extend(number);
+            // a peer that has no end
+            assert!(number != Some(0) || sender.send(Event::PeerDown(0)));
+        });
+        assert_eq!(taken.iter().filter(|number| **number == 101).count(), 1);
+        assert_eq!(taken.last(), Some(&101));
+    }
+}

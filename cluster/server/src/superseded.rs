@@ -1,0 +1,72 @@
+//! Answers of a backup that a later one makes needless. A Stored says how many entries of a segment the backup has: of
+//! those that would leave together for one owner, about one segment under one epoch, the last says all that the others
+//! say. Those are not sent, as any message may be lost.
+
+use sevunthi::message::{kind, u16_at, u64_at};
+use sevunthi::{Address, Envelope};
+use std::collections::HashMap;
+
+/// What a Stored is about: sender, addressee, segment and epoch.
+type Subject = (Address, Address, u16, u16);
+
+/// How many entries a backup has, and whether it has closed the replica.
+type Told = (u64, bool);
+
+fn read_stored(message: &[u8]) -> Option<(Subject, Told)> {
+    let Envelope { from, to, kind, body } = Envelope::read(message)?;
+    if kind != kind::STORED {
+        return None;
+    }
+    let subject = (from, to, u16_at(body, 0)?, u16_at(body, 2)?);
+    Some((subject, (u64_at(body, 4)?, *body.get(12)? == 1)))
+}
+
+/// These messages, in order, without the Storeds that a later one covers.
+pub fn without_superseded<'a>(messages: impl Iterator<Item = &'a [u8]>) -> Vec<&'a [u8]> {
+    let mut later: HashMap<Subject, Told> = HashMap::new();
+    let mut kept: Vec<&[u8]> = messages.collect();
+    kept.reverse();
+    kept.retain(|message| {
+        let Some((subject, (length, is_closed))) = read_stored(message) else { return true };
+        let told = later.get(&subject).copied();
+        if told.is_some_and(|(most, closed)| length <= most && is_closed <= closed) {
+            return false;
+        }
+        let (most, closed) = told.unwrap_or_default();
+        later.insert(subject, (length.max(most), is_closed || closed));
+        true
+    });
+    kept.reverse();
+    kept
+}
+
+#[cfg(test)]
+mod tests {
+    use super::*;
+
+    fn stored(owner: u8, segment: u16, epoch: u16, length: u64, is_closed: bool) -> Vec<u8> {
+        let mut message = vec![1, 1, 2, 7, 0, 0, 0, 1, owner, 7, 0, 0, 0, kind::STORED];
+        message.extend_from_slice(&segment.to_le_bytes());
+        message.extend_from_slice(&epoch.to_le_bytes());
+        message.extend_from_slice(&length.to_le_bytes());
+        message.push(u8::from(is_closed));
+        message
+    }
+
+    #[test]
+    fn only_what_a_later_answer_says_too_is_left_out() {
+        let messages = [
+            stored(0, 1, 0, 5, false),
+            stored(0, 1, 0, 6, false),
+            stored(1, 1, 0, 4, false),
+            b"something else".to_vec(),
+            stored(0, 1, 1, 7, false),
+            stored(0, 1, 0, 7, true),
+            stored(0, 1, 0, 7, false),
+            stored(0, 2, 0, 0, false),
+        ];
+        let kept = without_superseded(messages.iter().map(Vec::as_slice));
+        let expected: Vec<&[u8]> = [2, 3, 4, 5, 6, 7].map(|at| messages[at].as_slice()).to_vec();
+        assert_eq!(kept, expected);
+    }
+}
