@@ -92,11 +92,14 @@ impl Coordinator {
         let sight = self.sight();
         let mut silent: Vec<Id> = sight.up.iter().filter(|id| self.is_silent(id)).copied().collect();
         silent.extend(self.cut_off.suspects(&sight, &silent));
-        let heard: Vec<Id> = sight.heard.into_iter().map(|(id, _)| id).collect();
-        for due in self.core.node.dues(&heard, &silent, &[]).unwrap_or_default() {
-            self.do_due(due);
-        }
-        let sight = self.sight();
+        let heard: Vec<Id> = sight.heard.iter().map(|(id, _)| *id).collect();
+        let dues = self.core.node.dues(&heard, &silent, &[]).unwrap_or_default();
+        let sight = if dues.is_empty() {
+            sight
+        } else {
+            dues.into_iter().for_each(|due| self.do_due(due));
+            self.sight()
+        };
         self.left_out = self.cut_off.left_out(&sight);
     }
 
@@ -151,33 +154,7 @@ impl Coordinator {
 
     fn take(&mut self, event: Event) {
         match event {
-            Event::Peer(connection, batch) => {
-                let (mut heard, mut waiting, mut is_due) = (Vec::new(), Vec::new(), false);
-                let left_out = &self.left_out;
-                self.core.each_frame(&batch, |core, frame| match frame {
-                    Frame::Message(message) => {
-                        if let Some(Envelope { from: Address::Server(id), kind, .. }) = Envelope::read(message) {
-                            heard.push(id);
-                            is_due |= matches!(kind, kind::REPLICAS | kind::READY);
-                            if kind == kind::ENLIST && left_out.contains(&id.index) {
-                                return;
-                            }
-                        }
-                        core.deliver(message);
-                    }
-                    Frame::Heartbeat(id, waits) => {
-                        heard.push(id);
-                        waiting.push((id, waits));
-                    }
-                    Frame::NotUp(_) => {}
-                });
-                waiting.into_iter().for_each(|(id, waits)| self.cut_off.hear(id, waits));
-                self.is_due |= is_due;
-                for id in heard {
-                    self.connections.insert(connection, id);
-                    self.hear(id);
-                }
-            }
+            Event::Peer(connection, batch) => self.take_batch(connection, &batch),
             Event::Synced => self.core.end_sync(),
             Event::PeerDown(connection) => self.gone.extend(self.connections.remove(&connection)),
             Event::Client(client, bytes) => {
@@ -190,6 +167,35 @@ impl Coordinator {
             }
             Event::ClientUp(client, writer) => self.core.set_client(client, Some(writer)),
             Event::ClientDown(client) => self.core.set_client(client, None),
+        }
+    }
+
+    /// The frames of a batch that came on the peer's connection of this number.
+    fn take_batch(&mut self, connection: u64, batch: &[u8]) {
+        let (mut heard, mut waiting, mut is_due) = (Vec::new(), Vec::new(), false);
+        let left_out = &self.left_out;
+        self.core.each_frame(batch, |core, frame| match frame {
+            Frame::Message(message) => {
+                if let Some(Envelope { from: Address::Server(id), kind, .. }) = Envelope::read(message) {
+                    heard.push(id);
+                    is_due |= matches!(kind, kind::REPLICAS | kind::READY);
+                    if kind == kind::ENLIST && left_out.contains(&id.index) {
+                        return;
+                    }
+                }
+                core.deliver(message);
+            }
+            Frame::Heartbeat(id, waits) => {
+                heard.push(id);
+                waiting.push((id, waits));
+            }
+            Frame::NotUp(_) => {}
+        });
+        waiting.into_iter().for_each(|(id, waits)| self.cut_off.hear(id, waits));
+        self.is_due |= is_due;
+        for id in heard {
+            self.connections.insert(connection, id);
+            self.hear(id);
         }
     }
 

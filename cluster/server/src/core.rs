@@ -125,28 +125,7 @@ pub fn failed(what: &str, error: impl Display) -> ! {
 impl Core {
     /// Opens the folder, makes the node or has it come back, and listens.
     pub fn open(config: Config) -> io::Result<(Core, EventReceiver)> {
-        let found = journal::find(&config.folder)?;
-        let mut ready = Ready::default();
-        let failing = if config.faults { Failing::in_folder(&config.folder) } else { Failing::default() };
-        let (mut node, mut journal) = match &found.bytes {
-            Some(bytes) => {
-                let mut node = Node::come_back(bytes, found.known)
-                    .unwrap_or_else(|fault| failed("this node must not start", fault));
-                let good = node.good();
-                node.ready(&mut ready).map_err(io::Error::other)?;
-                let mut journal = Journal::open(&config.folder, found, good, failing)?;
-                journal.add(&ready.journal)?;
-                journal.sync()?;
-                (node, journal)
-            }
-            None => {
-                let mut node = new_node(&config).map_err(io::Error::other)?;
-                node.ready(&mut ready).map_err(io::Error::other)?;
-                (node, Journal::create(&config.folder, found, &ready.journal, failing)?)
-            }
-        };
-        node.synced(journal.length).map_err(io::Error::other)?;
-        ready.journal.clear();
+        let (node, mut journal, ready) = open_node(&config)?;
         let (events, from) = events::channel();
         let text = Arc::new(Mutex::new(String::new()));
         let done = events.clone();
@@ -423,6 +402,33 @@ pub enum Frame<'a> {
     Heartbeat(Id, Vec<Id>),
     /// The coordinator's list shows this server crashed.
     NotUp(Id),
+}
+
+/// The node that comes back from the folder, or a new one, and its journal, of which all is safe.
+fn open_node(config: &Config) -> io::Result<(Node, Journal, Ready)> {
+    let found = journal::find(&config.folder)?;
+    let mut ready = Ready::default();
+    let failing = if config.faults { Failing::in_folder(&config.folder) } else { Failing::default() };
+    let (mut node, journal) = match &found.bytes {
+        Some(bytes) => {
+            let mut node =
+                Node::come_back(bytes, found.known).unwrap_or_else(|fault| failed("this node must not start", fault));
+            let good = node.good();
+            node.ready(&mut ready).map_err(io::Error::other)?;
+            let mut journal = Journal::open(&config.folder, found, good, failing)?;
+            journal.add(&ready.journal)?;
+            journal.sync()?;
+            (node, journal)
+        }
+        None => {
+            let mut node = new_node(config).map_err(io::Error::other)?;
+            node.ready(&mut ready).map_err(io::Error::other)?;
+            (node, Journal::create(&config.folder, found, &ready.journal, failing)?)
+        }
+    };
+    node.synced(journal.length).map_err(io::Error::other)?;
+    ready.journal.clear();
+    Ok((node, journal, ready))
 }
 
 fn new_node(config: &Config) -> Result<Node, Fault> {

@@ -247,12 +247,7 @@ impl Storm {
             Fault::Pair => self.cut_off(host, (host + 1 + any % (coordinator - 1)) % coordinator, true),
             Fault::OneWay => self.cut_off(any, (any + 1 + host) % (coordinator + 1), false),
             Fault::FromCoordinator => self.cut_off(host, coordinator, true),
-            Fault::Mangle => {
-                self.say(&format!("frames of {any} are repeated, reordered, cut and damaged"));
-                self.ask(any, Wrong::Mangle(100));
-                self.wait(500, 1500);
-                self.ask(any, Wrong::Mangle(0));
-            }
+            Fault::Mangle => self.mangle(any),
             Fault::Noise => {
                 self.say(&format!("strangers talk to {any}"));
                 noise::make(&self.cluster.target, any, &mut self.dice);
@@ -270,20 +265,31 @@ impl Storm {
                 self.ask(any, Wrong::Sync);
                 return self.await_end(any);
             }
-            Fault::DiskStands => {
-                let pause = self.dice.between(1000, 5000);
-                self.say(&format!("the disk of {host} stands still for {pause} ms"));
-                self.ask(host, Wrong::DiskStands(pause));
-                thread::sleep(Duration::from_millis(pause));
-            }
-            Fault::Clock => {
-                let ahead = self.dice.between(1, 20) as i64;
-                let seconds = if self.dice.below(2) == 0 { ahead } else { -ahead };
-                self.say(&format!("the clock of {any} jumps by {seconds} s"));
-                self.ask(any, Wrong::Jump(seconds * 1_000_000_000));
-            }
+            Fault::DiskStands => self.let_disk_stand(host),
+            Fault::Clock => self.jump_clock(any),
         }
         Ok(true)
+    }
+
+    fn mangle(&mut self, place: usize) {
+        self.say(&format!("frames of {place} are repeated, reordered, cut and damaged"));
+        self.ask(place, Wrong::Mangle(100));
+        self.wait(500, 1500);
+        self.ask(place, Wrong::Mangle(0));
+    }
+
+    fn let_disk_stand(&mut self, place: usize) {
+        let pause = self.dice.between(1000, 5000);
+        self.say(&format!("the disk of {place} stands still for {pause} ms"));
+        self.ask(place, Wrong::DiskStands(pause));
+        thread::sleep(Duration::from_millis(pause));
+    }
+
+    fn jump_clock(&mut self, place: usize) {
+        let ahead = self.dice.between(1, 20) as i64;
+        let seconds = if self.dice.below(2) == 0 { ahead } else { -ahead };
+        self.say(&format!("the clock of {place} jumps by {seconds} s"));
+        self.ask(place, Wrong::Jump(seconds * 1_000_000_000));
     }
 
     /// Asks a process to do something wrong; again, where it has been started since the last time.
