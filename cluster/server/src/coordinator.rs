@@ -154,7 +154,7 @@ impl Coordinator {
 
     fn take(&mut self, event: Event) {
         match event {
-            Event::Peer(connection, batch) => self.take_batch(connection, &batch),
+            Event::Peer(connection, batch) | Event::Urgent(connection, batch) => self.take_batch(connection, &batch),
             Event::Synced => self.core.end_sync(),
             Event::PeerDown(connection) => self.gone.extend(self.connections.remove(&connection)),
             Event::Client(client, bytes) => {

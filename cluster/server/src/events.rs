@@ -1,5 +1,5 @@
-//! What comes to the node's thread. That something is safe now is taken before what peers say, and that before what
-//! clients ask: a node that has much to do lets clients wait, and not the protocol.
+//! What comes to the node's thread. That something is safe now, and what a roll waits for, is taken before all else
+//! that peers say, and that before what clients ask: where there is much to do clients wait, and not the protocol.
 
 use crate::net::Writer;
 use std::sync::mpsc::{self, Receiver, Sender};
@@ -9,6 +9,8 @@ use std::time::{Duration, Instant};
 pub enum Event {
     /// The frames of a batch that came on the peer's connection of this number.
     Peer(u64, Vec<u8>),
+    /// Frames of that batch that are urgent.
+    Urgent(u64, Vec<u8>),
     /// That connection has ended.
     PeerDown(u64),
     /// A sync of the journal has ended.
@@ -27,7 +29,7 @@ pub const TURN: Duration = Duration::from_millis(20);
 /// Hands events over.
 #[derive(Clone)]
 pub struct EventSender {
-    disk: Sender<Event>,
+    urgent: Sender<Event>,
     /// None says that there is one in another queue.
     peers: Sender<Option<Event>>,
     clients: Sender<Event>,
@@ -35,18 +37,18 @@ pub struct EventSender {
 
 /// Takes events.
 pub struct EventReceiver {
-    disk: Receiver<Event>,
+    urgent: Receiver<Event>,
     peers: Receiver<Option<Event>>,
     clients: Receiver<Event>,
 }
 
 /// The two ends of what comes to a node's thread.
 pub fn channel() -> (EventSender, EventReceiver) {
-    let (disk, from_disk) = mpsc::channel();
+    let (urgent, from_urgent) = mpsc::channel();
     let (peers, from_peers) = mpsc::channel();
     let (clients, from_clients) = mpsc::channel();
-    let receiver = EventReceiver { disk: from_disk, peers: from_peers, clients: from_clients };
-    (EventSender { disk, peers, clients }, receiver)
+    let receiver = EventReceiver { urgent: from_urgent, peers: from_peers, clients: from_clients };
+    (EventSender { urgent, peers, clients }, receiver)
 }
 
 impl EventSender {
@@ -54,7 +56,7 @@ impl EventSender {
     pub fn send(&self, event: Event) -> bool {
         match event {
             Event::Peer(..) | Event::PeerDown(_) => return self.peers.send(Some(event)).is_ok(),
-            Event::Synced => self.disk.send(event),
+            Event::Synced | Event::Urgent(..) => self.urgent.send(event),
             Event::Client(..) | Event::ClientUp(..) | Event::ClientDown(_) => self.clients.send(event),
         }
         .is_ok_and(|()| self.peers.send(None).is_ok())
@@ -64,10 +66,10 @@ impl EventSender {
 impl EventReceiver {
     /// The next event, if one is there: of clients only where nothing else is.
     fn next(&self) -> Option<Event> {
-        let of_disk = || self.disk.try_recv().ok();
+        let urgent = || self.urgent.try_recv().ok();
         let of_peers = || self.peers.try_iter().flatten().next();
-        // what came of the disk meanwhile has been told of in the peers' queue, and that was passed over
-        of_disk().or_else(of_peers).or_else(of_disk).or_else(|| self.clients.try_recv().ok())
+        // what has become urgent meanwhile was told of in the peers' queue, and passed over there
+        urgent().or_else(of_peers).or_else(urgent).or_else(|| self.clients.try_recv().ok())
     }
 
     /// Waits so long for an event, and then takes what is there, for a turn; at its end one of clients, so that none of
@@ -88,8 +90,9 @@ mod tests {
     fn number(event: Event) -> Option<u64> {
         match event {
             Event::Peer(number, _) | Event::PeerDown(number) => Some(number),
+            Event::Urgent(number, _) => Some(10 + number),
             Event::Client(number, _) | Event::ClientDown(number) => Some(100 + number),
-            Event::Synced => Some(1000),
+            Event::Synced => None,
             Event::ClientUp(..) => None,
         }
     }
@@ -105,10 +108,12 @@ mod tests {
         let (sender, receiver) = channel();
         let client = |number| Event::Client(number, Vec::new());
         let peer = |number| Event::Peer(number, Vec::new());
-        for event in [client(1), peer(2), Event::ClientDown(3), Event::PeerDown(4), client(5), Event::Synced] {
+        for event in
+            [client(1), peer(2), Event::ClientDown(3), Event::PeerDown(4), client(5), Event::Urgent(7, Vec::new())]
+        {
             assert!(sender.send(event));
         }
-        assert_eq!(taken(&receiver), [1000, 2, 4, 101, 103, 105]);
+        assert_eq!(taken(&receiver), [17, 2, 4, 101, 103, 105]);
         assert_eq!(taken(&receiver), []);
         assert!(sender.send(client(6)));
         assert_eq!(taken(&receiver), [106]);

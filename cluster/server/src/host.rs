@@ -115,9 +115,9 @@ impl Host {
             let wait = if self.core.local.is_empty() { TURN } else { Duration::ZERO };
             let mut passed_on = self.core.counts.works;
             events.take_turn(wait, |event| {
-                let is_safe = matches!(event, Event::Synced);
+                let is_urgent = matches!(event, Event::Synced | Event::Urgent(..));
                 self.take(event);
-                if is_safe || passed_on + MANY <= self.core.counts.works || !self.waiting.is_empty() {
+                if is_urgent || passed_on + MANY <= self.core.counts.works || !self.waiting.is_empty() {
                     passed_on = self.core.counts.works;
                     self.pass_on();
                 }
@@ -157,7 +157,7 @@ impl Host {
 
     fn take(&mut self, event: Event) {
         match event {
-            Event::Peer(_, batch) => {
+            Event::Peer(_, batch) | Event::Urgent(_, batch) => {
                 let (server, beat) = (self.server, &mut self.beat);
                 let (mut is_replaced, mut grants) = (false, Vec::new());
                 self.core.each_frame(&batch, |core, frame| match frame {

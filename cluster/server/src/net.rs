@@ -2,7 +2,7 @@
 //! once the node's thread writes.
 
 use crate::events::{Event, EventSender};
-use crate::wire::{HEAD, MOST, Seal};
+use crate::wire::{HEAD, MOST, Seal, split_urgent};
 use sevunthi::message::u32_at;
 use std::fs::File;
 use std::io::{self, ErrorKind, Read, Write};
@@ -284,6 +284,13 @@ fn serve(
     }
 }
 
+/// Hands the frames of a batch over. Says whether somebody is there to take them.
+fn give(events: &EventSender, number: u64, frames: &[u8]) -> bool {
+    let (urgent, others) = split_urgent(frames);
+    (urgent.is_empty() || events.send(Event::Urgent(number, urgent)))
+        && (others.is_empty() || events.send(Event::Peer(number, others)))
+}
+
 /// Takes batches of a peer until one is not the next that who has the secret has made.
 fn serve_peer(mut stream: TcpStream, number: u64, secret: &[u8], events: &EventSender) -> io::Result<()> {
     let mut challenge = [0; 16];
@@ -295,7 +302,7 @@ fn serve_peer(mut stream: TcpStream, number: u64, secret: &[u8], events: &EventS
         while let Some(length) = u32_at(rest, 0) {
             let (batch, others) = rest.split_at(4 + length as usize);
             match seal.open(batch) {
-                Some(frames) if events.send(Event::Peer(number, frames.to_vec())) => rest = others,
+                Some(frames) if give(events, number, frames) => rest = others,
                 _ => return false,
             }
         }

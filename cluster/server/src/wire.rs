@@ -5,8 +5,8 @@
 //! has the secret can make, and frames.
 
 use crate::poly1305;
-use sevunthi::mac;
-use sevunthi::message::{u32_at, u64_at};
+use sevunthi::message::{framed, kind, u32_at, u64_at};
+use sevunthi::{Envelope, mac};
 
 /// The longest batch.
 pub const MOST: usize = 256 << 20;
@@ -61,6 +61,33 @@ pub fn frames(bytes: &[u8]) -> impl Iterator<Item = (u64, &[u8])> {
         rest = &rest[4 + length..];
         Some((u64_at(inner, 0)?, inner.get(8..)?))
     })
+}
+
+/// Takes the frames of a batch apart: those that are urgent, and all else, in order. Urgent is what a roll waits for,
+/// if it needs nothing that came before it. An owner takes no writes until its new head has a place at all backups, and
+/// then until they have closed the old one.
+pub fn split_urgent(bytes: &[u8]) -> (Vec<u8>, Vec<u8>) {
+    let (mut urgent, mut others, mut length) = (Vec::new(), Vec::new(), 0);
+    if framed(bytes).any(is_urgent) {
+        for frame in framed(bytes) {
+            let to = if is_urgent(frame) { &mut urgent } else { &mut others };
+            to.extend_from_slice(&(frame.len() as u32).to_le_bytes());
+            to.extend_from_slice(frame);
+            length += 4 + frame.len();
+        }
+    }
+    others.extend_from_slice(&bytes[length..]);
+    (urgent, others)
+}
+
+/// Whether a frame has a Place, or a Stored of a replica that is new or closed.
+fn is_urgent(frame: &[u8]) -> bool {
+    let Some(Envelope { kind, body, .. }) = frame.get(8..).and_then(Envelope::read) else { return false };
+    match kind {
+        kind::PLACE => true,
+        kind::STORED => u64_at(body, 4) == Some(0) || body.get(12) == Some(&1),
+        _ => false,
+    }
 }
 
 /// One direction of a connection between peers: who has the secret makes batches, and whoever reads takes no other,
@@ -128,6 +155,29 @@ mod tests {
         assert_eq!(reader.open(&out), None);
         assert_eq!(Seal::new(b"another", [1; 16]).open(&out), None);
         assert_eq!(Seal::new(b"secret", [2; 16]).open(&out), None);
+    }
+
+    #[test]
+    fn what_a_roll_waits_for_is_urgent_and_nothing_else() {
+        let message = |kind, body: &[u8]| [&[1, 1, 0, 1, 0, 0, 0, 1, 1, 1, 0, 0, 0, kind], body].concat();
+        let stored = |length: u64, closed| {
+            message(kind::STORED, &[&[3, 0, 0, 0], &length.to_le_bytes()[..], &[closed]].concat())
+        };
+        let of_a_roll = [message(kind::PLACE, b"a"), stored(0, 0), stored(9, 1)];
+        let rest = [message(kind::APPEND, b"b"), stored(9, 0), message(kind::CLOSE, b"c"), vec![HEARTBEAT, 7]];
+        let (mut batch, mut urgent, mut others) = (Vec::new(), Vec::new(), Vec::new());
+        for (clock, (one, other)) in of_a_roll.iter().zip(&rest).enumerate() {
+            put_frame(clock as u64, other, &mut batch);
+            put_frame(clock as u64, other, &mut others);
+            put_frame(clock as u64, one, &mut batch);
+            put_frame(clock as u64, one, &mut urgent);
+        }
+        for end in [&b""[..], b"no frame"] {
+            let (batch, others) = ([&batch, end].concat(), [&others, end].concat());
+            assert_eq!(split_urgent(&batch), (urgent.clone(), others));
+        }
+        put_frame(9, &rest[3], &mut others);
+        assert_eq!(split_urgent(&others), (Vec::new(), others.clone()));
     }
 
     #[test]
