@@ -1,9 +1,10 @@
 //! How each node begins.
 
 ghost use Rattle.std.specs.Prelude.{◌≡◌};
+ghost use Rattle.rc_history.specs.Nodes.{new_node};
 ghost use Rattle.rc_world.specs.HostView.{IsWithinLimits};
 ghost use Rattle.rc_world.specs.NodeView.{node_seen};
-ghost use Rattle.embed.specs.Beginning.{begun, small_setup};
+ghost use Rattle.embed.specs.Beginning.{small_setup};
 
 use rc_types::{NodeName, Seq, Setup};
 use rc_world::NodeState;
@@ -11,7 +12,7 @@ use std::alloc::Global;
 
 /// The node before anything has happened. It takes no memory.
 pub(crate) fn begun(name: NodeName, alloc: Global) -> NodeState<Global>
-    ensures { node_seen result ≡ begun name }
+    ensures { node_seen result ≡ new_node small_setup name }
 {
     match name {
         NodeName::Outside => NodeState::outside(alloc),

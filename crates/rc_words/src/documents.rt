@@ -2,7 +2,7 @@
 
 use crate::events::{Happening, all_events};
 use crate::explaining::{Explained, explain};
-use crate::kinds::Words;
+use crate::kinds::KindText;
 use crate::looking::Found;
 use crate::rules::{Rule, first_rules, last_rules};
 use crate::topics::{Topic, all_topics};
@@ -84,7 +84,7 @@ fn put_short(pen: &mut Pen, topic: &Topic) {
 }
 
 /// A kind of message.
-fn put_kind(pen: &mut Pen, words: &Words) {
+fn put_kind(pen: &mut Pen, words: &KindText) {
     pen.put_all("{\"name\":\"%\"", &[Piece::Words(words.kind.name())]);
     put_text(pen, "way", words.way);
     put_text(pen, "has", words.has);

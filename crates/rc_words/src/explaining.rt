@@ -1,7 +1,7 @@
 //! The text that is told of a word, or of all.
 
 use crate::events::{Happening, all_events};
-use crate::kinds::Words;
+use crate::kinds::KindText;
 use crate::looking::Found;
 use crate::names::nearest;
 use crate::rules::{Rule, first_rules, last_rules};
@@ -165,7 +165,7 @@ fn tell_topic(pen: &mut Pen, topic: &Topic) {
 }
 
 /// What there is to say of a kind of message.
-fn tell_kind(pen: &mut Pen, words: &Words) {
+fn tell_kind(pen: &mut Pen, words: &KindText) {
     pen.put_all(
         "%, a message %\n\nWhat it has\n",
         &[Piece::Words(words.kind.name()), Piece::Words(words.way)],

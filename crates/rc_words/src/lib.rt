@@ -16,7 +16,7 @@ pub use codes::names_of_codes;
 pub use documents::explain_json;
 pub use events::{Happening, all_events};
 pub use explaining::{Explained, explain};
-pub use kinds::{Words, all_kinds};
+pub use kinds::{KindText, all_kinds};
 pub use looking::{Found, topic_of};
 pub use names::nearest;
 pub use rules::{Rule, first_rules, last_rules};

@@ -1,7 +1,7 @@
 //! What a word may name.
 
 use crate::events::{Happening, all_events};
-use crate::kinds::{Words, all_kinds};
+use crate::kinds::{KindText, all_kinds};
 use crate::rules::{Rule, first_rules, last_rules};
 use crate::topics::{Topic, all_topics};
 
@@ -11,7 +11,7 @@ pub struct Found {
     /// A code, by its number, by that after an `F`, or by its name.
     pub code: Option<Topic>,
     /// A kind of message.
-    pub kind: Option<Words>,
+    pub kind: Option<KindText>,
     /// An event of a scenario.
     pub event: Option<Happening>,
     /// A rule that can be broken.
@@ -64,7 +64,7 @@ fn number_in(word: &str) -> Option<u64> {
 }
 
 /// The kind of message that this word names.
-fn kind_of(word: &str) -> Option<Words> {
+fn kind_of(word: &str) -> Option<KindText> {
     all_kinds()
         .iter()
         .find(|words| words.kind.name().eq_ignore_ascii_case(word))
