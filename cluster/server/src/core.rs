@@ -286,6 +286,11 @@ impl Core {
         std::mem::replace(&mut self.ready.journal, next)
     }
 
+    /// How much was taken since the last sync began.
+    pub fn since_sync(&self) -> u64 {
+        self.counts.works - self.synced_at
+    }
+
     /// Where something waits until what the node has written down is safe, has it written and synced beside, while more
     /// is taken. Says whether that is under way: what comes meanwhile has to wait, and a long journal is left alone.
     pub fn begin_sync(&mut self) -> bool {
@@ -309,10 +314,10 @@ impl Core {
     }
 
     /// Writes what the node has written down; and where something waits for that, makes it safe: beside where much was
-    /// taken since the last sync, else at once. Says whether it did so at once.
-    pub fn make_safe(&mut self) -> bool {
-        let is_much = self.config.beside <= self.counts.works - self.synced_at;
-        if (self.journal.is_syncing || is_much) && self.begin_sync() {
+    /// taken since the last sync, or others wait for this node, else at once. Says whether it did so at once.
+    pub fn make_safe(&mut self, is_waited_for: bool) -> bool {
+        let is_much = self.config.beside <= self.since_sync();
+        if (self.journal.is_syncing || is_much || is_waited_for) && self.begin_sync() {
             return false;
         }
         self.make_safe_now()

@@ -26,6 +26,16 @@ pub enum Event {
 /// For so long a node takes what has come, before it sees to all else.
 pub const TURN: Duration = Duration::from_millis(20);
 
+/// Requests that came at once are handed over in parts, so that what peers say comes between them, and what one part
+/// sends leaves before the next is taken.
+pub const LEAST_PART: usize = 32;
+const MOST_PART: usize = 64;
+
+/// How many of so many requests are a part.
+pub fn part_of(count: usize) -> usize {
+    count.div_ceil(2).clamp(LEAST_PART, MOST_PART)
+}
+
 /// Hands events over.
 #[derive(Clone)]
 pub struct EventSender {

@@ -1,15 +1,19 @@
-//! What a test has a process do wrong: it asks for it by `Op::Fail`, where the process was started with `--faults`. A
-//! full disk is a file beside the journal, so that it outlives the process.
+//! What a test has a process do wrong: it asks for it by `Op::Fail`, where the process was started with `--faults`.
+//! That a disk is full, or nearly, says a file beside the journal, so that it outlives the process.
 
 use crate::wire::put_frame;
-use std::fs;
+use std::fs::{self, File};
 use std::io::{self, ErrorKind, Write};
+use std::os::unix::fs::FileExt;
 use std::path::{Path, PathBuf};
 use std::thread;
 use std::time::Instant;
 
 /// While this file is there, each write to the journal writes half, and the disk is full.
 pub const FULL: &str = "full";
+
+/// While this file is there, the disk has room for bytes at a journal's end, and for half of the zeros ahead of them.
+pub const NEARLY_FULL: &str = "nearly-full";
 
 /// The journal's file as it was before a save that a test has ended; and how many bytes of it were safe.
 pub const BEFORE: &str = "before";
@@ -90,12 +94,24 @@ impl Failing {
 
     /// Writes bytes, or half of them where the disk is to be full.
     pub fn write(&self, mut file: impl Write, bytes: &[u8], is_save: bool) -> io::Result<()> {
-        let is_full = self.folder.as_ref().is_some_and(|folder| folder.join(FULL).exists());
-        if is_full && !bytes.is_empty() || is_save && self.full_in_save {
+        if self.has(FULL) && !bytes.is_empty() || is_save && self.full_in_save {
             file.write_all(&bytes[..bytes.len() / 2])?;
             return Err(ErrorKind::StorageFull.into());
         }
         file.write_all(bytes)
+    }
+
+    /// Writes zeros ahead of a journal's end, or half of them where the disk is to be nearly full.
+    pub fn write_ahead(&self, file: &File, zeros: &[u8], at: u64) -> io::Result<()> {
+        if self.has(NEARLY_FULL) {
+            file.write_all_at(&zeros[..zeros.len() / 2], at)?;
+            return Err(ErrorKind::StorageFull.into());
+        }
+        file.write_all_at(zeros, at)
+    }
+
+    fn has(&self, file: &str) -> bool {
+        self.folder.as_ref().is_some_and(|folder| folder.join(file).exists())
     }
 
     /// Waits while the disk is to stand still, and fails where the next sync is to fail.

@@ -1,7 +1,7 @@
 //! The process of a host.
 
 use crate::core::{Config, Core, Frame, failed, tell};
-use crate::events::{Event, EventReceiver, TURN};
+use crate::events::{Event, EventReceiver, LEAST_PART, TURN, part_of};
 use crate::protocol::{DONE, NO_VALUE, Op, Reply, Request, UNKNOWN, WRONG};
 use crate::wire::HEARTBEAT;
 use sevunthi::message::{self, framed, kind, u32_at, u64_at};
@@ -18,11 +18,14 @@ type Place = (u16, u64);
 /// Where segments run out, a host begins anew: it has a new log then.
 const LAST_HEAD: u16 = 60_000;
 
-/// After so many requests that came at once, what they send leaves, so that the others can begin.
-const SOME: usize = 32;
+/// Within a batch the clock is looked at where the number of works is a multiple of this.
+const FEW: u64 = 16;
 
-/// After so much was taken, what that has to say leaves.
+/// After so much was taken of peers, what that has to say leaves.
 const MANY: u64 = 128;
+
+/// After so much was taken since the last sync, the next one begins, though more is there to be taken.
+const MUCH: u64 = 192;
 
 /// How often a server says that it lives.
 const BEAT: Duration = Duration::from_millis(100);
@@ -115,11 +118,12 @@ impl Host {
             let wait = if self.core.local.is_empty() { TURN } else { Duration::ZERO };
             let mut passed_on = self.core.counts.works;
             events.take_turn(wait, |event| {
-                let is_urgent = matches!(event, Event::Synced | Event::Urgent(..));
+                let is_roll = matches!(event, Event::Urgent(..));
+                let many = most_before(&event);
                 self.take(event);
-                if is_urgent || passed_on + MANY <= self.core.counts.works || !self.waiting.is_empty() {
+                if passed_on + many <= self.core.counts.works || !self.waiting.is_empty() {
                     passed_on = self.core.counts.works;
-                    self.pass_on();
+                    self.pass_on(is_roll);
                 }
             });
             self.core.awake.turn();
@@ -147,11 +151,14 @@ impl Host {
         }
     }
 
-    /// What was taken leaves, as far as it may; all else is made safe beside, while more is taken.
-    fn pass_on(&mut self) {
+    /// What was taken leaves, as far as it may. For a roll, or where that is much, all else is made safe beside, while
+    /// more is taken.
+    fn pass_on(&mut self, is_roll: bool) {
         self.retry();
         self.route();
-        self.core.begin_sync();
+        if is_roll || MUCH <= self.core.since_sync() {
+            self.core.begin_sync();
+        }
         self.core.flush();
     }
 
@@ -164,7 +171,9 @@ impl Host {
                     Frame::Message(message) => {
                         grants.extend(core.deliver(message).and_then(|envelope| granted(&envelope, server)));
                         // a batch may take long
-                        beat_if_due(beat, server, core);
+                        if core.counts.works.is_multiple_of(FEW) {
+                            beat_if_due(beat, server, core);
+                        }
                     }
                     Frame::NotUp(id) => is_replaced |= id == server,
                     Frame::Heartbeat(..) => {}
@@ -173,11 +182,7 @@ impl Host {
                 grants.into_iter().for_each(|grant| self.note_grant(grant));
             }
             Event::Client(client, bytes) => {
-                for (number, request) in framed(&bytes).enumerate() {
-                    if 0 < number && number % SOME == 0 {
-                        self.route();
-                        self.core.flush();
-                    }
+                for request in framed(&bytes) {
                     match Request::read(request) {
                         Some(request) => self.ask(client, request),
                         None => self.core.answer(client, &Reply::bare(WRONG, 0)),
@@ -324,12 +329,13 @@ impl Host {
 
     /// What had to wait for a roll is asked again.
     fn retry(&mut self) {
+        let part = part_of(self.waiting.len());
         for number in 1.. {
             let Some(asked) = self.waiting.pop_front() else { return };
             if !self.give(asked) {
                 return;
             }
-            if number % SOME == 0 {
+            if number % part == 0 {
                 self.route();
                 self.core.flush();
             }
@@ -364,7 +370,8 @@ impl Host {
         let began = Instant::now();
         for _ in 0..64 {
             self.route();
-            let was_synced = self.core.make_safe();
+            // a host with writes of its own under way has more to do than to wait
+            let was_synced = self.core.make_safe(!self.pending.is_empty());
             if was_synced {
                 self.route();
             }
@@ -439,6 +446,15 @@ impl Host {
         if let Ok(mut text) = self.core.text.lock() {
             *text = now;
         }
+    }
+}
+
+/// How much may have been taken, with this event, before what that has to say leaves.
+fn most_before(event: &Event) -> u64 {
+    match event {
+        Event::Synced | Event::Urgent(..) => 0,
+        Event::Client(..) => LEAST_PART as u64,
+        _ => MANY,
     }
 }
 

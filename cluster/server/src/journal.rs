@@ -3,7 +3,8 @@
 use crate::faults::Failing;
 use std::fs::{self, File, OpenOptions};
 use std::io::{self, ErrorKind, Seek, SeekFrom};
-use std::os::unix::fs::FileExt;
+use std::mem;
+use std::os::unix::fs::{FileExt, MetadataExt};
 use std::path::{Path, PathBuf};
 use std::sync::mpsc::{Receiver, Sender, TryRecvError, channel};
 use std::sync::{Arc, Mutex, MutexGuard};
@@ -13,6 +14,13 @@ use std::time::{Duration, Instant};
 /// So far ahead of its bytes a journal's file is filled with zeros, which are no record: a sync that does not change
 /// how long the file is takes half of the time.
 const AHEAD: usize = 1 << 20;
+
+/// So many bytes of a file are freed at once, with a pause behind them: all other syncs on its disk wait meanwhile.
+const PIECE: u64 = 16 << 20;
+const PAUSE: Duration = Duration::from_millis(20);
+
+/// So many zeros.
+static ZEROS: [u8; AHEAD] = [0; AHEAD];
 
 /// The file of a node's journal, locked. Behind the journal's bytes it has zeros.
 pub struct Journal {
@@ -109,21 +117,26 @@ fn sync_folder(folder: &Path) -> io::Result<()> {
 
 impl Files {
     fn add(&mut self, bytes: &[u8], failing: &Failing) -> io::Result<()> {
-        self.fill(self.length + bytes.len());
+        self.fill(self.length + bytes.len(), failing);
         failing.write(&self.file, bytes, false)?;
         self.length += bytes.len();
         Ok(())
     }
 
     /// Fills the file with zeros, where so many bytes would reach its end. Where that fails, as on a full disk, the
-    /// bytes may still have their place.
-    fn fill(&mut self, count: usize) {
+    /// bytes may still have their place. Then they stand where zeros are thought to be missing: no zeros come over them.
+    fn fill(&mut self, count: usize, failing: &Failing) {
         if count <= self.filled {
             return;
         }
-        let filled = count + AHEAD;
-        if self.file.write_all_at(&vec![0; filled - self.filled], self.filled as u64).is_ok() {
-            self.filled = filled;
+        self.filled = self.filled.max(self.length);
+        let end = count + AHEAD;
+        while self.filled < end {
+            let zeros = &ZEROS[..AHEAD.min(end - self.filled)];
+            if failing.write_ahead(&self.file, zeros, self.filled as u64).is_err() {
+                return;
+            }
+            self.filled += zeros.len();
         }
     }
 
@@ -138,6 +151,20 @@ impl Files {
     fn note(&self, safe: usize) -> io::Result<()> {
         self.known.write_all_at(&(safe as u64).to_le_bytes(), 0)
     }
+}
+
+/// Frees a file that has no name any more, piece by piece, while all else goes on.
+fn free_beside(file: File) {
+    thread::spawn(move || -> io::Result<()> {
+        let about = file.metadata()?;
+        let mut length = if about.nlink() == 0 { about.len() } else { 0 };
+        while 0 < length {
+            length = length.saturating_sub(PIECE);
+            file.set_len(length)?;
+            thread::sleep(PAUSE);
+        }
+        Ok(())
+    });
 }
 
 fn no_thread() -> io::Error {
@@ -286,8 +313,9 @@ impl Journal {
         self.failing.after(4);
         sync_folder(&self.folder)?;
         self.failing.after(5);
-        files.file = OpenOptions::new().write(true).open(self.folder.join("journal"))?;
-        files.file.seek(SeekFrom::End(0))?;
+        let mut file = OpenOptions::new().write(true).open(self.folder.join("journal"))?;
+        file.seek(SeekFrom::End(0))?;
+        free_beside(mem::replace(&mut files.file, file));
         files.filled = save.len();
         files.length = save.len();
         self.length = save.len();
@@ -300,6 +328,7 @@ impl Journal {
 #[cfg(test)]
 mod tests {
     use super::*;
+    use crate::faults::NEARLY_FULL;
 
     fn empty_folder(name: &str) -> PathBuf {
         let folder = std::env::temp_dir().join(format!("sevunthi-{name}-{}", std::process::id()));
@@ -318,6 +347,24 @@ mod tests {
         drop(found);
         fs::remove_file(folder.join("journal"))?;
         assert!(find(&folder).is_err());
+        fs::remove_dir_all(&folder)
+    }
+
+    #[test]
+    fn no_zeros_come_over_bytes_where_the_disk_is_nearly_full() -> io::Result<()> {
+        let folder = empty_folder("nearly-full");
+        let failing = Failing::in_folder(&folder);
+        let mut journal = Journal::create(&folder, find(&folder)?, b"first", failing)?;
+        let nearly_full = folder.join(NEARLY_FULL);
+        fs::write(&nearly_full, [])?;
+        for _ in 0..3 {
+            journal.add(b" and more")?;
+        }
+        fs::remove_file(nearly_full)?;
+        journal.add(b" again")?;
+        assert_eq!(journal.sync()?.safe, 38);
+        let bytes = fs::read(folder.join("journal"))?;
+        assert!(bytes.starts_with(b"first and more and more and more again\0"));
         fs::remove_dir_all(&folder)
     }
 

@@ -1,9 +1,9 @@
 //! Connections: each is read by a thread that hands whole pieces over, and written by another. What a peer takes at
 //! once the node's thread writes.
 
-use crate::events::{Event, EventSender};
+use crate::events::{Event, EventSender, part_of};
 use crate::wire::{HEAD, MOST, Seal, split_urgent};
-use sevunthi::message::u32_at;
+use sevunthi::message::{framed, u32_at};
 use std::fs::File;
 use std::io::{self, ErrorKind, Read, Write};
 use std::net::{TcpListener, TcpStream};
@@ -201,7 +201,7 @@ fn connect(address: &str, secret: &[u8]) -> io::Result<(TcpStream, Seal)> {
 
 /// Reads pieces that begin with their length in four bytes, and hands over as many whole ones as there are, until one
 /// is longer than `most`, or nobody takes them.
-pub fn read_pieces(mut stream: impl Read, most: usize, mut give: impl FnMut(Vec<u8>) -> bool) {
+pub fn read_pieces(mut stream: impl Read, most: usize, mut give: impl FnMut(&[u8]) -> bool) {
     let (mut buffer, mut filled) = (vec![0; 64 << 10], 0);
     loop {
         if filled == buffer.len() {
@@ -213,7 +213,7 @@ pub fn read_pieces(mut stream: impl Read, most: usize, mut give: impl FnMut(Vec<
         }
         let Some(whole) = whole(&buffer[..filled], most) else { return };
         if 0 < whole {
-            if !give(buffer[..whole].to_vec()) {
+            if !give(&buffer[..whole]) {
                 return;
             }
             buffer.copy_within(whole..filled, 0);
@@ -268,7 +268,7 @@ fn serve(
         b'C' => {
             let up = Event::ClientUp(number, Writer::to_client(stream.try_clone()?));
             if events.send(up) {
-                read_pieces(stream, 1 << 20, |bytes| events.send(Event::Client(number, bytes)));
+                read_pieces(stream, 1 << 20, |requests| give_parts(events, number, requests));
                 events.send(Event::ClientDown(number));
             }
             Ok(())
@@ -291,6 +291,20 @@ fn give(events: &EventSender, number: u64, frames: &[u8]) -> bool {
         && (others.is_empty() || events.send(Event::Peer(number, others)))
 }
 
+/// Hands a client's requests over, in parts. Says whether somebody is there to take them.
+fn give_parts(events: &EventSender, number: u64, requests: &[u8]) -> bool {
+    let part = part_of(framed(requests).count());
+    let mut rest = requests;
+    while !rest.is_empty() {
+        let length: usize = framed(rest).take(part).map(|request| 4 + request.len()).sum();
+        if !events.send(Event::Client(number, rest[..length].to_vec())) {
+            return false;
+        }
+        rest = &rest[length..];
+    }
+    true
+}
+
 /// Takes batches of a peer until one is not the next that who has the secret has made.
 fn serve_peer(mut stream: TcpStream, number: u64, secret: &[u8], events: &EventSender) -> io::Result<()> {
     let mut challenge = [0; 16];
@@ -298,7 +312,7 @@ fn serve_peer(mut stream: TcpStream, number: u64, secret: &[u8], events: &EventS
     stream.write_all(&challenge)?;
     let mut seal = Seal::new(secret, challenge);
     read_pieces(stream, MOST + 40, |batches| {
-        let mut rest = batches.as_slice();
+        let mut rest = batches;
         while let Some(length) = u32_at(rest, 0) {
             let (batch, others) = rest.split_at(4 + length as usize);
             match seal.open(batch) {
@@ -330,7 +344,7 @@ mod tests {
             thread::sleep(Duration::from_millis(300));
             let (mut seal, mut clocks) = (Seal::new(b"secret", [7; 16]), Vec::new());
             read_pieces(stream, MOST, |pieces| {
-                let mut rest = pieces.as_slice();
+                let mut rest = pieces;
                 while let Some(length) = u32_at(rest, 0) {
                     let (batch, others) = rest.split_at(4 + length as usize);
                     clocks.extend(seal.open(batch).into_iter().flat_map(frames).map(|(clock, _)| clock));
@@ -378,13 +392,13 @@ mod tests {
         for step in [1, 7, 4096, 1 << 20] {
             let mut taken = Vec::new();
             read_pieces(Slowly(&bytes, step), 200_000, |piece| {
-                taken.extend(piece);
+                taken.extend_from_slice(piece);
                 true
             });
             assert!(taken == bytes, "by {step}");
             let mut taken = Vec::new();
             read_pieces(Slowly(&bytes, step), 199_999, |piece| {
-                taken.extend(piece);
+                taken.extend_from_slice(piece);
                 true
             });
             assert!(taken.len() <= 18 && bytes.starts_with(&taken), "by {step}");

@@ -7,7 +7,7 @@ mod noise;
 
 use crate::client::{Client, Target};
 use crate::dice::Dice;
-use crate::faults::{FULL, Wrong};
+use crate::faults::{FULL, NEARLY_FULL, Wrong};
 use crate::options::Options;
 use crate::protocol::{DONE, Op};
 use crate::supervisor::Cluster;
@@ -23,7 +23,7 @@ use std::thread;
 use std::time::{Duration, Instant};
 
 /// What may happen. A pack of these is shuffled, and dealt to its end, again and again.
-const PACK: [Fault; 25] = [
+const PACK: [Fault; 26] = [
     Fault::Kill,
     Fault::Kill,
     Fault::KillCoordinator,
@@ -45,6 +45,7 @@ const PACK: [Fault; 25] = [
     Fault::Full,
     Fault::FullCoordinator,
     Fault::FullInSave,
+    Fault::NearlyFull,
     Fault::FailingSync,
     Fault::FailingSync,
     Fault::DiskStands,
@@ -81,6 +82,8 @@ enum Fault {
     FullCoordinator,
     /// A disk is full in a save.
     FullInSave,
+    /// A host begins while its disk has no room for zeros ahead of its journal, and loses its power then.
+    NearlyFull,
     /// A sync fails, and some of what it should have made safe is lost.
     FailingSync,
     /// A host's disk stands still.
@@ -117,6 +120,7 @@ impl Fault {
             Fault::Full => "full",
             Fault::FullCoordinator => "full-coordinator",
             Fault::FullInSave => "full-in-save",
+            Fault::NearlyFull => "nearly-full",
             Fault::FailingSync => "failing-sync",
             Fault::DiskStands => "disk-stands",
             Fault::Clock => "clock",
@@ -252,13 +256,22 @@ impl Storm {
                 self.say(&format!("strangers talk to {any}"));
                 noise::make(&self.cluster.target, any, &mut self.dice);
             }
-            Fault::Full => self.fill_disk(host)?,
-            Fault::FullCoordinator => self.fill_disk(coordinator)?,
+            Fault::Clock => self.jump_clock(any),
+            of_disk => return self.happen_to_disk(of_disk, host, any),
+        }
+        Ok(true)
+    }
+
+    /// Has a fault of a disk happen, and says whether it has.
+    fn happen_to_disk(&mut self, fault: Fault, host: usize, any: usize) -> Result<bool, String> {
+        match fault {
+            Fault::FullCoordinator => self.fill_disk(self.coordinator())?,
             Fault::FullInSave => {
                 self.say(&format!("the disk of {any} is full in a save"));
                 self.ask(any, Wrong::FullInSave);
                 return self.await_end(any);
             }
+            Fault::NearlyFull => self.nearly_fill_disk(host)?,
             Fault::FailingSync => {
                 self.say(&format!("a sync of {any} fails"));
                 self.losing.insert(any);
@@ -266,7 +279,8 @@ impl Storm {
                 return self.await_end(any);
             }
             Fault::DiskStands => self.let_disk_stand(host),
-            Fault::Clock => self.jump_clock(any),
+            // (the one that is left)
+            _ => self.fill_disk(host)?,
         }
         Ok(true)
     }
@@ -368,6 +382,18 @@ impl Storm {
             self.start_ended()?;
         }
         fs::remove_file(&full).map_err(|error| error.to_string())
+    }
+
+    /// A host comes back to a disk that is nearly full, goes on there for a while, and loses its power.
+    fn nearly_fill_disk(&mut self, place: usize) -> Result<(), String> {
+        self.cluster.kill(place);
+        self.say(&format!("{place} is killed, and its disk is nearly full"));
+        let nearly_full = self.cluster.folder(place).join(NEARLY_FULL);
+        fs::write(&nearly_full, []).map_err(|error| error.to_string())?;
+        self.start(place)?;
+        self.wait(1000, 2000);
+        fs::remove_file(&nearly_full).map_err(|error| error.to_string())?;
+        self.end(place, true)
     }
 
     /// Waits for a process to end by itself, and starts it again. One that has not ended after a second is not to any

@@ -21,21 +21,37 @@ fn read_stored(message: &[u8]) -> Option<(Subject, Told)> {
     Some((subject, (u64_at(body, 4)?, *body.get(12)? == 1)))
 }
 
+/// How much the later answers about each subject say. Most messages are about what the one behind them is about.
+#[derive(Default)]
+struct Later {
+    last: Option<(Subject, Told)>,
+    others: HashMap<Subject, Told>,
+}
+
+impl Later {
+    /// Whether later answers say all that this one says. If not, it is one of them from now on.
+    fn covers(&mut self, subject: Subject, (length, is_closed): Told) -> bool {
+        let told = match self.last {
+            Some((last, told)) if last == subject => Some(told),
+            _ => self.others.get(&subject).copied(),
+        };
+        let (most, closed) = told.unwrap_or_default();
+        let now = (length.max(most), is_closed || closed);
+        if let Some((last, told)) = self.last.replace((subject, now))
+            && last != subject
+        {
+            self.others.insert(last, told);
+        }
+        told == Some(now)
+    }
+}
+
 /// These messages, in order, without the Storeds that a later one covers.
 pub fn without_superseded<'a>(messages: impl Iterator<Item = &'a [u8]>) -> Vec<&'a [u8]> {
-    let mut later: HashMap<Subject, Told> = HashMap::new();
+    let mut later = Later::default();
     let mut kept: Vec<&[u8]> = messages.collect();
     kept.reverse();
-    kept.retain(|message| {
-        let Some((subject, (length, is_closed))) = read_stored(message) else { return true };
-        let told = later.get(&subject).copied();
-        if told.is_some_and(|(most, closed)| length <= most && is_closed <= closed) {
-            return false;
-        }
-        let (most, closed) = told.unwrap_or_default();
-        later.insert(subject, (length.max(most), is_closed || closed));
-        true
-    });
+    kept.retain(|message| read_stored(message).is_none_or(|(subject, told)| !later.covers(subject, told)));
     kept.reverse();
     kept
 }
