@@ -45,7 +45,8 @@ pub struct Config {
     pub silence: u64,
     /// How many bytes a journal grows before it is made short.
     pub long: usize,
-    /// When a host has taken so much since the last sync, the next one is left to a thread, and the host goes on.
+    /// When a host has taken so much since the last sync, or has writes of its own under way, the next one is left to a
+    /// thread, and the host goes on.
     pub beside: u64,
     /// Whether each message is recorded.
     pub record: bool,
@@ -314,10 +315,10 @@ impl Core {
     }
 
     /// Writes what the node has written down; and where something waits for that, makes it safe: beside where much was
-    /// taken since the last sync, or others wait for this node, else at once. Says whether it did so at once.
-    pub fn make_safe(&mut self, is_waited_for: bool) -> bool {
+    /// taken since the last sync, or writes of its own are under way, else at once. Says whether it did so at once.
+    pub fn make_safe(&mut self, has_own_writes: bool) -> bool {
         let is_much = self.config.beside <= self.since_sync();
-        if (self.journal.is_syncing || is_much || is_waited_for) && self.begin_sync() {
+        if (self.journal.is_syncing || is_much || has_own_writes) && self.begin_sync() {
             return false;
         }
         self.make_safe_now()

@@ -21,10 +21,10 @@ const LAST_HEAD: u16 = 60_000;
 /// Within a batch the clock is looked at where the number of works is a multiple of this.
 const FEW: u64 = 16;
 
-/// After so much was taken of peers, what that has to say leaves.
+/// After so much was taken, what that has to say leaves, though more has come of peers.
 const MANY: u64 = 128;
 
-/// After so much was taken since the last sync, the next one begins, though more is there to be taken.
+/// After so much was taken since the last sync, the next one begins, though more has come.
 const MUCH: u64 = 192;
 
 /// How often a server says that it lives.
@@ -55,6 +55,8 @@ struct Host {
     /// Ranges that were granted: table, first and last key.
     grants: Vec<(u32, u64, u64)>,
     is_replaced: bool,
+    /// Something urgent came since a sync was last begun for that.
+    roll_waits: bool,
     /// When the coordinator was told last that the server lives.
     beat: Instant,
     code: Vec<u8>,
@@ -72,6 +74,7 @@ pub fn run(config: Config) -> io::Result<()> {
         next: (0, 0),
         grants: Vec::new(),
         is_replaced: false,
+        roll_waits: false,
         beat: Instant::now(),
         code: Vec::new(),
     };
@@ -118,12 +121,12 @@ impl Host {
             let wait = if self.core.local.is_empty() { TURN } else { Duration::ZERO };
             let mut passed_on = self.core.counts.works;
             events.take_turn(wait, |event| {
-                let is_roll = matches!(event, Event::Urgent(..));
                 let many = most_before(&event);
+                self.roll_waits |= matches!(event, Event::Urgent(..));
                 self.take(event);
                 if passed_on + many <= self.core.counts.works || !self.waiting.is_empty() {
                     passed_on = self.core.counts.works;
-                    self.pass_on(is_roll);
+                    self.pass_on();
                 }
             });
             self.core.awake.turn();
@@ -151,13 +154,14 @@ impl Host {
         }
     }
 
-    /// What was taken leaves, as far as it may. For a roll, or where that is much, all else is made safe beside, while
-    /// more is taken.
-    fn pass_on(&mut self, is_roll: bool) {
+    /// What was taken leaves, as far as it may. Where a roll waits, or there is much, all else is made safe beside,
+    /// while more is taken.
+    fn pass_on(&mut self) {
         self.retry();
         self.route();
-        if is_roll || MUCH <= self.core.since_sync() {
-            self.core.begin_sync();
+        let is_due = self.roll_waits || MUCH <= self.core.since_sync();
+        if is_due && !self.core.journal.is_syncing && self.core.begin_sync() {
+            self.roll_waits = false;
         }
         self.core.flush();
     }

@@ -124,7 +124,7 @@ impl Files {
     }
 
     /// Fills the file with zeros, where so many bytes would reach its end. Where that fails, as on a full disk, the
-    /// bytes may still have their place. Then they stand where zeros are thought to be missing: no zeros come over them.
+    /// bytes may still have their place. The next zeros begin behind them.
     fn fill(&mut self, count: usize, failing: &Failing) {
         if count <= self.filled {
             return;
@@ -153,9 +153,9 @@ impl Files {
     }
 }
 
-/// Frees a file that has no name any more, piece by piece, while all else goes on.
+/// Frees a file that has no name any more, piece by piece, while all else goes on; at once, where there is no thread.
 fn free_beside(file: File) {
-    thread::spawn(move || -> io::Result<()> {
+    let _ = thread::Builder::new().spawn(move || -> io::Result<()> {
         let about = file.metadata()?;
         let mut length = if about.nlink() == 0 { about.len() } else { 0 };
         while 0 < length {
@@ -315,13 +315,15 @@ impl Journal {
         self.failing.after(5);
         let mut file = OpenOptions::new().write(true).open(self.folder.join("journal"))?;
         file.seek(SeekFrom::End(0))?;
-        free_beside(mem::replace(&mut files.file, file));
+        let old = mem::replace(&mut files.file, file);
         files.filled = save.len();
         files.length = save.len();
         self.length = save.len();
         self.saved = save.len();
         self.safe = save.len();
-        files.note(save.len())
+        files.note(save.len())?;
+        free_beside(old);
+        Ok(())
     }
 }
 

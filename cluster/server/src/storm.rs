@@ -257,7 +257,8 @@ impl Storm {
                 noise::make(&self.cluster.target, any, &mut self.dice);
             }
             Fault::Clock => self.jump_clock(any),
-            of_disk => return self.happen_to_disk(of_disk, host, any),
+            Fault::Full | Fault::FullCoordinator | Fault::FullInSave => return self.happen_to_disk(fault, host, any),
+            Fault::NearlyFull | Fault::FailingSync | Fault::DiskStands => return self.happen_to_disk(fault, host, any),
         }
         Ok(true)
     }
@@ -265,6 +266,7 @@ impl Storm {
     /// Has a fault of a disk happen, and says whether it has.
     fn happen_to_disk(&mut self, fault: Fault, host: usize, any: usize) -> Result<bool, String> {
         match fault {
+            Fault::Full => self.fill_disk(host)?,
             Fault::FullCoordinator => self.fill_disk(self.coordinator())?,
             Fault::FullInSave => {
                 self.say(&format!("the disk of {any} is full in a save"));
@@ -279,8 +281,7 @@ impl Storm {
                 return self.await_end(any);
             }
             Fault::DiskStands => self.let_disk_stand(host),
-            // (the one that is left)
-            _ => self.fill_disk(host)?,
+            _ => return Ok(false),
         }
         Ok(true)
     }
