@@ -1,10 +1,10 @@
--- Numbers that begin with others, and those that none of no numbers is among.
-use Rattle.std.proofs.Common.{◌≡◌, ℕ, Bool, true, false, ◌||◌, List, [], ◌∷◌, ◌++◌, length, take, drop, filter, not, nat_eq}
+-- Digests of which no segment is left out.
+use Rattle.std.proofs.Common.{◌≡◌, ℕ, Bool, true, false, ◌||◌, List, [], ◌∷◌, ◌++◌, ◌+◌, length, filter, not, nat_eq}
 use Rattle.std.proofs.Common.{cond, eq-eqb, eqb-true, arith, refl, sym, ap, ◌∙◌}
 use Rattle.std.specs.List.{list_any}
-use Rattle.std.proofs.Math.Seq.{take-length}
-use Rattle.std.proofs.lemmas.List.{append_assoc, take-append-drop}
+use Rattle.std.proofs.lemmas.List.{append_assoc}
 use Rattle.std.proofs.lemmas.List.Folds.{list_any-append}
+use Rattle.rc_model.specs.Model.{Log, head_of, next_digest}
 
 or-true : (b : Bool) → (b || true) ≡ true
 or-true true = refl
@@ -26,15 +26,6 @@ none-of before (x ∷ first) rest =
     ∙ (ap (λ (all : List ℕ). filter (λ seg. not (list_any (nat_eq seg) all)) first) (sym (append_assoc before (x ∷ []) (first ++ rest)))
     ∙ none-of (before ++ (x ∷ [])) first rest)
 
-pub none_lacking : (numbers first : List ℕ) (count : ℕ) → count ≡ length first → take count first ≡ take count numbers →
-    filter (λ seg. not (list_any (nat_eq seg) numbers)) first ≡ []
-none_lacking numbers first count all same =
-    let rest : List ℕ = drop count numbers in
-    let whole : take count first ≡ first = ap (λ (n : ℕ). take n first) all ∙ take-length first in
-    let front : numbers ≡ first ++ rest =
-    sym (take-append-drop count numbers) ∙ ap (λ (begin : List ℕ). begin ++ rest) (sym same ∙ whole) in
-    ap (λ (all : List ℕ). filter (λ seg. not (list_any (nat_eq seg) all)) first) front ∙ none-of [] first rest
-
 none_is_dead : (digest : List ℕ) (head : ℕ) → filter (λ seg. nat_eq seg head || not (list_any (nat_eq seg) [])) digest ≡ digest
 none_is_dead [] head = refl
 none_is_dead (seg ∷ digest) head =
@@ -47,5 +38,16 @@ pub none_dead : (rest digest dead : List ℕ) (head : ℕ) → nat_eq (length de
     rest ≡ filter (λ seg. nat_eq seg head || not (list_any (nat_eq seg) dead)) digest
 none_dead rest digest [] head none is = is ∙ sym (none_is_dead digest head)
 none_dead rest digest (x ∷ dead) head none is =
+    let few : length (x ∷ dead) ≡ 0 = eqb-true (length (x ∷ dead)) 0 none in
+    absurd (omega (arith, few))
+
+-- where none is dead the next digest has all that the head's has
+pub none-out : (log : Log) (dead digest : List ℕ) → digest ≡ next_digest log dead → nat_eq (length dead) 0 ≡ true →
+    filter (λ seg. not (list_any (nat_eq seg) digest)) (head_of log).digest ≡ []
+none-out log [] digest is none =
+    ap (λ (all : List ℕ). filter (λ seg. not (list_any (nat_eq seg) all)) (head_of log).digest)
+    (is ∙ ap (λ (left : List ℕ). left ++ (log.head + 1) ∷ []) (none_is_dead (head_of log).digest log.head))
+    ∙ none-of [] (head_of log).digest ((log.head + 1) ∷ [])
+none-out log (x ∷ dead) digest is none =
     let few : length (x ∷ dead) ≡ 0 = eqb-true (length (x ∷ dead)) 0 none in
     absurd (omega (arith, few))

@@ -17,3 +17,5 @@ pub mod ListRuleLemmas
 pub mod FiledLemmas
 pub mod WatchLemmas
 pub mod Beginnings
+pub mod AliveLemmas
+pub mod WholeLemmas

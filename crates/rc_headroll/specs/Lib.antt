@@ -4,3 +4,4 @@ pub mod Advancing
 pub mod Places
 pub mod Before
 pub mod Watching
+pub mod Alive

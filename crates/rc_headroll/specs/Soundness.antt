@@ -1,12 +1,14 @@
 -- What is true of every log that the code makes.
-use Rattle.std.specs.Prelude.{◌≡◌, ℕ, ◌+◌, ◌-◌, ◌<◌, ◌≤◌, true, false, if◌then◌else◌, zero, suc, length, All}
+use Rattle.std.specs.Prelude.{◌≡◌, ℕ, ◌+◌, ◌-◌, ◌<◌, ◌≤◌, Bool, true, false, if◌then◌else◌, zero, suc, List, []}
+use Rattle.std.specs.Prelude.{length, All, filter, not, nat_eq}
+use Rattle.std.specs.List.{list_any}
 use Rattle.rc_types.specs.declared.kept.Phase.TheVariants.{Opening}
 use Rattle.rc_types.specs.declared.limits.TheConstants.{LAST_SEGMENT, MAX_FACTOR, MAX_SEGMENT}
 use Rattle.rc_model.specs.ServerList.{ServerList}
 use Rattle.rc_model.specs.Segment.{Segment}
 use Rattle.rc_model.specs.Log.{Log, head_of, is_writing}
 use Rattle.rc_headroll.specs.Before.{CanGoBack}
-use Rattle.rc_segment.specs.Lists.{segment_at}
+use Rattle.rc_segment.specs.Lists.{segment_at, newest_of, previous_of}
 use Rattle.rc_headroll.specs.LogData.{LogData, log_of, before_of}
 use Rattle.rc_headroll.specs.Watching.{AreWatched, AreRoused}
 
@@ -53,6 +55,11 @@ pub record IsSoundLog (kept : LogData) (passed entries : ℕ) : Type 0 where
 pub record IsWatchedLog (kept : LogData) : Type 0 where
   pub now : AreWatched kept.own kept.watch (log_of kept).head (log_of kept).segments
   pub before : AreWatched kept.own kept.watch (before_of kept).head (before_of kept).segments
+
+-- the head's digest leaves none of the old head's segments out, where that is known
+pub record IsKnownWhole (segments : List Segment) (whole : Bool) : Type 0 where
+  pub none_out : whole ≡ true →
+      filter (λ seg. not (list_any (nat_eq seg) (newest_of segments).digest)) (previous_of segments).digest ≡ []
 
 -- each segment that the timer passes over is one about which the list rules do nothing
 abbrev pub IsRoused : ServerList → LogData → Type 0

@@ -32,6 +32,8 @@ impl LogHead {
         ensures log { log_of self.new ≡ before_of self.old }
         ensures before { before_of self.new ≡ before_of self.old }
     {
+        self.alive.clear();
+        self.whole = false;
         self.segments.truncate(self.before.head());
         self.phase = self.before.phase();
         self.durable = self.before.durable();

@@ -152,10 +152,13 @@ impl LogHead {
     pub fn left_out(&self, alloc: Global) -> Result<Vec<u16>, AllocError>
         ensures { IfOk result (λ segs. segs.items ≡ left_out (log_of self.now)) }
     {
+        if self.whole {
+            return Ok(Vec::new(alloc));
+        }
         if self.segments.len() < 2 {
             return Ok(Vec::new(alloc));
         }
-        without(alloc, self.previous().digest(), self.newest().digest())
+        lacking(alloc, self.previous().digest(), self.newest().digest())
     }
 
     /// The new head writes, and the segments that its digest leaves out are freed.
@@ -177,23 +180,15 @@ impl LogHead {
         self.phase = Phase::Writing;
     }
 
-    /// Frees the segments that the head's digest leaves out: none, where it begins with all of the old head's.
+    /// Frees the segments that the head's digest leaves out: none, where it has all of the old head's.
     fn free_left_out(&mut self)
         requires { 1 < (log_of self.old).head }
         ensures freed { log_of self.new ≡ with_freed (left_out (log_of self.old)) (log_of self.old) }
         ensures before { before_of self.new ≡ before_of self.old }
     {
-        if !self.leaves_none_out() {
+        if !self.whole {
             self.free_each();
         }
-    }
-
-    /// Whether the head's digest begins with all of the old head's: then it leaves none out.
-    fn leaves_none_out(&self) -> bool
-        requires { 1 < (log_of self.now).head }
-        ensures { result ≡ true → left_out (log_of self.now) ≡ [] }
-    {
-        begins_with(self.newest().digest(), self.previous().digest())
     }
 
     /// Frees the segments that the head's digest leaves out. It goes over the old head's digest once, and over the
@@ -268,16 +263,6 @@ impl LogHead {
     }
 }
 
-/// Those of the numbers that the others lack: none, where the others begin with all of them.
-fn without(alloc: Global, numbers: &[u16], others: &[u16]) -> Result<Vec<u16>, AllocError>
-    ensures { IfOk result (λ rest. rest.items ≡ filter (λ seg. not (list_any (nat_eq seg) others.now)) numbers.now) }
-{
-    if begins_with(others, numbers) {
-        return Ok(Vec::new(alloc));
-    }
-    lacking(alloc, numbers, others)
-}
-
 /// Those of the numbers that the others lack. Where the others are these without some, it goes over them once, and once
 /// more for each that they lack.
 fn lacking(alloc: Global, numbers: &[u16], others: &[u16]) -> Result<Vec<u16>, AllocError>
@@ -293,21 +278,6 @@ fn lacking(alloc: Global, numbers: &[u16], others: &[u16]) -> Result<Vec<u16>, A
         }
     }
     Ok(rest)
-}
-
-/// Whether the numbers begin with these: then they lack none of them.
-fn begins_with(numbers: &[u16], first: &[u16]) -> bool
-    ensures { result ≡ true → filter (λ seg. not (list_any (nat_eq seg) numbers.now)) first.now ≡ [] }
-{
-    if numbers.len() < first.len() {
-        return false;
-    }
-    for place in 0..first.len() {
-        if numbers[place] != first[place] {
-            return false;
-        }
-    }
-    true
 }
 
 /// Whether the number stands at this place of these.

@@ -3,6 +3,7 @@
 //! It sends nothing.
 #![tactic(auto)]
 
+mod alive;
 mod before;
 mod durable;
 mod filing;
@@ -17,6 +18,7 @@ mod telling;
 mod watch;
 mod watching;
 
+pub use alive::AliveEntry;
 pub use durable::Place;
 pub use log::LogHead;
 pub use rc_segment::Segment;

@@ -4,6 +4,7 @@ ghost use Rattle.std.specs.Prelude.{◌≡◌, ◌⊎◌, ◌≤◌, ◌<◌, tr
 ghost use Rattle.std.specs.Prelude.{if◌then◌else◌, OnOk, OnErr, IfOk, IfErr};
 ghost use Rattle.std.specs.Option.{option_copied};
 
+use crate::alive::AliveEntry;
 use crate::before::Before;
 use crate::watch::Watch;
 use rc_segment::{Segment, heads};
@@ -29,6 +30,10 @@ pub struct LogHead {
     pub(crate) before: Before,
     /// Which segments the timer goes over.
     pub(crate) watch: Watch,
+    /// Of each segment, by its number, an entry that isn't outdated, where one was found.
+    pub(crate) alive: Vec<Option<AliveEntry>>,
+    /// Whether the head's digest is known to have all that the old head's has.
+    pub(crate) whole: bool,
 }
 
 impl Drop for LogHead {
@@ -44,6 +49,8 @@ impl Drop for LogHead {
             passed_entries: _,
             before: _,
             watch: _,
+            alive: _,
+            whole: _,
         } = self;
     }
 }
@@ -54,7 +61,8 @@ impl Model for LogHead {
     ghost Value = { LogData };
 
     ghost use Rattle.std.specs.Prelude.{length, ◌≤◌};
-    ghost use Rattle.rc_headroll.specs.Soundness.{IsSoundLog, IsWatchedLog};
+    ghost use Rattle.rc_headroll.specs.Soundness.{IsSoundLog, IsWatchedLog, IsKnownWhole};
+    ghost use Rattle.rc_headroll.specs.Alive.{AreFound};
 
     ghost view = { λ l. record {
       own = l.own;
@@ -85,7 +93,8 @@ impl Model for LogHead {
       durable = l.durable;
       mark = l.before.mark;
       watch = l.watch;
-    }) × (length l.segments.items ≤ l.before.room) };
+    }) × (length l.segments.items ≤ l.before.room)
+        × AreFound l.segments.items l.alive.items × IsKnownWhole l.segments.items l.whole };
 }
 
 impl LogHead {
@@ -115,6 +124,8 @@ impl LogHead {
             passed_entries: 0,
             before: Before::new(alloc),
             watch: Watch::new(alloc),
+            alive: Vec::new(alloc),
+            whole: false,
         }
     }
 
@@ -165,15 +176,6 @@ impl LogHead {
             return None;
         }
         Some(&self.segments[usize::from(seg) - 1])
-    }
-
-    /// Keeps in mind that the entry of this segment with so many before it was found not to be outdated.
-    pub fn keep_found(&mut self, seg: u16, offset: usize)
-        ensures { self.new ≡ self.old }
-    {
-        if self.has(seg) {
-            self.segments[usize::from(seg) - 1].keep_found(offset);
-        }
     }
 
     /// Whether there is a segment of this number.

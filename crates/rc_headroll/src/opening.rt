@@ -117,7 +117,12 @@ impl LogHead {
     {
         let ids = choose(alloc, 1, self.own, self.factor, servers)?;
         let digest = vec![in alloc; 1]?;
-        self.open_head(alloc, Shared::from_vec(alloc, digest)?, ids.as_slice())?;
+        self.open_head(
+            alloc,
+            Shared::from_vec(alloc, digest)?,
+            ids.as_slice(),
+            false,
+        )?;
         Ok(())
     }
 
@@ -148,7 +153,7 @@ impl LogHead {
         }
         let ids = choose(alloc, head + 1, self.own, self.factor, servers)?;
         let digest = self.next_digest(alloc, dead)?;
-        self.open_head(alloc, digest, ids.as_slice())?;
+        self.open_head(alloc, digest, ids.as_slice(), dead.is_empty())?;
         Ok(())
     }
 
@@ -166,18 +171,22 @@ impl LogHead {
         Ok(shared)
     }
 
-    /// Opens a head with this digest on these members. With it comes room to keep how it was when a step began.
+    /// Opens a head with this digest on these members. With it comes room to keep how it was when a step began. `whole`
+    /// says whether the digest is known to have all that the head's has.
     fn open_head(
         &mut self,
         alloc: Global,
         digest: Shared<u16>,
         ids: &[ServerId],
+        whole: bool,
     ) -> Result<(), AllocError>
         requires room { (log_of self.old).head < LAST_SEGMENT }
         requires members { length ids.now ≤ MAX_MEMBERS }
         requires known { All (IsKnown ((log_of self.old).head + 1)) digest }
         requires shut { (seg : ℕ) → 0 < seg → seg < (log_of self.old).head →
             ((log_of self.old).segments seg).shut ≡ true }
+        requires none_out { whole ≡ true →
+            filter (λ seg. not (list_any (nat_eq seg) digest)) (head_of (log_of self.old)).digest ≡ [] }
         ensures ok { OnOk result (log_of self.new ≡ opens_head (log_of self.old) digest ids.now) }
         ensures unchanged { OnErr result (self.new ≡ self.old) }
         ensures before { before_of self.new ≡ before_of self.old }
@@ -189,6 +198,7 @@ impl LogHead {
         self.watch.wake(seg)?;
         self.segments.push(head).unwrap();
         self.phase = Phase::Opening;
+        self.whole = whole;
         Ok(())
     }
 }

@@ -1,13 +1,17 @@
 -- Dead segments, entry by entry.
 use Rattle.std.proofs.Common.{◌≡◌, ℕ, zero, suc, ◌≤◌, Bool, true, false, cond, ◌&&◌, ◌||◌, List, [], ◌∷◌, length, map, Some, None}
-use Rattle.std.proofs.Common.{refl, sym, ap, ◌∙◌, arith, true≢false, nat_lt}
+use Rattle.std.proofs.Common.{refl, sym, ap, ◌∙◌, subst, arith, nat_eq, nat_lt, not, take}
 use Rattle.std.specs.List.{list_any}
 use Rattle.std.proofs.lemmas.List.{get_or_past}
+use Rattle.std.proofs.lemmas.Bool.{and_parts, eqb-true}
 use Rattle.std.proofs.lemmas.Bool.Decides.{nat_tests}
 use Rattle.rc_model.specs.Model.{Entry, Segment, no_segment, has_segment, is_of, is_outdated, is_dead, Master}
 use Rattle.rc_model.specs.Model.{durable_entries, is_dead_segment}
 use Rattle.rc_segment.specs.Lists.{segment_at}
-use Rattle.rc_segment.specs.Found.{are_alike, IsAmong}
+use Rattle.rc_ownership.specs.Groups.{group_of, IsQuiet}
+use Rattle.rc_ownership.specs.Slots.{slot_of}
+use Rattle.rc_headroll.specs.Alive.{has_alive, IsFound}
+use Rattle.rc_headroll.specs.declared.alive.AliveEntry.{AliveEntry}
 use Rattle.rc_headroll.specs.LogData.{LogData, log_of}
 
 abbrev pub bare : List (Entry × Bool) → List Entry
@@ -30,33 +34,57 @@ pub none-unknown : {X : Type 0} (b : Bool) (x : X) → None ≡ cond b (Some x) 
 none-unknown true x e = cc
 none-unknown false x e = refl
 
--- of entries of one version of one key under one term both are outdated, or neither is
-alike-outdated : (durable : List Entry) (found one : Entry) → are_alike found one ≡ true →
-    is_outdated durable one ≡ is_outdated durable found
-alike-outdated durable found one e =
-    let term : one.term ≡ found.term = grind (arith, nat_tests) in
-    let table : one.table ≡ found.table = grind (arith, nat_tests) in
-    let key : one.key ≡ found.key = grind (arith, nat_tests) in
-    let version : one.version ≡ found.version = grind (arith, nat_tests) in
-    ap (λ n. list_any (λ other. is_of n one.table one.key other && nat_lt one.version other.version) durable) term
-    ∙ ap (λ n. list_any (λ other. is_of found.term n one.key other && nat_lt one.version other.version) durable) table
-    ∙ ap (λ n. list_any (λ other. is_of found.term found.table n other && nat_lt one.version other.version) durable) key
-    ∙ ap (λ n. list_any (λ other. is_of found.term found.table found.key other && nat_lt n other.version) durable) version
-
 and-false : (a : Bool) → (a && false) ≡ false
 and-false true = refl
 and-false false = refl
 
--- a segment with an entry like one that isn't outdated is not dead
-pub among-alive : (durable : List Entry) (entries : List (Entry × Bool)) (found : Entry) → IsAmong entries found →
-    is_outdated durable found ≡ false → is_dead durable (bare entries) ≡ false
-among-alive durable [] found among alive = absurd (true≢false (sym among))
-among-alive durable (first ∷ entries) found among alive =
-    by (are_alike found first.0) refl (λ rest. among-alive durable entries found rest alive)
+-- what passes no test among the first so many passes none among fewer
+none-of-fewer : (p : Entry → Bool) (n d : ℕ) (xs : List Entry) → list_any p (take n xs) ≡ false →
+    list_any p (take n (take d xs)) ≡ false
+none-of-fewer p zero d xs none = refl
+none-of-fewer p (suc n) zero xs none = refl
+none-of-fewer p (suc n) (suc d) [] none = refl
+none-of-fewer p (suc n) (suc d) (x ∷ xs) none = by (p x) refl none (none-of-fewer p n d xs)
   where
-    by : (b : Bool) → are_alike found first.0 ≡ b → (IsAmong entries found → is_dead durable (bare entries) ≡ false) →
+    by : (first : Bool) → p x ≡ first → (first || list_any p (take n xs)) ≡ false →
+        (list_any p (take n xs) ≡ false → list_any p (take n (take d xs)) ≡ false) →
+        (p x || list_any p (take n (take d xs))) ≡ false
+    by false e is rest = ap (λ b. b || list_any p (take n (take d xs))) e ∙ rest is
+    by true e is rest = cc
+
+-- an entry of a group that is quiet, which wasn't outdated, isn't
+one-alive : (all durable : List Entry) (d : ℕ) (found : AliveEntry) (one : Entry) → durable ≡ take d all →
+    IsQuiet durable found.group found.durable →
+    (nat_eq (group_of (slot_of one)) found.group && not (is_outdated (take found.durable all) one)) ≡ true →
+    is_outdated durable one ≡ false
+one-alive all durable d found one is quiet e =
+    let parts = and_parts (nat_eq (group_of (slot_of one)) found.group) (not (is_outdated (take found.durable all) one)) e in
+    quiet one (eqb-true (group_of (slot_of one)) found.group parts.0)
+    (subst (λ (es : List Entry). is_outdated (take found.durable es) one ≡ false) (sym is)
+    (none-of-fewer (λ other. is_of one.term one.table one.key other && nat_lt one.version other.version) found.durable d all
+    (not-true (is_outdated (take found.durable all) one) parts.1)))
+  where
+    not-true : (b : Bool) → not b ≡ true → b ≡ false
+    not-true false e = refl
+    not-true true e = cc
+
+among-alive : (all durable : List Entry) (d : ℕ) (entries : List (Entry × Bool)) (found : AliveEntry) → durable ≡ take d all →
+    IsQuiet durable found.group found.durable → has_alive (take found.durable all) found.group entries ≡ true →
+    is_dead durable (bare entries) ≡ false
+among-alive all durable d [] found is quiet e = cc
+among-alive all durable d (first ∷ entries) found is quiet e =
+    by (nat_eq (group_of (slot_of first.0)) found.group && not (is_outdated (take found.durable all) first.0)) refl e
+    (among-alive all durable d entries found is quiet)
+  where
+    by : (b : Bool) → (nat_eq (group_of (slot_of first.0)) found.group && not (is_outdated (take found.durable all) first.0)) ≡ b →
+        (b || has_alive (take found.durable all) found.group entries) ≡ true →
+        (has_alive (take found.durable all) found.group entries ≡ true → is_dead durable (bare entries) ≡ false) →
         is_dead durable (bare (first ∷ entries)) ≡ false
-    by true e rest = ap (λ b. b && is_dead durable (bare entries)) (alike-outdated durable found first.0 e ∙ alive)
-    by false e rest =
-        let others : IsAmong entries found = sym (ap (λ b. b || list_any (λ one. are_alike found one.0) entries) e) ∙ among in
-        ap (λ b. is_outdated durable first.0 && b) (rest others) ∙ and-false (is_outdated durable first.0)
+    by true one e rest = ap (λ b. b && is_dead durable (bare entries)) (one-alive all durable d found first.0 is quiet one)
+    by false one e rest = ap (λ b. is_outdated durable first.0 && b) (rest e) ∙ and-false (is_outdated durable first.0)
+
+-- a segment of which an entry was found is not dead while that entry's group is quiet
+pub quiet-alive : (all durable : List Entry) (d : ℕ) (entries : List (Entry × Bool)) (found : AliveEntry) →
+    durable ≡ take d all → IsFound all entries found → IsQuiet durable found.group found.durable →
+    is_dead durable (bare entries) ≡ false
+quiet-alive all durable d entries found is was quiet = among-alive all durable d entries found is quiet was.alive

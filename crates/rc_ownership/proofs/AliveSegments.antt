@@ -4,7 +4,7 @@ use Rattle.std.proofs.Common.{◌-◌, Option, None, IfSome, take_all, slice_get
 use Rattle.std.proofs.lemmas.List.{length-take-le, length-drop}
 use Rattle.rc_types.specs.declared.entries.Entry.{Entry}
 use Rattle.rc_model.specs.Versions.{is_outdated, is_dead}
-use Rattle.rc_ownership.specs.Alive.{IsAliveAt}
+use Rattle.rc_ownership.specs.Groups.{IsAliveAt}
 
 abbrev pub bare : List (Entry × Bool) → List Entry
 bare entries = map (λ one. one.0) entries

@@ -1,4 +1,4 @@
--- Bounds of groups, place by place, and what was found alive.
+-- Bounds of groups, place by place.
 use Rattle.std.proofs.Common.{◌≡◌, ◌⊎◌, inl, inr, ℕ, zero, suc, ◌+◌, ◌<◌, ◌≤◌, Bool, true, false, ◌||◌, true≢false, List, []}
 use Rattle.std.proofs.Common.{◌∷◌, ◌++◌, length, take, drop, slice_get, slice_set, Some, refl, ap, subst, ◌∙◌, arith}
 use Rattle.std.specs.List.{list_any}

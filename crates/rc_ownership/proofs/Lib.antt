@@ -18,5 +18,5 @@ pub mod Undone
 pub mod Waiting
 pub mod ShownParts
 pub mod Bounding
-pub mod AliveEntries
+pub mod GroupBounds
 pub mod AliveSegments

@@ -13,4 +13,4 @@ pub mod Unfinished
 pub mod Notes
 pub mod Looks
 pub mod Marks
-pub mod Alive
+pub mod Groups

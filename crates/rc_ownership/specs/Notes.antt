@@ -1,11 +1,10 @@
 -- The notes of a log, and the tables beside them.
-use Rattle.std.specs.Prelude.{◌≡◌, ℕ, ◌≤◌, Bool, List, Option, length, take}
+use Rattle.std.specs.Prelude.{◌≡◌, ℕ, ◌≤◌, Bool, List, length, take}
 use Rattle.rc_types.specs.declared.entries.Entry.{Entry}
 use Rattle.rc_model.specs.Ownership.{count_under}
-use Rattle.rc_ownership.specs.declared.alive.AliveEntry.{AliveEntry}
 use Rattle.rc_ownership.specs.declared.highs.Slot.{Slot}
-use Rattle.rc_ownership.specs.Alive.{AreAlive}
 use Rattle.rc_ownership.specs.Counts.{CountTable, count_in, AreKnown}
+use Rattle.rc_ownership.specs.Groups.{AreBounds}
 use Rattle.rc_ownership.specs.Highs.{highs_of}
 use Rattle.rc_ownership.specs.Marks.{marked}
 use Rattle.rc_ownership.specs.Slots.{HighTable, highs_in}
@@ -37,10 +36,9 @@ pub record AreTablesOf {A : Type 0} (noted : List Entry) (replayed : List Bool) 
 
 -- notes, and how many of them there were and were durable when `begin` was called
 pub record AreNotes {A : Type 0} (noted : List Entry) (replayed : List Bool) (durable kept kept_durable : ℕ)
-    (highs : HighTable A) (counts : CountTable) (tops : List ℕ) (alive : List (Option AliveEntry)) (bounds : List ℕ)
-    : Type 0 where
+    (highs : HighTable A) (counts : CountTable) (tops bounds : List ℕ) : Type 0 where
   pub tables : AreTablesOf noted replayed durable highs counts
   pub kept_within : kept ≤ length noted
   pub durable_within : kept_durable ≤ kept
   pub tops_are : tops ≡ tops_of noted
-  pub alive_are : AreAlive noted durable alive bounds
+  pub bounds_are : AreBounds noted durable bounds

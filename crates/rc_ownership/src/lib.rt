@@ -3,10 +3,10 @@
 //! those of `rc_model`'s `Ownership` and `Versions`.
 #![tactic(auto)]
 
-mod alive;
 mod bounds;
 mod counts;
 mod grants;
+mod groups;
 mod highs;
 mod looks;
 mod notes;
@@ -21,5 +21,6 @@ mod tops;
 mod touched;
 mod unfinished;
 
+pub use groups::group_of;
 pub use looks::PartProgress;
 pub use ownership::Ownership;

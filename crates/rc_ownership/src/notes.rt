@@ -5,9 +5,8 @@ ghost use Rattle.std.specs.Prelude.{◌≡◌, ℕ, ◌+◌, ◌-◌, ◌^◌, �
 ghost use Rattle.std.specs.Prelude.{OnErr, IfOk, true, ◌↔◌};
 ghost use Rattle.std.specs.Option.{option_copied};
 
-use crate::alive::{self, AliveEntry};
 use crate::highs::{self, Slot};
-use crate::{counts, tops};
+use crate::{counts, groups, tops};
 use indexmap::IndexMap;
 use rc_types::{Entry, Shared, TryClone};
 use std::alloc::{AllocError, Global};
@@ -26,9 +25,7 @@ pub(crate) struct Notes {
     highs: IndexMap<Slot, Vec<(usize, u64)>>,
     counts: IndexMap<u32, usize>,
     tops: Vec<u64>,
-    /// Of each segment, by its number, an entry that isn't outdated, where one was found.
-    pub(crate) alive: Vec<Option<AliveEntry>>,
-    /// Of each group of slots a place above those of its durable entries; none until an entry is found.
+    /// Of each group of slots a place above those of its durable entries; none until the groups are watched.
     pub(crate) bounds: Vec<usize>,
 }
 
@@ -48,7 +45,7 @@ impl Model for Notes {
     } };
 
     ghost invariant = { λ s. AreNotes s.noted.items s.replayed.items s.durable s.kept s.kept_durable s.highs
-        s.counts s.tops.items s.alive.items s.bounds.items };
+        s.counts s.tops.items s.bounds.items };
 }
 
 impl Notes {
@@ -78,7 +75,6 @@ impl Notes {
             highs: IndexMap::new(alloc),
             counts: IndexMap::new(alloc),
             tops: Vec::new(alloc),
-            alive: Vec::new(alloc),
             bounds: Vec::new(alloc),
         }
     }
@@ -201,7 +197,7 @@ impl Notes {
         let newly = &self.noted.as_slice()[self.durable..count];
         let marks = &self.replayed.as_slice()[self.durable..count];
         counts::count_up(&mut self.counts, newly, marks);
-        alive::raise_bounds(&mut self.bounds, newly, count);
+        groups::raise_bounds(&mut self.bounds, newly, count);
         self.durable = count;
     }
 
@@ -212,7 +208,6 @@ impl Notes {
         let no_longer = &self.noted.as_slice()[count..self.durable];
         let marks = &self.replayed.as_slice()[count..self.durable];
         counts::count_down(&mut self.counts, no_longer, marks);
-        self.alive.clear();
         self.durable = count;
     }
 

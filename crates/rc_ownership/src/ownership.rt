@@ -1,12 +1,13 @@
 //! What a master owns, in one value.
 
 ghost use Rattle.std.specs.Prelude.{◌≡◌, ◌<◌, ◌≤◌, ◌+◌, ◌^◌, [], length, not, nat_eq, nat_lt, slice_get};
-ghost use Rattle.std.specs.Prelude.{OnOk, OnErr, IfOk, None, true, ◌↔◌, option_map, map, is_none, false};
+ghost use Rattle.std.specs.Prelude.{OnOk, OnErr, IfOk, None, true, ◌↔◌, option_map, map, is_none, IfSome};
 ghost use Rattle.std.specs.List.{position};
 ghost use Rattle.rc_model.specs.Ownership.{owns_nothing};
 ghost use Rattle.rc_model.specs.Ownership as owning;
 ghost use Rattle.rc_model.specs.Versions as versions;
 ghost use Rattle.rc_ownership.specs.Grants.{grants_in};
+ghost use Rattle.rc_ownership.specs.Groups.{IsAliveAt, IsQuiet};
 ghost use Rattle.rc_ownership.specs.Highs.{highs_of};
 ghost use Rattle.rc_types.specs.Counts.{within_64_bits};
 ghost use Rattle.rc_ownership.specs.Looks.{progress_of};
@@ -253,26 +254,34 @@ impl Ownership {
         self.notes.read(alloc, term, table, key)
     }
 
-    /// The first of a segment's entries that has no greater version of its key under its term among the durable ones:
-    /// from where one was found last on, and then from the first on. It is kept in mind, if there is memory for it.
-    pub fn find_alive(
-        &mut self,
-        alloc: Global,
-        seg: u16,
-        entries: &[(Entry, bool)],
-    ) -> Option<usize>
-        ensures dead { is_none result ≡ versions.is_dead (durable_of self.old) (map (λ one. one.0) entries.now) }
-        ensures same { self.new ≡ self.old }
+    /// The first of these entries that has no greater version of its key under its term among the durable ones: from
+    /// `start` on, and then from the first on.
+    pub fn find_alive(&self, entries: &[(Entry, bool)], start: usize) -> Option<usize>
+        ensures dead { is_none result ≡ versions.is_dead (durable_of self.now) (map (λ one. one.0) entries.now) }
+        ensures alive { IfSome result (λ offset. IsAliveAt (durable_of self.now) entries.now offset) }
     {
-        self.notes.find_alive(alloc, seg, entries)
+        self.notes.find_alive(entries, start)
     }
 
-    /// Whether this entry was found last of the segment of this number, and since then no entry of its key, or of
-    /// those that share a group with it, has become durable. It is no walk.
-    pub fn is_known_alive(&self, seg: u16, entry: &Entry) -> bool
-        ensures { result ≡ true → versions.is_outdated (durable_of self.now) entry.now ≡ false }
+    /// Whether no entry of the group has become durable since so many entries were. It is no walk.
+    pub fn is_quiet(&self, group: usize, count: usize) -> bool
+        ensures { result ≡ true → IsQuiet (durable_of self.now) group count }
     {
-        self.notes.is_known_alive(seg, entry)
+        self.notes.is_quiet(group, count)
+    }
+
+    /// From here on `is_quiet` can tell, if there is memory for it.
+    pub fn watch_groups(&mut self, alloc: Global)
+        ensures { self.new ≡ self.old }
+    {
+        self.notes.watch_groups(alloc);
+    }
+
+    /// How many entries are durable.
+    pub fn durable(&self) -> usize
+        ensures { result ≡ length (durable_of self.now) }
+    {
+        self.notes.count_durable()
     }
 
     /// Whether the term is known: a part under it was begun, or a range was granted.

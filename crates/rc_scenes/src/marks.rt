@@ -1,7 +1,7 @@
 //! Marks of what was delivered, and the numbers of what waits.
 
 ghost use Rattle.std.specs.Prelude.{◌≡◌, ◌≤◌, ◌<◌, ◌+◌, ◌++◌, ◌∷◌, true, false, [], ℕ, List, length, drop, Some};
-ghost use Rattle.std.specs.Prelude.{slice_get, OnOk, OnErr};
+ghost use Rattle.std.specs.Prelude.{slice_get, IfSome, OnOk, OnErr};
 ghost use Rattle.std.specs.List.{find, slice_set};
 ghost use Rattle.rc_types.specs.declared.events.Event.{Event};
 ghost use Rattle.rc_types.specs.declared.messages.Message.{Message};
@@ -13,6 +13,9 @@ use crate::lines::{Line, is_marked};
 use crate::passing::Passing;
 use rc_types::{Addr, Kind, Message};
 use std::alloc::{AllocError, Global};
+
+/// So many numbers are looked at one by one before all lines are.
+const NEAR: usize = 8;
 
 /// Which messages are still to be delivered, of those noted so far.
 #[derive(Drop)]
@@ -54,8 +57,33 @@ impl Marks {
         }
     }
 
-    /// The least number from `from` on of a message that the pass delivers.
+    /// The least number from `from` on of a message that the pass delivers: mostly it is one of the next few.
     pub(crate) fn next_due(&self, passing: &Passing, sent: &[Message], from: usize) -> Option<usize>
+        ensures { (events : List Event) → Fits events sent.now self.now.delivered.items self.now.lines.items →
+            result ≡ due_from passing.now events sent.now from }
+    {
+        match self.next_near(passing, sent, from) {
+            Some(number) => Some(number),
+            None => self.next_far(passing, sent, from),
+        }
+    }
+
+    /// The first of the next few numbers from `from` on whose message the pass delivers.
+    fn next_near(&self, passing: &Passing, sent: &[Message], from: usize) -> Option<usize>
+        ensures { IfSome result (λ number.
+            first_due passing.now self.now.delivered.items from (drop from sent.now) ≡ Some number) }
+    {
+        let end = sent.len().min(from.saturating_add(NEAR));
+        for number in from..end {
+            if self.is_due(passing, sent, number) {
+                return Some(number);
+            }
+        }
+        None
+    }
+
+    /// The least number from `from` on of a message that the pass delivers, by the lines.
+    fn next_far(&self, passing: &Passing, sent: &[Message], from: usize) -> Option<usize>
         ensures { (events : List Event) → Fits events sent.now self.now.delivered.items self.now.lines.items →
             result ≡ due_from passing.now events sent.now from }
     {

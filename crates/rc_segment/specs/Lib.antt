@@ -3,4 +3,3 @@ pub mod Concerned
 pub mod Resting
 pub mod States
 pub mod Lists
-pub mod Found

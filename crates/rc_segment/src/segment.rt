@@ -1,7 +1,6 @@
 //! One segment of a log, in its master's own view.
 
 ghost use Rattle.std.specs.Prelude.{◌≡◌, ◌⊎◌, ◌≤◌, Ok, Err, true, map, length, nat_eq, OnOk, OnErr, IfOk, IfErr};
-ghost use Rattle.std.specs.Prelude.{IfSome};
 ghost use Rattle.rc_types.specs.declared.faults.Fault.TheVariants.{OutOfMemory};
 ghost use Rattle.rc_model.specs.Config.{notes, noted, committed_at};
 ghost use Rattle.rc_segment.specs.Resting.{have_told};
@@ -23,8 +22,6 @@ pub struct Segment {
     closes_sent: MemberIds,
     shut: bool,
     freed: bool,
-    /// An entry of it that was found not to be outdated, without its value.
-    found: Option<Entry>,
 }
 
 impl Drop for Segment {
@@ -37,15 +34,12 @@ impl Drop for Segment {
             closes_sent: _,
             shut: _,
             freed: _,
-            found: _,
         } = self;
     }
 }
 
 impl Model for Segment {
-    ghost use Rattle.std.specs.Prelude.{IfSome};
     ghost use Rattle.rc_model.specs.Segment.{Segment as SegmentModel};
-    ghost use Rattle.rc_segment.specs.Found.{IsAmong};
 
     ghost Value = { SegmentModel };
 
@@ -58,8 +52,6 @@ impl Model for Segment {
       shut = s.shut;
       freed = s.freed;
     } };
-
-    ghost invariant = { λ s. IfSome s.found (IsAmong s.entries.items) };
 }
 
 impl Segment {
@@ -71,7 +63,6 @@ impl Segment {
     ghost use Rattle.rc_segment.specs.Losing.{segment_loses};
     ghost use Rattle.rc_segment.specs.States.{state_of, with_state};
     ghost use Rattle.rc_segment.specs.Concerned.{is_concerned};
-    ghost use Rattle.rc_segment.specs.Found.{IsAmong};
 
     /// A segment as it is opened with this digest on these members. It takes no memory.
     pub fn new(alloc: Global, seg: u16, digest: Shared<u16>, ids: &[ServerId]) -> Segment
@@ -86,7 +77,6 @@ impl Segment {
             closes_sent: MemberIds::none(),
             shut: false,
             freed: false,
-            found: None,
         }
     }
 
@@ -109,28 +99,6 @@ impl Segment {
         ensures { result.now ≡ self.now.entries }
     {
         self.entries.as_slice()
-    }
-
-    /// The entry that was found last, without its value, unless entries were taken out since.
-    pub fn found(&self) -> Option<&Entry>
-        ensures { IfSome result (λ found. IsAmong self.now.entries found.now) }
-    {
-        self.found.as_ref()
-    }
-
-    /// Keeps in mind that the entry with so many before it was found.
-    pub fn keep_found(&mut self, offset: usize)
-        ensures { self.new ≡ self.old }
-    {
-        if let Some((entry, _)) = self.entries.get(offset) {
-            self.found = Some(Entry {
-                term: entry.term,
-                table: entry.table,
-                key: entry.key,
-                version: entry.version,
-                value: None,
-            });
-        }
     }
 
     /// How many entries there are.
@@ -317,7 +285,6 @@ impl Segment {
     pub fn put_back(&mut self, state: &SegmentState)
         ensures { self.new ≡ with_state state.now self.old }
     {
-        self.found = None;
         self.entries.truncate(state.len);
         self.config = state.config.copy();
         self.commit_sent = state.commit_sent;

@@ -16,6 +16,8 @@ invariant_of-self c =
       watched-begins (the_view c.self.inside) c.begin.new.self.mark c.self.invariant.1
           (before_of-begin (the_view c.self.inside) c.self.inside.passed c.self.inside.passed_entries c.begin.new.self.mark is),
       omega (arith, c.self.invariant.2, c.begin.ensures.room),
+      c.self.invariant.3,
+      c.self.invariant.4,
     )
 
 pub returns-clause-before : goal.returns-clause-before

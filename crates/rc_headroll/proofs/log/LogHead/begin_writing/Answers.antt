@@ -17,4 +17,6 @@ invariant_of-self c =
           c.self.invariant.0.now may'),
       watched-durable (the_view c.self.inside) Writing c.self.inside.durable c.self.invariant.1,
       c.self.invariant.2,
+      c.self.invariant.3,
+      c.self.invariant.4,
     )

@@ -29,6 +29,8 @@ invariant_of-self c =
       sound-watch (the_view c.self.inside) c.self.inside.passed c.self.inside.passed_entries c.file.new.self c.self.invariant.0,
       watched-woken (the_view c.self.inside) c.file.new.self c.self.invariant.1 more,
       c.self.invariant.2,
+      c.self.invariant.3,
+      c.self.invariant.4,
     )
 
 pub returns-clause-filed : goal.returns-clause-filed

@@ -25,6 +25,8 @@ invariant_of-self c =
           (segment_at c.self.inside.segments.items) c.args.seg c.index.result.now
           c.self.invariant.0.back read c.keep.ensures.mark)),
       omega (arith, c.self.invariant.2, c.keep.ensures.room),
+      c.self.invariant.3,
+      c.self.invariant.4,
     )
 
 pub returns-clause-before : goal.returns-clause-before

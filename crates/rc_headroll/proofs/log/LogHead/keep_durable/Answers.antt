@@ -35,4 +35,6 @@ invariant_of-self c =
           c.self.invariant.0.now known' shut' is' (rw (is', now') least)),
       watched-durable kept c.self.inside.phase c.durable_now-self-inside.result c.self.invariant.1,
       c.self.invariant.2,
+      c.self.invariant.3,
+      c.self.invariant.4,
     )

@@ -8,7 +8,9 @@ use Rattle.rc_headroll.specs.contracts.log.LogHead.{the_view}
 use Rattle.rc_headroll.proofs.LogChanges.{lose_keeps, lose_ok, lose_err}
 use Rattle.rc_headroll.proofs.StillBefore.{written-sound, written-before}
 use Rattle.rc_headroll.proofs.WatchLemmas.{watched-awake, roused-set}
+use Rattle.rc_headroll.proofs.AliveLemmas.{found-written}
 use Rattle.rc_headroll.proofs.OthersLemmas.{room-set}
+use Rattle.rc_headroll.proofs.WholeLemmas.{whole-written}
 use Rattle.rc_headroll.proofs.log.LogHead.lose_members.Goals as goal
 
 pub invariant_of-self : goal.invariant_of-self
@@ -31,6 +33,14 @@ invariant_of-self c =
           (rw (← c.self.view_is) at kept))
           (rw (← c.self.view_is) at awake),
       room-set c.self.inside.segments.items _ _ _ c.self.invariant.2,
+      found-written (the_view c.self.inside) c.args.seg c.from.result c.lose.new.self was c.self.inside.alive.items
+          (rw (← c.self.view_is) at has) c.from.ensures c.index_mut.ensures.value
+          (lose_keeps c.self.inside.own c.args.servers.now c.lose.new.self was c.lose.result c.lose.ensures.ok c.lose.ensures.err).entries
+          c.self.invariant.3,
+      whole-written (the_view c.self.inside) c.args.seg c.from.result c.lose.new.self was c.self.inside.whole
+          (rw (← c.self.view_is) at has) c.from.ensures c.index_mut.ensures.value
+          (lose_keeps c.self.inside.own c.args.servers.now c.lose.new.self was c.lose.result c.lose.ensures.ok c.lose.ensures.err).digest
+          c.self.invariant.4,
     )
 
 pub returns-clause-before : goal.returns-clause-before

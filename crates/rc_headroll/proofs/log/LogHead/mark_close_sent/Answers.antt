@@ -6,7 +6,9 @@ use Rattle.rc_headroll.proofs.LogChanges.{sound-set, keeps_from}
 use Rattle.rc_headroll.proofs.LogSteps.{close-marked, close_is_due-parts}
 use Rattle.rc_headroll.proofs.StillBefore.{old_head-sound, old_head-before}
 use Rattle.rc_headroll.proofs.WatchLemmas.{watched-still, wants-same}
+use Rattle.rc_headroll.proofs.AliveLemmas.{found-set}
 use Rattle.rc_headroll.proofs.OthersLemmas.{room-set}
+use Rattle.rc_headroll.proofs.WholeLemmas.{whole-set}
 use Rattle.rc_headroll.proofs.log.LogHead.mark_close_sent.Goals as goal
 
 pub invariant_of-self : goal.invariant_of-self
@@ -31,6 +33,12 @@ invariant_of-self c =
           c.mark_close_sent.new.self was c.self.invariant.0 more is c.index_mut.ensures.value keeps.entries keeps.digest)
           (wants-same was c.mark_close_sent.new.self _ c.mark_close_sent.ensures refl refl refl),
       room-set c.self.inside.segments.items _ _ _ c.self.invariant.2,
+      found-set (the_view c.self.inside) (c.len-old.result - 2) (length c.self.inside.segments.items - 1)
+          c.mark_close_sent.new.self was c.self.inside.alive.items (omega (arith, more, is)) (omega (arith, more, is))
+          c.index_mut.ensures.value keeps.entries c.self.invariant.3,
+      whole-set c.self.inside.segments.items (c.len-old.result - 2) (length c.self.inside.segments.items - 1)
+          c.mark_close_sent.new.self was c.self.inside.whole (omega (arith, more, is)) (omega (arith, more, is))
+          c.index_mut.ensures.value keeps.digest c.self.invariant.4,
     )
 
 pub returns-clause-state : goal.returns-clause-state

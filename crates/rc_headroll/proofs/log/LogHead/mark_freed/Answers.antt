@@ -7,7 +7,9 @@ use Rattle.rc_headroll.proofs.LogChanges.{keeps_from}
 use Rattle.rc_headroll.proofs.LogSteps.{freed-marked}
 use Rattle.rc_headroll.proofs.StillBefore.{written-sound, written-before}
 use Rattle.rc_headroll.proofs.WatchLemmas.{watched-written, wants-freed}
+use Rattle.rc_headroll.proofs.AliveLemmas.{found-written}
 use Rattle.rc_headroll.proofs.OthersLemmas.{room-set}
+use Rattle.rc_headroll.proofs.WholeLemmas.{whole-written}
 use Rattle.rc_headroll.proofs.log.LogHead.mark_freed.Goals as goal
 
 pub invariant_of-self : goal.invariant_of-self
@@ -29,6 +31,12 @@ invariant_of-self c =
           (rw (← c.self.view_is) at kept))
           (wants-freed was c.mark_freed.new.self c.mark_freed.ensures),
       room-set c.self.inside.segments.items _ _ _ c.self.invariant.2,
+      found-written (the_view c.self.inside) c.args.seg c.from.result c.mark_freed.new.self was c.self.inside.alive.items
+          (rw (← c.self.view_is) at has) c.from.ensures c.index_mut.ensures.value
+          (keeps_from c.mark_freed.new.self was _ c.mark_freed.ensures refl refl refl).entries c.self.invariant.3,
+      whole-written (the_view c.self.inside) c.args.seg c.from.result c.mark_freed.new.self was c.self.inside.whole
+          (rw (← c.self.view_is) at has) c.from.ensures c.index_mut.ensures.value
+          (keeps_from c.mark_freed.new.self was _ c.mark_freed.ensures refl refl refl).digest c.self.invariant.4,
     )
 
 pub returns-clause-before : goal.returns-clause-before

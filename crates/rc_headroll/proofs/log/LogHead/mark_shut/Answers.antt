@@ -5,7 +5,9 @@ use Rattle.rc_headroll.specs.contracts.log.LogHead.{the_view}
 use Rattle.rc_headroll.proofs.LogSteps.{sound-shut_marked, shut-marked, shuts-parts}
 use Rattle.rc_headroll.proofs.StillBefore.{old_head-sound, old_head-before}
 use Rattle.rc_headroll.proofs.WatchLemmas.{watched-still, wants-shut}
+use Rattle.rc_headroll.proofs.AliveLemmas.{found-set}
 use Rattle.rc_headroll.proofs.OthersLemmas.{room-set}
+use Rattle.rc_headroll.proofs.WholeLemmas.{whole-set}
 use Rattle.rc_headroll.proofs.log.LogHead.mark_shut.Goals as goal
 
 pub invariant_of-self : goal.invariant_of-self
@@ -29,6 +31,12 @@ invariant_of-self c =
           (ap (λ (s : Segment). s.entries) c.mark_shut.ensures) (ap (λ (s : Segment). s.digest) c.mark_shut.ensures))
           (wants-shut c.index_mut.result.now c.mark_shut.new.self c.mark_shut.ensures),
       room-set c.self.inside.segments.items _ _ _ c.self.invariant.2,
+      found-set (the_view c.self.inside) (c.len-old.result - 2) (length c.self.inside.segments.items - 1) c.mark_shut.new.self
+          c.index_mut.result.now c.self.inside.alive.items (omega (arith, more, is)) (omega (arith, more, is))
+          c.index_mut.ensures.value (ap (λ (s : Segment). s.entries) c.mark_shut.ensures) c.self.invariant.3,
+      whole-set c.self.inside.segments.items (c.len-old.result - 2) (length c.self.inside.segments.items - 1) c.mark_shut.new.self
+          c.index_mut.result.now c.self.inside.whole (omega (arith, more, is)) (omega (arith, more, is))
+          c.index_mut.ensures.value (ap (λ (s : Segment). s.digest) c.mark_shut.ensures) c.self.invariant.4,
     )
 
 pub returns-then-shuts-clause-state : goal.returns-then-shuts-clause-state

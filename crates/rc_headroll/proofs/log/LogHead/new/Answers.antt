@@ -1,8 +1,10 @@
 use Rattle.std.proofs.Common.{length, ap, arith}
 use Rattle.rc_headroll.specs.Before.{Mark}
 use Rattle.rc_headroll.proofs.LogTables.{log_of-nil}
+use Rattle.rc_headroll.proofs.AliveLemmas.{found-none}
 use Rattle.rc_headroll.proofs.SoundBefore.{before_of-nil, sound_log-new}
 use Rattle.rc_headroll.proofs.WatchLemmas.{watched-none}
+use Rattle.rc_headroll.proofs.WholeLemmas.{whole-unknown}
 use Rattle.rc_headroll.proofs.log.LogHead.new.Goals as goal
 
 pub invariant_of-result : goal.invariant_of-result
@@ -11,6 +13,8 @@ invariant_of-result c = (
       (sound_log-new c.args.own c.args.factor c.args.size c.new-3.result c.requires.factor c.requires.size),
   watched-none _ (ap length c.new.ensures.items) (ap (λ (m : Mark). m.head) c.new-2.ensures),
   omega (arith, ap length c.new.ensures.items),
+  found-none _ _ c.new-4.ensures.items,
+  whole-unknown _,
 )
 
 pub returns-clause-log : goal.returns-clause-log

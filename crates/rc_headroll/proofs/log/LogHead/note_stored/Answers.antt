@@ -6,7 +6,9 @@ use Rattle.rc_headroll.specs.contracts.log.LogHead.{the_view}
 use Rattle.rc_headroll.proofs.LogChanges.{stored-written, notes-written, keeps_from}
 use Rattle.rc_headroll.proofs.StillBefore.{written-sound, written-before}
 use Rattle.rc_headroll.proofs.WatchLemmas.{watched-written, wants-noted}
+use Rattle.rc_headroll.proofs.AliveLemmas.{found-written}
 use Rattle.rc_headroll.proofs.OthersLemmas.{room-set}
+use Rattle.rc_headroll.proofs.WholeLemmas.{whole-written}
 use Rattle.rc_headroll.proofs.log.LogHead.note_stored.Goals as goal
 
 pub invariant_of-self : goal.invariant_of-self
@@ -28,6 +30,12 @@ invariant_of-self c =
           (rw (← c.self.view_is) at kept))
           (wants-noted c.args.from c.args.epoch c.args.len c.args.closed was c.stored.new.self c.stored.ensures.noted),
       room-set c.self.inside.segments.items _ _ _ c.self.invariant.2,
+      found-written (the_view c.self.inside) c.args.seg c.from.result c.stored.new.self was c.self.inside.alive.items
+          (rw (← c.self.view_is) at has) c.from.ensures c.index_mut.ensures.value
+          (keeps_from c.stored.new.self was _ c.stored.ensures.noted refl refl refl).entries c.self.invariant.3,
+      whole-written (the_view c.self.inside) c.args.seg c.from.result c.stored.new.self was c.self.inside.whole
+          (rw (← c.self.view_is) at has) c.from.ensures c.index_mut.ensures.value
+          (keeps_from c.stored.new.self was _ c.stored.ensures.noted refl refl refl).digest c.self.invariant.4,
     )
 
 pub returns-clause-before : goal.returns-clause-before

@@ -1,13 +1,17 @@
-use Rattle.std.proofs.Common.{◌≡◌, ◌+◌, ◌∷◌, ◌++◌, [], ◌<◌, ℕ, true, length, ap, arith}
+use Rattle.std.proofs.Common.{◌≡◌, ◌+◌, ◌∷◌, ◌++◌, [], ◌<◌, ℕ, List, true, length, filter, not, eqb, ap, ◌∙◌, arith}
+use Rattle.std.specs.List.{list_any}
 use Rattle.std.specs.List.{All}
 use Rattle.std.proofs.lemmas.List.{length_push}
-use Rattle.rc_model.specs.Model.{Opening, LAST_SEGMENT}
-use Rattle.rc_segment.specs.Lists.{segment_at}
+use Rattle.rc_model.specs.Model.{Segment, Opening, LAST_SEGMENT, head_of}
+use Rattle.rc_segment.specs.Lists.{segment_at, newest_of}
+use Rattle.rc_headroll.specs.LogData.{log_of}
 use Rattle.rc_headroll.specs.Soundness.{IsKnown}
 use Rattle.rc_headroll.specs.contracts.log.LogHead.{the_view}
+use Rattle.rc_headroll.proofs.AliveLemmas.{found-opened}
 use Rattle.rc_headroll.proofs.LogChanges.{sound-opened, opened-is}
 use Rattle.rc_headroll.proofs.StillBefore.{sound_log-from, before_of-same, opened-before, opened-back}
 use Rattle.rc_headroll.proofs.WatchLemmas.{sound-watch, more-awake, watched-opened, pushed-within}
+use Rattle.rc_headroll.proofs.WholeLemmas.{whole-pushed}
 use Rattle.rc_headroll.proofs.log.LogHead.open_head.Goals as goal
 
 pub invariant_of-self-2 : goal.invariant_of-self-2
@@ -18,6 +22,8 @@ invariant_of-self-2 c =
     let known : All (IsKnown (length c.args.self.now.segments + 1)) c.args.digest = c.requires.known in
     let shut : (seg : ℕ) → 0 < seg → seg < length c.args.self.now.segments →
     (segment_at c.args.self.now.segments seg).shut ≡ true = c.requires.shut in
+    let none : c.args.whole ≡ true → filter (λ seg. not (list_any (eqb seg) c.args.digest))
+    (head_of (log_of c.args.self.now)).digest ≡ [] = c.requires.none_out in
     let pushed : c.push.new.self.items ≡ c.self.inside.segments.items ++ c.new-head.result ∷ [] =
     pushed-within c.push.result c.push.new.self.items c.reserve.new.self.items c.self.inside.segments.items c.new-head.result
     (c.push.ensures.succeeds (omega (arith, c.in_ok-reserve.ensures.ok))) c.push.ensures.items c.reserve.ensures.items in (
@@ -51,6 +57,12 @@ invariant_of-self-2 c =
         c.in_ok-make_room.ensures.made,
         c.from.ensures,
       ),
+      found-opened (the_view c.self.inside) c.args.digest c.args.ids.now c.new-head.result c.push.new.self.items
+          (c.head-seg.result + 1) c.self.inside.alive.items seg c.new-head.ensures pushed c.self.invariant.3,
+      whole-pushed c.self.inside.segments.items c.push.new.self.items c.new-head.result c.args.whole pushed
+          (λ e. ap (λ (digest : List ℕ). filter (λ seg. not (list_any (eqb seg) digest))
+          (newest_of c.self.inside.segments.items).digest) (ap (λ (s : Segment). s.digest) c.new-head.ensures)
+          ∙ (rw (← c.self.view_is) at none) e),
     )
 
 pub returns-clause-ok : goal.returns-clause-ok

@@ -17,4 +17,6 @@ invariant_of-self c =
           c.let_go.ensures.filed c.let_go.ensures.stuck (rw (← c.self.view_is) at nothing)
           (rw (← c.self.view_is) at filed) c.let_go.ensures.awake,
       c.self.invariant.2,
+      c.self.invariant.3,
+      c.self.invariant.4,
     )

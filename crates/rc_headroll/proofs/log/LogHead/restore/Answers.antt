@@ -4,8 +4,10 @@ use Rattle.rc_model.specs.Segment.{Segment}
 use Rattle.rc_segment.specs.Lists.{segment_at}
 use Rattle.rc_headroll.specs.Before.{mark_of, segments_before}
 use Rattle.rc_headroll.specs.contracts.log.LogHead.{the_view}
+use Rattle.rc_headroll.proofs.AliveLemmas.{found-none}
 use Rattle.rc_headroll.proofs.SoundBefore.{restored-log, restored-before, restored-sound}
 use Rattle.rc_headroll.proofs.WatchLemmas.{watched-restored}
+use Rattle.rc_headroll.proofs.WholeLemmas.{whole-unknown}
 use Rattle.rc_headroll.proofs.log.LogHead.restore.Goals as goal
 
 pub invariant_of-self : goal.invariant_of-self
@@ -49,6 +51,8 @@ invariant_of-self c =
         c.begin.ensures.room,
         c.put_back.ensures.room,
       ),
+      found-none _ _ c.clear.ensures.items,
+      whole-unknown _,
     )
 
 pub returns-clause-log : goal.returns-clause-log

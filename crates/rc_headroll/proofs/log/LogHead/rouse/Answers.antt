@@ -15,6 +15,8 @@ invariant_of-self c =
       sound-watch (the_view c.self.inside) c.self.inside.passed c.self.inside.passed_entries c.wake_crashed.new.self c.self.invariant.0,
       watched-woken (the_view c.self.inside) c.wake_crashed.new.self c.self.invariant.1 more,
       c.self.invariant.2,
+      c.self.invariant.3,
+      c.self.invariant.4,
     )
 
 pub returns-clause-roused : goal.returns-clause-roused

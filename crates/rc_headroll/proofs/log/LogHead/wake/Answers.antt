@@ -8,4 +8,6 @@ invariant_of-self c = (
   watched-woken (the_view c.self.inside) c.wake.new.self c.self.invariant.1
       (more-awake c.self.inside.watch c.wake.new.self c.wake.ensures.filed c.wake.ensures.stuck c.wake.ensures.others),
   c.self.invariant.2,
+  c.self.invariant.3,
+  c.self.invariant.4,
 )

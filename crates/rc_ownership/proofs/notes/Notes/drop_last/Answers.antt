@@ -3,7 +3,7 @@ use Rattle.std.proofs.lemmas.Grind.{common_steps}
 use Rattle.std.proofs.lemmas.List.{length-take-le}
 use Rattle.rc_ownership.specs.Notes.{AreTablesOf}
 use Rattle.rc_ownership.specs.Slots.{highs_in, same_slot, slot_of}
-use Rattle.rc_ownership.proofs.AliveEntries.{alive-drop}
+use Rattle.rc_ownership.proofs.GroupBounds.{bounds-drop}
 use Rattle.rc_ownership.proofs.NoteTables.{tables-drop, highs_rise}
 use Rattle.rc_ownership.proofs.GreatestVersions.{tops-drop}
 use Rattle.rc_ownership.proofs.notes.Notes.drop_last.Goals as goal
@@ -46,7 +46,6 @@ invariant_of-self-2 c =
           grind (arith, common_steps)
           ∙ ap (λ tops. take (length rest) tops) c.self.invariant.tops_are
           ∙ tops-drop before.noted.items rest c.in-Some.entry popped;
-      alive_are =
-          alive-drop before.noted.items rest c.in-Some.entry before.durable before.alive.items before.bounds.items popped there
-          c.self.invariant.alive_are;
+      bounds_are =
+          bounds-drop before.noted.items rest c.in-Some.entry before.durable before.bounds.items popped c.self.invariant.bounds_are;
     }

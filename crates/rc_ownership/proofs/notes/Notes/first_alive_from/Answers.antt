@@ -1,6 +1,6 @@
 use Rattle.std.proofs.Common.{◌&&◌, take, ap, subst, ◌∙◌}
 use Rattle.rc_model.specs.Versions.{is_dead}
-use Rattle.rc_ownership.specs.Alive.{IsAliveAt}
+use Rattle.rc_ownership.specs.Groups.{IsAliveAt}
 use Rattle.rc_ownership.proofs.AliveSegments.{bare, dead-parts, alive-after, rest_of, maybe-before}
 use Rattle.rc_ownership.proofs.notes.Notes.first_alive_from.Goals as goal
 

@@ -1,9 +1,8 @@
-use Rattle.std.proofs.Common.{◌≡◌, ◌-◌, take, drop, ap, sym, subst, ◌∙◌, arith}
+use Rattle.std.proofs.Common.{◌≡◌, ◌-◌, take, drop, ap, ◌∙◌, arith}
 use Rattle.rc_model.specs.Ownership.{count_under}
-use Rattle.rc_ownership.specs.Alive.{AreAlive}
 use Rattle.rc_ownership.specs.Counts.{count_in}
 use Rattle.rc_ownership.specs.Marks.{marked}
-use Rattle.rc_ownership.proofs.AliveEntries.{alive-undurable}
+use Rattle.rc_ownership.proofs.GroupBounds.{bounds-undurable}
 use Rattle.rc_ownership.proofs.NoteTables.{tables-undurable}
 use Rattle.rc_ownership.proofs.notes.Notes.lower_durable.Goals as goal
 
@@ -27,8 +26,7 @@ invariant_of-self c =
       kept_within = c.self.invariant.kept_within;
       durable_within = c.self.invariant.durable_within;
       tops_are = c.self.invariant.tops_are;
-      alive_are =
-          subst (λ alive. AreAlive c.self.inside.noted.items c.args.count alive c.self.inside.bounds.items) (sym c.clear.ensures.items)
-          (alive-undurable c.self.inside.noted.items c.self.inside.durable c.args.count c.self.inside.alive.items
-          c.self.inside.bounds.items (omega arith) c.self.invariant.alive_are);
+      bounds_are =
+          bounds-undurable c.self.inside.noted.items c.self.inside.durable c.args.count c.self.inside.bounds.items (omega arith)
+          c.self.invariant.bounds_are;
     }

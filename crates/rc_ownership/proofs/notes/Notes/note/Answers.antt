@@ -4,8 +4,8 @@ use Rattle.rc_ownership.specs.Highs.{with_high}
 use Rattle.rc_ownership.specs.Notes.{AreTablesOf}
 use Rattle.rc_ownership.specs.Slots.{highs_in, same_slot, slot_of}
 use Rattle.rc_ownership.specs.Tops.{top_or, tops_of}
-use Rattle.rc_ownership.specs.Alive.{AreAlive}
-use Rattle.rc_ownership.proofs.AliveEntries.{alive-push}
+use Rattle.rc_ownership.specs.Groups.{AreBounds}
+use Rattle.rc_ownership.proofs.GroupBounds.{bounds-push}
 use Rattle.rc_ownership.proofs.NoteTables.{tables-push}
 use Rattle.rc_ownership.proofs.GreatestVersions.{tops-pushed}
 use Rattle.rc_ownership.proofs.notes.Notes.note.Goals as goal
@@ -39,8 +39,8 @@ invariant_of-self-2 c =
           tops-pushed before.noted.items c.push-3.new.self.items entry before.tops.items c.push.new.self.items
           c.higher-top.result c.greatest.result c.self.invariant.tops_are after_is (grind (arith, common_steps))
           c.higher-top.ensures (c.greatest.ensures ∙ ap (λ notes. top_or 0 (tops_of notes.noted)) (sym c.self.view_is));
-      alive_are =
-          subst (λ noted. AreAlive noted before.durable before.alive.items before.bounds.items) (sym after_is)
-          (alive-push before.noted.items entry before.durable before.alive.items before.bounds.items c.self.invariant.tables.within
-          c.self.invariant.alive_are);
+      bounds_are =
+          subst (λ noted. AreBounds noted before.durable before.bounds.items) (sym after_is)
+          (bounds-push before.noted.items entry before.durable before.bounds.items c.self.invariant.tables.within
+          c.self.invariant.bounds_are);
     }

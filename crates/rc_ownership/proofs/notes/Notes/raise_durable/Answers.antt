@@ -3,7 +3,7 @@ use Rattle.rc_types.specs.declared.entries.Entry.{Entry}
 use Rattle.rc_model.specs.Ownership.{count_under}
 use Rattle.rc_ownership.specs.Counts.{count_in}
 use Rattle.rc_ownership.specs.Marks.{marked}
-use Rattle.rc_ownership.proofs.AliveEntries.{alive-durable}
+use Rattle.rc_ownership.proofs.GroupBounds.{bounds-durable}
 use Rattle.rc_ownership.proofs.NoteTables.{tables-durable, counts_fit}
 use Rattle.rc_ownership.proofs.notes.Notes.raise_durable.Goals as goal
 
@@ -40,9 +40,9 @@ invariant_of-self c =
       kept_within = c.self.invariant.kept_within;
       durable_within = c.self.invariant.durable_within;
       tops_are = c.self.invariant.tops_are;
-      alive_are =
-          alive-durable c.self.inside.noted.items c.self.inside.durable c.args.count c.self.inside.alive.items
-          c.self.inside.bounds.items c.raise_bounds.new.bounds.items (omega arith) c.self.invariant.alive_are
+      bounds_are =
+          bounds-durable c.self.inside.noted.items c.self.inside.durable c.args.count c.self.inside.bounds.items
+          c.raise_bounds.new.bounds.items c.self.invariant.bounds_are
           (λ place entry bound at there. c.raise_bounds.ensures.raised place entry bound
           (subst (λ (noted : List Entry). slice_get (take (c.args.count - c.self.inside.durable) (drop c.self.inside.durable noted))
           place ≡ Some entry) (sym c.as_slice.ensures.value) at) there)

@@ -1,16 +1,15 @@
 use Rattle.std.proofs.Common.{◌≡◌, ◌+◌, suc, inl, inr, take, take_all, slice_get, Some, sym, ap, subst, ◌∙◌, arith}
 use Rattle.std.proofs.lemmas.Option.{slice_get-get_or}
-use Rattle.rc_ownership.specs.Alive.{group_of}
+use Rattle.rc_ownership.specs.Groups.{group_of}
 use Rattle.rc_ownership.specs.Slots.{slot_of}
 use Rattle.rc_ownership.proofs.Bounding.{set-there, set-here, taken-more}
-use Rattle.rc_ownership.proofs.alive.raise_bounds.Goals as goal
+use Rattle.rc_ownership.proofs.groups.raise_bounds.Goals as goal
 
 pub loop-entry-preserved : goal.loop-entry-preserved
 loop-entry-preserved c =
     let here : slice_get c.args.newly.now c.loop-entry.entry-index ≡ Some c.entry-item.result =
     slice_get-get_or c.args.newly.now c.loop-entry.entry-index _ c.loop-entry-test.true ∙ ap Some (sym c.entry-item.is) in
     let one_more : c.loop-entry.entry-index + 1 ≡ suc c.loop-entry.entry-index = omega arith in
-    let group_is = c.group_of.ensures ∙ ap group_of c.slot_of.ensures in
     record {
       raised = λ place entry bound at there.
           let group = group_of (slot_of entry) in
@@ -22,7 +21,7 @@ loop-entry-preserved c =
               | inr before ↦ c.loop-entry.invariant.raised place entry bound earlier before
             ]
             | inr last ↦ set-here c.loop-entry.bounds.items c.group_of.result c.args.durable bound
-                (ap (slice_get _) (group_is ∙ ap (λ e. group_of (slot_of e)) (sym last)) ∙ there_then)
+                (ap (slice_get _) (c.group_of.ensures ∙ ap (λ e. group_of (slot_of e)) (sym last)) ∙ there_then)
           ];
       others = λ group bound there.
           let there_then = subst (λ bounds. slice_get bounds group ≡ Some bound) c.raise_bound.ensures there in

@@ -1,8 +1,8 @@
 use Rattle.std.proofs.Common.{◌≡◌, ◌⊎◌, ℕ, Some, take, slice_get}
 use Rattle.rc_types.specs.declared.entries.Entry.{Entry}
-use Rattle.rc_ownership.specs.Alive.{group_of}
+use Rattle.rc_ownership.specs.Groups.{group_of}
 use Rattle.rc_ownership.specs.Slots.{slot_of}
-use Rattle.rc_ownership.proofs.alive.raise_bounds.Given as goal
+use Rattle.rc_ownership.proofs.groups.raise_bounds.Given as goal
 
 abbrev pub invariant-loop-entry : goal.invariant-loop-entry
 invariant-loop-entry l = record {
