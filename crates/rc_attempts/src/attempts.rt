@@ -1,13 +1,13 @@
 //! An attempt to recover a crashed master, with the answers of the backups and what was decided.
 
 ghost use Rattle.std.specs.Prelude.{◌≡◌, ◌++◌, ◌∷◌, [], nat_eq, true, length, find};
-ghost use Rattle.std.specs.Prelude.{Some, OnOk, OnErr};
+ghost use Rattle.std.specs.Prelude.{Some, OnOk, OnErr, IfOk};
 ghost use Rattle.std.specs.Option.{option_copied};
 ghost use Rattle.rc_model.specs.Attempts.{new_attempt, has_answered, is_gathering, parts_of};
 ghost use Rattle.rc_model.specs.Deciding.{part_in};
 ghost use Rattle.rc_attempts.specs.Terms.{terms_rise, part_if};
 
-use rc_types::{Part, Plan, Row, Seq, ServerId};
+use rc_types::{Part, Plan, Row, Seq, ServerId, TryClone, copied};
 use std::alloc::{AllocError, Global};
 use std::marker::Model;
 
@@ -239,4 +239,47 @@ impl Attempt {
     {
         self.decided = Some(decision);
     }
+}
+
+impl TryClone for GivenPart {
+    fn try_clone(&self, _alloc: Global) -> Result<GivenPart, AllocError> {
+        Ok(GivenPart {
+            to: self.to,
+            part: self.part,
+        })
+    }
+}
+
+impl TryClone for Decision {
+    fn try_clone(&self, alloc: Global) -> Result<Decision, AllocError> {
+        Ok(Decision {
+            plan: self.plan.try_clone(alloc)?,
+            parts: copied(alloc, self.parts.as_slice())?,
+            rising: self.rising,
+        })
+    }
+}
+
+impl TryClone for Attempt {
+    fn try_clone(&self, alloc: Global) -> Result<Attempt, AllocError> {
+        Ok(Attempt {
+            master: self.master,
+            replies: copied_replies(alloc, self.replies.as_slice())?,
+            decided: self.decided.try_clone(alloc)?,
+        })
+    }
+}
+
+/// Copies of these answers.
+fn copied_replies(
+    alloc: Global,
+    replies: &[(ServerId, Seq<Row>)],
+) -> Result<Vec<(ServerId, Seq<Row>)>, AllocError>
+    ensures { IfOk result (λ copies. copies.items ≡ replies.now) }
+{
+    let mut copies = Vec::with_capacity(alloc, replies.len())?;
+    for (from, rows) in replies {
+        copies.push((*from, rows.try_clone(alloc)?))?;
+    }
+    Ok(copies)
 }

@@ -10,7 +10,7 @@ ghost use Rattle.rc_backup.specs.BackupView.{backup_of, id_order, put_first};
 ghost use Rattle.rc_replica.specs.HeldAfter.{next_replica, stored_after, held_without, fetched};
 
 use rc_replica::{Held, Request};
-use rc_types::{Addr, Body, Message, Row, Seq, ServerId};
+use rc_types::{Addr, Body, Message, Row, Seq, ServerId, TryClone, copied_map};
 use std::alloc::{AllocError, Global};
 use std::collections::BTreeMap;
 use std::fmt;
@@ -386,4 +386,15 @@ fn fence_first(
     one.fence();
     held.insert(master, one)?;
     Ok(())
+}
+
+/// A copy, which has the same digests and the same values in memory.
+impl TryClone for Backup {
+    fn try_clone(&self, alloc: Global) -> Result<Backup, AllocError> {
+        Ok(Backup {
+            alloc,
+            id: self.id,
+            held: copied_map(alloc, &self.held)?,
+        })
+    }
 }

@@ -6,4 +6,5 @@ pub mod GrantLemmas
 pub mod AskedLemmas
 pub mod NewLemmas
 pub mod ListLemmas
+pub mod CopyLemmas
 mod ReadyLemmas

@@ -26,7 +26,7 @@ use std::marker::Model;
 /// and everything else in that of `Global`. Contracts see it as a book: its tables as the lists of
 /// their entries.
 pub struct Coordinator<A: Allocator> {
-    state: State<A>,
+    pub(crate) state: State<A>,
 }
 
 impl<A: Allocator> Drop for Coordinator<A> {

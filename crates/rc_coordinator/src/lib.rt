@@ -6,12 +6,14 @@
 //! To be read in this order: `coordinator`, the calls; `state`, which work is taken how; the rules by topic:
 //! `enlisting`, who is up; `deciding`, which log is chosen; `granting`, who owns what; `asking`, what the timer asks
 //! for again; `ready`, who has said so; `recoveries`, what is remembered of recoveries; `plans`, which tablet goes to
-//! whom; `grants`; `notices`, all other messages; `lists` and `making`, a coordinator of a save. Attempts and least
+//! whom; `grants`; `notices`, all other messages; `lists` and `making`, a coordinator of a save;
+//! `copying`, a copy of one. Attempts and least
 //! pairs are in `rc_attempts`.
 #![tactic(auto)]
 
 mod asking;
 mod coordinator;
+mod copying;
 mod deciding;
 mod enlisting;
 mod granting;

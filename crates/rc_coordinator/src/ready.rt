@@ -12,7 +12,7 @@ use std::marker::Model;
 
 /// The ids that have said that they are ready, in the order of saying so. Contracts see it as their list.
 pub struct Ready {
-    ids: IndexMap<ServerId, ()>,
+    pub(crate) ids: IndexMap<ServerId, ()>,
 }
 
 impl Drop for Ready {

@@ -37,39 +37,42 @@ replay_more start now next events i event below is so_far made =
     ∙ ap (λ (es : List Event). replay_from start es) (sym longer)
 
 -- the run of the events
-pub run_is : (events : List Event) (setup copy : Setup) (start now : Happened) → copy ≡ setup → start ≡ opened copy
+pub run_is : (events : List Event) (setup : Setup) (start now : Happened) → start ≡ opened setup
     → replayed now ≡ replay_from (replayed start) events → replayed now ≡ replay setup events
-run_is events setup copy start now copy_is begins replays =
-    replays ∙ ap (λ (w : Happened). replay_from (replayed w) events) (begins ∙ ap opened copy_is)
+run_is events setup start now begins replays =
+    replays ∙ ap (λ (w : Happened). replay_from (replayed w) events) begins
 
--- and what follows
-pub cut_is : (hosts : ℕ) (keeping : Keeping) (before seen after : Happened) (scene : List ScenarioEvent) → seen ≡ before
-    → scene ≡ cut_scene hosts keeping (replayed seen) → replayed after ≡ played (replayed before) scene
-    → replayed after ≡ cut_from hosts keeping (replayed before)
-cut_is hosts keeping before seen after scene same made ran =
-    ran ∙ ap (λ (s : List ScenarioEvent). played (replayed before) s)
-    (made ∙ ap (λ (w : Happened). cut_scene hosts keeping (replayed w)) same)
-
--- how many breaches there are after the events
-pub counted_after : (setup : Setup) (hosts : ℕ) (keeping : Keeping) (events : List Event) (before : Happened) (count : ℕ)
-    → replayed before ≡ replay setup events → count ≡ breaks (cut_from hosts keeping (replayed before))
-    → count ≡ breaks (cut_world setup hosts keeping events)
+-- and what follows, where all of it is played
+pub cut_anew : (setup : Setup) (hosts : ℕ) (keeping : Keeping) (events : List Event) (run seen again after : Happened)
+    (scene : List ScenarioEvent) → replayed run ≡ replay setup events → seen ≡ run
+    → scene ≡ cut_scene hosts keeping (replayed seen) → replayed again ≡ replay setup events
+    → replayed after ≡ played (replayed again) scene → replayed after ≡ cut_world setup hosts keeping events
 unfolding cut_world
-counted_after setup hosts keeping events before count is counted =
-    counted ∙ ap (λ (w : World). breaks (cut_from hosts keeping w)) is
+cut_anew setup hosts keeping events run seen again after scene taken same is anew made =
+    made ∙ ap (λ (w : World). played w scene) anew
+    ∙ ap (λ (s : List ScenarioEvent). played (replay setup events) s)
+    (is ∙ ap (λ (w : World). cut_scene hosts keeping w) (ap replayed same ∙ taken))
+
+-- and where it is played on from a world in which all servers have stopped
+pub cut_on : (setup : Setup) (hosts : ℕ) (keeping : Keeping) (events : List Event) (run after : Happened)
+    → replayed run ≡ replay setup events → replayed after ≡ cut_from hosts keeping (replayed run)
+    → replayed after ≡ cut_world setup hosts keeping events
+unfolding cut_world
+cut_on setup hosts keeping events run after taken made = made ∙ ap (λ (w : World). cut_from hosts keeping w) taken
 
 -- where the hosts start as they do where all is kept, it is the same number
-pub counted_alike : (setup : Setup) (hosts : ℕ) (keeping : Keeping) (events : List Event) (before seen : Happened) (all : ℕ)
-    → replayed before ≡ replay setup events → seen ≡ before
+pub counted_alike : (setup : Setup) (hosts : ℕ) (keeping : Keeping) (events : List Event) (run seen : Happened) (all : ℕ)
+    → replayed run ≡ replay setup events → seen ≡ run
     → gathered (start_of keeping (replayed seen)) hosts ≡ gathered (start_of All (replayed seen)) hosts
-    → all ≡ breaks (cut_from hosts All (replayed before)) → all ≡ breaks (cut_world setup hosts keeping events)
-counted_alike setup hosts keeping events before seen all is same starts counted =
-    counted_after setup hosts keeping events before all is
-    (counted
-    ∙ ap (λ (w : Happened). breaks (cut_from hosts All (replayed w))) (sym same)
+    → all ≡ breaks (cut_world setup hosts All events) → all ≡ breaks (cut_world setup hosts keeping events)
+unfolding cut_world
+counted_alike setup hosts keeping events run seen all taken same starts counted =
+    let is : replayed seen ≡ replay setup events = ap replayed same ∙ taken in
+    counted
+    ∙ ap (λ (w : World). breaks (cut_from hosts All w)) (sym is)
     ∙ ap (λ (first : List ScenarioEvent). breaks (played (replayed seen) (gathered (stop_of (replayed seen)) hosts ++ first
     ++ settled ∷ Core (Tick Coordinator) ∷ settled ∷ [] ++ gathered (decisions_of (replayed seen)) hosts ++ settled ∷ []))) (sym starts)
-    ∙ ap (λ (w : Happened). breaks (cut_from hosts keeping (replayed w))) same)
+    ∙ ap (λ (w : World). breaks (cut_from hosts keeping w)) is
 
 -- in the three ways
 pub counted_all : (setup : Setup) (hosts : ℕ) (events : List Event) (all odd nothing : ℕ)

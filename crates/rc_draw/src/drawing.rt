@@ -13,7 +13,7 @@ use crate::playing::{drawing_setup, play, settled};
 use crate::words::{Words, generator_of};
 use rc_reading::ScenarioEvent;
 use rc_runs::Run;
-use rc_types::{Event, Seq, ServerId, TryClone};
+use rc_types::{Event, Seq, ServerId, copied};
 use std::alloc::{AllocError, Global};
 
 /// The run of a drawing: hosts 0 to 4 are started and table 1 is created for the first server of host
@@ -62,17 +62,6 @@ pub fn draw(alloc: Global, seed: u64, steps: usize, free: bool) -> Result<Vec<Ev
         Ok(run) => copied(alloc, run.world().events()),
         Err(fault) => Err(fault),
     }
-}
-
-/// A copy of these events.
-fn copied(alloc: Global, events: &[Event]) -> Result<Vec<Event>, AllocError>
-    ensures { IfOk result (λ copies. copies.items ≡ events.now) }
-{
-    let mut copies = Vec::with_capacity(alloc, events.len())?;
-    for event in events {
-        copies.push(event.try_clone(alloc)?)?;
-    }
-    Ok(copies)
 }
 
 /// The run before the first step.

@@ -1,18 +1,19 @@
 //! Power failure after each event of a drawing.
 
-ghost use Rattle.std.specs.Prelude.{◌≡◌, ◌≤◌, ◌<◌, ◌+◌, ◌*◌, true, false, length, IfOk, OnOk};
+ghost use Rattle.std.specs.Prelude.{◌≡◌, ◌≤◌, ◌<◌, ◌+◌, ◌*◌, true, false, length, drop, IfOk, OnOk};
 ghost use Rattle.rc_types.specs.declared.limits.TheConstants.{MAX_EVENTS};
 ghost use Rattle.rc_model.specs.World.{step, replay, replay_from};
-ghost use Rattle.rc_world.specs.Happened.{replayed};
+ghost use Rattle.rc_world.specs.Happened.{replayed, opened};
 ghost use Rattle.rc_world.specs.HostView.{IsWithinLimits};
-ghost use Rattle.rc_draw.specs.Draw.{drawn};
-ghost use Rattle.rc_draw.specs.Stops.{cut_from, cut_world, breaks, breaches_at, breaches_below, breaches_of};
+ghost use Rattle.rc_draw.specs.Draw.{drawn, played};
+ghost use Rattle.rc_draw.specs.Stops.{cut_world, breaks, breaches_at, breaches_below, breaches_of};
 
 use crate::choosing::HOSTS;
 use crate::cutting::{Keeping, cut_scene};
 use crate::drawing::draw;
 use crate::playing::{drawing_setup, play};
 use rc_audit::audit;
+use rc_reading::ScenarioEvent;
 use rc_runs::Run;
 use rc_types::{Event, Fault, Setup, TryClone};
 use std::alloc::{AllocError, Global};
@@ -22,8 +23,8 @@ use std::alloc::{AllocError, Global};
 /// segments with odd numbers, or with none. Then the messages pass, the coordinator's timer goes off,
 /// the messages pass, the recovery of each crashed server is decided, the messages pass, and all
 /// messages are judged. It gives how many times that was done, and in how many of them a breach of
-/// the headline was found, which is none. Each time the run begins anew, so it takes time as the
-/// square of the number of events; but where no fewer replicas are kept than all, it is the same run, and is made once.
+/// the headline was found, which is none. Where no fewer replicas are kept than all, it is the same run, and is made
+/// once.
 ///
 /// # Errors
 ///
@@ -57,35 +58,37 @@ pub fn cut_each(
     ensures ok { IfOk result (λ count. count ≡ breaches_of setup.now hosts events.now (length events.now)) }
     ensures none { IfOk result (λ count. count ≡ 0) }
 {
+    let mut run = opened(alloc, setup)?;
     let mut breaches = 0;
     for last in 0..events.len() {
-        breaches += breaches_after(alloc, setup, hosts, &events[..last + 1])?;
+        take(alloc, &mut run, &events[last])?;
+        breaches += breaches_after(alloc, &run, setup, hosts, &events[..last + 1])?;
     }
     Ok(breaches)
 }
 
-/// In how many of the three ways a power failure after these events leads to a breach.
+/// In how many of the three ways a power failure after these events, which this run has taken, leads to a breach. Where
+/// as much is kept as where all is, the world after it is the same, and so is this number.
 #[tactic(auto, unfolding(crate::specs::Stops::breaches_at))]
 fn breaches_after(
     alloc: Global,
+    run: &Run<Global>,
     setup: &Setup,
     hosts: u8,
     events: &[Event],
 ) -> Result<usize, AllocError>
     requires within { IsWithinLimits setup.now }
     requires few { length events.now ≤ MAX_EVENTS }
+    requires taken { replayed run.now ≡ replay setup.now events.now }
     ensures ok { IfOk result (λ count. count ≡ breaches_at setup.now hosts events.now) }
     ensures none { IfOk result (λ count. count ≡ 0) }
 {
-    let run = match run_of(alloc, setup, events) {
-        Ok(run) => run,
-        Err(fault) => return Err(fault),
-    };
     let odd_is_all = Keeping::OddSegments.keeps_all(run.world(), hosts)?;
     let nothing_is_all = Keeping::Nothing.keeps_all(run.world(), hosts)?;
-    let all = breaks(alloc, run, hosts, Keeping::All)?;
+    let all = breaks(alloc, run, setup, hosts, events, Keeping::All)?;
     let odd = breaks_unless(
         alloc,
+        run,
         setup,
         hosts,
         events,
@@ -95,6 +98,7 @@ fn breaches_after(
     )?;
     let nothing = breaks_unless(
         alloc,
+        run,
         setup,
         hosts,
         events,
@@ -105,10 +109,11 @@ fn breaches_after(
     Ok(all + odd + nothing)
 }
 
-/// 1 where a power failure after these events leads to a breach, else 0. Where as much is kept as where all is, the run
-/// is the same, and so is this number.
+/// 1 where a power failure after these events leads to a breach, else 0: where as much is kept as where all is, this
+/// number, which is that of all.
 fn breaks_unless(
     alloc: Global,
+    run: &Run<Global>,
     setup: &Setup,
     hosts: u8,
     events: &[Event],
@@ -118,6 +123,7 @@ fn breaks_unless(
 ) -> Result<usize, AllocError>
     requires within { IsWithinLimits setup.now }
     requires few { length events.now ≤ MAX_EVENTS }
+    requires taken { replayed run.now ≡ replay setup.now events.now }
     requires none { all ≡ 0 }
     requires alike { is_all ≡ true → all ≡ breaks (cut_world setup.now hosts keeping events.now) }
     ensures ok { IfOk result (λ count. count ≡ breaks (cut_world setup.now hosts keeping events.now)) }
@@ -126,19 +132,26 @@ fn breaks_unless(
     if is_all {
         return Ok(all);
     }
-    match run_of(alloc, setup, events) {
-        Ok(run) => breaks(alloc, run, hosts, keeping),
-        Err(fault) => Err(fault),
-    }
+    breaks(alloc, run, setup, hosts, events, keeping)
 }
 
-/// 1 where a power failure now leads to a breach, else 0.
+/// 1 where a power failure after these events, which this run has taken, leads to a breach, else 0.
 #[tactic(auto, unfolding(crate::specs::Stops::breaks))]
-fn breaks(alloc: Global, run: Run<Global>, hosts: u8, keeping: Keeping) -> Result<usize, AllocError>
-    ensures ok { IfOk result (λ count. count ≡ breaks (cut_from hosts keeping (replayed run))) }
+fn breaks(
+    alloc: Global,
+    run: &Run<Global>,
+    setup: &Setup,
+    hosts: u8,
+    events: &[Event],
+    keeping: Keeping,
+) -> Result<usize, AllocError>
+    requires within { IsWithinLimits setup.now }
+    requires few { length events.now ≤ MAX_EVENTS }
+    requires taken { replayed run.now ≡ replay setup.now events.now }
+    ensures ok { IfOk result (λ count. count ≡ breaks (cut_world setup.now hosts keeping events.now)) }
     ensures none { IfOk result (λ count. count ≡ 0) }
 {
-    let run = match cut(alloc, run, hosts, keeping) {
+    let run = match cut(alloc, run, setup, hosts, events, keeping) {
         Ok(run) => run,
         Err(fault) => return Err(fault),
     };
@@ -149,21 +162,52 @@ fn breaks(alloc: Global, run: Run<Global>, hosts: u8, keeping: Keeping) -> Resul
     }
 }
 
-/// The run, and what follows a power failure in it.
+/// A run of its own of these events, which this run has taken, and of what follows a power failure after them. It
+/// begins with a copy in which all servers have stopped, or, where there is none, anew.
 fn cut(
     alloc: Global,
-    run: Run<Global>,
+    run: &Run<Global>,
+    setup: &Setup,
     hosts: u8,
+    events: &[Event],
     keeping: Keeping,
 ) -> Result<Run<Global>, AllocError>
-    ensures { IfOk result (λ cut. replayed cut ≡ cut_from hosts keeping (replayed run)) }
+    requires within { IsWithinLimits setup.now }
+    requires few { length events.now ≤ MAX_EVENTS }
+    requires taken { replayed run.now ≡ replay setup.now events.now }
+    ensures { IfOk result (λ cut. replayed cut ≡ cut_world setup.now hosts keeping events.now) }
+{
+    let scene = cut_scene(alloc, run.world(), hosts, keeping)?;
+    match run.stopped(alloc, hosts, alloc)? {
+        Some(stopped) => {
+            let stops = stopped.world().events().len() - run.world().events().len();
+            play_on(alloc, stopped, after_stops(scene.as_slice(), stops))
+        }
+        None => {
+            let again = run_of(alloc, setup, events)?;
+            play_on(alloc, again, scene.as_slice())
+        }
+    }
+}
+
+/// The scene without so many events at its front.
+fn after_stops(scene: &[ScenarioEvent], stops: usize) -> &[ScenarioEvent]
+    requires { stops ≤ length scene.now }
+    ensures { result.now ≡ drop stops scene.now }
+{
+    &scene[stops..]
+}
+
+/// The run, and these events.
+fn play_on(
+    alloc: Global,
+    run: Run<Global>,
+    scene: &[ScenarioEvent],
+) -> Result<Run<Global>, AllocError>
+    ensures { IfOk result (λ on. replayed on ≡ played (replayed run) scene.now) }
 {
     let mut run = run;
-    let scene = match cut_scene(alloc, run.world(), hosts, keeping) {
-        Ok(scene) => scene,
-        Err(fault) => return Err(fault),
-    };
-    match play(alloc, &mut run, scene.as_slice()) {
+    match play(alloc, &mut run, scene) {
         Ok(()) => Ok(run),
         Err(fault) => Err(fault),
     }
@@ -175,15 +219,23 @@ fn run_of(alloc: Global, setup: &Setup, events: &[Event]) -> Result<Run<Global>,
     requires few { length events.now ≤ MAX_EVENTS }
     ensures { IfOk result (λ run. replayed run ≡ replay setup.now events.now) }
 {
-    let setup = match setup.try_clone(alloc) {
-        Ok(setup) => setup,
+    let mut run = match opened(alloc, setup) {
+        Ok(run) => run,
         Err(fault) => return Err(fault),
     };
-    let mut run = Run::new(alloc, setup, alloc);
     match take_all(alloc, &mut run, events) {
         Ok(()) => Ok(run),
         Err(fault) => Err(fault),
     }
+}
+
+/// A run in which nothing has happened.
+fn opened(alloc: Global, setup: &Setup) -> Result<Run<Global>, AllocError>
+    requires { IsWithinLimits setup.now }
+    ensures { IfOk result (λ run. run ≡ opened setup.now) }
+{
+    let setup = setup.try_clone(alloc)?;
+    Ok(Run::new(alloc, setup, alloc))
 }
 
 /// Takes these events, one after another.

@@ -20,6 +20,8 @@ pub(crate) struct Stuck {
     alloc: Global,
     segs: Numbers,
     servers: ServerList,
+    /// Whether a segment with lost members was ever to be added, so that the list is of use.
+    is_wanted: bool,
 }
 
 impl Model for Stuck {
@@ -37,6 +39,7 @@ impl Stuck {
             alloc,
             segs: Numbers::new(alloc),
             servers: ServerList::new(alloc),
+            is_wanted: false,
         }
     }
 
@@ -53,6 +56,7 @@ impl Stuck {
         ensures others { (other : ℕ) → has_number self.old.segs other ≡ true → has_number self.new.segs other ≡ true }
         ensures servers { self.new.servers ≡ self.old.servers }
     {
+        self.is_wanted = true;
         if !is_helpless(self.alloc, own, &self.servers, config)? {
             return Ok(false);
         }
@@ -60,8 +64,8 @@ impl Stuck {
         Ok(true)
     }
 
-    /// From here on no segment is stuck under another list than this one: those that were are awake. Where memory is
-    /// refused, some of them may be.
+    /// From here on no segment is stuck under another list than this one: those that were are awake. The list is kept
+    /// where it is of use. Where memory is refused, some segments may be awake.
     pub(crate) fn follow(
         &mut self,
         servers: &ServerList,
@@ -83,11 +87,15 @@ impl Stuck {
         Ok(())
     }
 
-    /// Whether no segment is stuck under another list than this one. Where none is, the versions alone are compared.
+    /// Whether no segment is stuck under another list than this one, and this one need not be kept. Where none is
+    /// stuck, the versions alone are compared.
     fn is_under(&self, servers: &ServerList) -> Result<bool, AllocError>
         ensures { IfOk result (λ under. under ≡ true → (seg : ℕ) → has_number self.now.segs seg ≡ true →
             self.now.servers ≡ servers.now) }
     {
+        if self.segs.is_empty() && !self.is_wanted {
+            return Ok(true);
+        }
         if self.servers.version() != servers.version() {
             return Ok(false);
         }

@@ -2,7 +2,7 @@
 
 ghost use Rattle.std.specs.Prelude.{◌≡◌, ◌++◌, OnOk, OnErr};
 
-use rc_types::{Entry, TryClone};
+use rc_types::{Entry, copied};
 use std::alloc::{AllocError, Global};
 
 /// Adds a copy of each of the entries at the end, or, where memory is refused (F1), none of them.
@@ -14,10 +14,7 @@ pub(crate) fn append_copies(
     ensures ok { OnOk result (entries.new.items ≡ entries.old.items ++ added.now) }
     ensures err { OnErr result (entries.new.items ≡ entries.old.items) }
 {
-    let mut copies = Vec::with_capacity(alloc, added.len())?;
-    for entry in added {
-        copies.push(entry.try_clone(alloc)?)?;
-    }
+    let mut copies = copied(alloc, added)?;
     entries.append(&mut copies)?;
     Ok(())
 }

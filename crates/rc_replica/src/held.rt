@@ -6,7 +6,7 @@ ghost use Rattle.rc_replica.specs.HeldAfter.{next_replica, with_replica, stored_
 
 use crate::kept::Replica;
 use crate::taking::{self, Request};
-use rc_types::{Body, Row, Seq, ServerId};
+use rc_types::{Body, Row, Seq, ServerId, TryClone, copied_map};
 use std::alloc::{AllocError, Global};
 use std::collections::{BTreeMap, BTreeSet};
 use std::marker::Model;
@@ -189,4 +189,15 @@ fn is_kept(kept: &[(ServerId, u16)], master: ServerId, seg: u16) -> bool
     ensures { result ≡ is_kept kept.now master seg }
 {
     kept.iter().any(|name| name.0 == master && name.1 == seg)
+}
+
+/// A copy, which has the same digests and the same values in memory.
+impl TryClone for Held {
+    fn try_clone(&self, alloc: Global) -> Result<Held, AllocError> {
+        Ok(Held {
+            fenced: self.fenced,
+            replicas: copied_map(alloc, &self.replicas)?,
+            freed: self.freed.clone()?,
+        })
+    }
 }

@@ -3,7 +3,7 @@
 ghost use Rattle.std.specs.Prelude.{◌≡◌, length, nat_eq, OnOk, OnErr, IfOk};
 
 use crate::copies::append_copies;
-use rc_types::{Entry, Shared};
+use rc_types::{Entry, Shared, TryClone, copied};
 use std::alloc::{AllocError, Global};
 use std::marker::Model;
 
@@ -160,5 +160,17 @@ impl Replica {
         ensures { result.now ≡ self.now.entries }
     {
         self.entries.as_slice()
+    }
+}
+
+/// A copy, which has the same digest and the same values in memory.
+impl TryClone for Replica {
+    fn try_clone(&self, alloc: Global) -> Result<Replica, AllocError> {
+        Ok(Replica {
+            epoch: self.epoch,
+            closed: self.closed,
+            digest: self.digest.share()?,
+            entries: copied(alloc, self.entries.as_slice())?,
+        })
     }
 }

@@ -1,3 +1,4 @@
 pub mod Steppings
 pub mod Passes
 pub mod Scenes
+pub mod Stopped

@@ -1,12 +1,13 @@
 //! A run that goes on: a world, and its mail.
 
 ghost use Rattle.std.specs.Prelude.{◌≡◌, ◌⊎◌, ◌≤◌, ◌+◌, ◌∷◌, [], true, false, length, Some, Err, IfOk, OnOk, OnErr};
-ghost use Rattle.std.specs.Prelude.{IfErr};
+ghost use Rattle.std.specs.Prelude.{IfErr, IfSome};
 ghost use Rattle.rc_types.specs.declared.faults.Fault.TheVariants.{OutOfMemory, BadEvent};
 ghost use Rattle.rc_types.specs.declared.events.Event.TheVariants.{Deliver};
 ghost use Rattle.rc_types.specs.declared.limits.TheConstants.{MAX_EVENTS};
 ghost use Rattle.rc_scenes.specs.Settling.{due_from, settles};
-ghost use Rattle.rc_world.specs.Happened.{with_events, can_happen, replayed, sent_in};
+ghost use Rattle.rc_world.specs.Happened.{with_events, can_happen, replayed, sent_in, AllHappen};
+ghost use Rattle.rc_world.specs.Stops.{stops_below};
 ghost use Rattle.rc_world.specs.HostView.{IsWithinLimits};
 ghost use Rattle.rc_scenes.specs.Runs.{one_event, scenario_event};
 ghost use Rattle.rc_runs.specs.Steps.{GoesOn, StopsIn, RunsThrough, StopsAt};
@@ -15,7 +16,7 @@ use rc_reading::ScenarioEvent;
 use rc_scenes::{Mail, Passing};
 use rc_types::{Event, Fault, Message, Setup};
 use rc_world::World;
-use std::alloc::{Allocator, Global};
+use std::alloc::{AllocError, Allocator, Global};
 use std::marker::Model;
 
 /// A run that goes on. As a value it is its world.
@@ -62,6 +63,32 @@ impl<A: Allocator + Clone> Run<A> {
         ensures few { length self.now.events ≤ MAX_EVENTS }
     {
         &self.world
+    }
+
+    /// A copy of the run in which the servers of all hosts have stopped, where `World::stopped` gives one.
+    ///
+    /// # Errors
+    ///
+    /// `OutOfMemory` (F1): memory was refused.
+    pub fn stopped(
+        &self,
+        alloc: Global,
+        hosts: u8,
+        tablets: A,
+    ) -> Result<Option<Run<A>>, AllocError>
+        ensures run { IfOk result (λ found. IfSome found (λ run.
+            run ≡ with_events self.now (stops_below (replayed self.now).hosts hosts))) }
+        ensures possible { IfOk result (λ found. IfSome found (λ run.
+            AllHappen self.now (stops_below (replayed self.now).hosts hosts))) }
+        ensures taken { (replayed self.now).events ≡ self.now.events }
+    {
+        match self.world.stopped(alloc, hosts, tablets)? {
+            Some(world) => {
+                let mail = self.mail.try_clone()?;
+                Ok(Some(Run { world, mail }))
+            }
+            None => Ok(None),
+        }
     }
 
     /// One event of the world. F18 comes only where it is not possible, or 200,000 events have

@@ -8,7 +8,7 @@ ghost use Rattle.rc_scenes.specs.Lanes.{Lane, is_lane_left};
 ghost use Rattle.rc_reading.specs.declared.hosts.Hosts.{Hosts};
 
 use crate::passing::Passing;
-use rc_types::{Addr, Kind};
+use rc_types::{Addr, Kind, TryClone};
 use std::alloc::{AllocError, Global};
 use std::marker::Model;
 
@@ -100,6 +100,16 @@ impl Line {
             }
             _ => {}
         }
+    }
+}
+
+impl TryClone for Line {
+    fn try_clone(&self, alloc: Global) -> Result<Line, AllocError> {
+        Ok(Line {
+            kind: self.kind,
+            to: self.to,
+            numbers: self.numbers.as_slice().to_vec(alloc)?,
+        })
     }
 }
 

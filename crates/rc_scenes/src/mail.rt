@@ -1,6 +1,6 @@
 //! The mail of a run: which messages are still to be delivered.
 
-ghost use Rattle.std.specs.Prelude.{◌≡◌, ◌<◌, ◌++◌, ◌∷◌, [], ℕ, List, length, OnOk};
+ghost use Rattle.std.specs.Prelude.{◌≡◌, ◌<◌, ◌++◌, ◌∷◌, [], ℕ, List, length, IfOk, OnOk};
 ghost use Rattle.rc_types.specs.declared.events.Event.{Event};
 ghost use Rattle.rc_types.specs.declared.events.Event.TheVariants.{Deliver};
 ghost use Rattle.rc_types.specs.declared.messages.Message.{Message};
@@ -41,6 +41,15 @@ impl Mail {
         Mail {
             marks: Marks::new(alloc),
         }
+    }
+
+    /// A copy. Only memory can be refused (F1).
+    pub fn try_clone(&self) -> Result<Mail, AllocError>
+        ensures { IfOk result (λ copy. copy ≡ self.now) }
+    {
+        Ok(Mail {
+            marks: self.marks.try_clone()?,
+        })
     }
 
     /// The least number from `from` on of a message that the pass delivers.

@@ -1,7 +1,7 @@
 //! Marks of what was delivered, and the numbers of what waits.
 
 ghost use Rattle.std.specs.Prelude.{◌≡◌, ◌≤◌, ◌<◌, ◌+◌, ◌++◌, ◌∷◌, true, false, [], ℕ, List, length, drop, Some};
-ghost use Rattle.std.specs.Prelude.{slice_get, IfSome, OnOk, OnErr};
+ghost use Rattle.std.specs.Prelude.{slice_get, IfSome, IfOk, OnOk, OnErr};
 ghost use Rattle.std.specs.List.{find, slice_set};
 ghost use Rattle.rc_types.specs.declared.events.Event.{Event};
 ghost use Rattle.rc_types.specs.declared.messages.Message.{Message};
@@ -11,7 +11,7 @@ ghost use Rattle.rc_scenes.specs.Waiting.{is_due_by, first_due, Fits};
 
 use crate::lines::{Line, is_marked};
 use crate::passing::Passing;
-use rc_types::{Addr, Kind, Message};
+use rc_types::{Addr, Kind, Message, copied};
 use std::alloc::{AllocError, Global};
 
 /// So many numbers are looked at one by one before all lines are.
@@ -45,6 +45,20 @@ impl Marks {
             places: Vec::new(alloc),
             alloc,
         }
+    }
+
+    /// A copy.
+    pub(crate) fn try_clone(&self) -> Result<Marks, AllocError>
+        ensures delivered { IfOk result (λ copy. copy.delivered.items ≡ self.now.delivered.items) }
+        ensures lines { IfOk result (λ copy. copy.lines.items ≡ self.now.lines.items) }
+    {
+        let alloc = self.alloc;
+        Ok(Marks {
+            delivered: self.delivered.as_slice().to_vec(alloc)?,
+            lines: copied(alloc, self.lines.as_slice())?,
+            places: self.places.as_slice().to_vec(alloc)?,
+            alloc,
+        })
     }
 
     /// Whether the pass delivers the message of this number.

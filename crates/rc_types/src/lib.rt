@@ -2,6 +2,7 @@
 //! limits. All of it is plain data, and a copy of it equals its source.
 #![tactic(auto)]
 
+mod copies;
 mod entries;
 mod events;
 mod faults;
@@ -16,6 +17,7 @@ mod sequence;
 mod shared;
 mod verdicts;
 
+pub use copies::{copied, copied_map};
 pub use entries::Entry;
 pub use events::{Event, NodeWork, Setup};
 pub use faults::{Code, Fault};

@@ -5,6 +5,7 @@ ghost use Rattle.std.specs.Prelude.{is_some, IsTrue, ◌↔◌, ◌<◌, nat_eq}
 ghost use Rattle.std.specs.Option.{option_copied};
 ghost use Rattle.std.specs.Cmp.Lexicographic.{pointwise, lists_per};
 
+use crate::copies::copied;
 use crate::ids::ServerId;
 use std::alloc::{AllocError, Global};
 use std::marker::Model;
@@ -122,12 +123,9 @@ impl TryClone for (ServerId, u16) {
 
 impl<T: TryClone + Drop> TryClone for Seq<T> {
     fn try_clone(&self, alloc: Global) -> Result<Seq<T>, AllocError> {
-        let items = self.inner.as_slice();
-        let mut copy = Vec::with_capacity(alloc, items.len())?;
-        for item in items {
-            copy.push(item.try_clone(alloc)?)?;
-        }
-        Ok(Seq { inner: copy })
+        Ok(Seq {
+            inner: copied(alloc, self.as_slice())?,
+        })
     }
 }
 

@@ -9,5 +9,7 @@ pub mod Rooms
 pub mod NodeRooms
 pub mod NodeCalls
 pub mod Holding
+pub mod StoppedHosts
+pub mod CopiedHosts
 pub mod HostSteps
 pub mod RunOver

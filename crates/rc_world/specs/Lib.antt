@@ -6,6 +6,7 @@ pub mod NodeNumbers
 pub mod NodeCalls
 pub mod WorldView
 pub mod Happened
+pub mod Stops
 pub mod Lending
 pub mod WorldHolds
 pub mod Served

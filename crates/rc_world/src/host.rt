@@ -11,13 +11,14 @@ ghost use Rattle.rc_model.specs.Nodes.{server_of, runs, is_running_at, is_for_ba
 ghost use Rattle.rc_backup.specs.BackupView.{backup_of};
 ghost use Rattle.rc_master.specs.Data.{master_of};
 ghost use Rattle.rc_world.specs.HostView.{host_of, IsMasterSetup, IsWithinLimits, IsFactor, HostHasRoom, own_tick};
+ghost use Rattle.rc_world.specs.Stops.{IsBelow, halted};
 ghost use Rattle.rc_world.specs.HostParts.{setup_of, head_of, begun_master, host_with};
 
 use crate::head::HostHead;
 use rc_backup::Backup;
 use rc_master::Master;
 use rc_types::limits::MAX_HOSTS;
-use rc_types::{Addr, Body, Message, ServerId, Setup};
+use rc_types::{Addr, Body, Message, ServerId, Setup, TryClone};
 use std::alloc::{AllocError, Global};
 use std::marker::Model;
 use std::{fmt, mem};
@@ -93,6 +94,33 @@ impl Host {
             backup,
             master: begun_master(alloc, head),
         }
+    }
+
+    /// Whether no server runs, or the newest of this index, which is below that one.
+    pub(crate) fn is_below(&self, hosts: u8, index: u8) -> bool
+        ensures { result ≡ true → IsBelow hosts index (host_of self.now) }
+    {
+        let newest = ServerId {
+            index,
+            generation: self.generation,
+        };
+        !self.runs() || index < hosts && self.is_running_at(Addr::Server(newest))
+    }
+
+    /// A copy of the host as it is once its server has stopped, where one runs.
+    pub(crate) fn stopped(&self) -> Result<Host, AllocError>
+        ensures { IfOk result (λ host. host ≡ halted self.now) }
+    {
+        Ok(Host {
+            alloc: self.alloc,
+            index: self.index,
+            factor: self.factor,
+            size: self.size,
+            free: self.free,
+            generation: self.generation,
+            backup: self.backup.try_clone(self.alloc)?,
+            master: None,
+        })
     }
 
     /// What it is without what it keeps as a backup, and without its master.

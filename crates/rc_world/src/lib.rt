@@ -10,6 +10,7 @@ mod node;
 mod nodes;
 mod outside;
 mod running;
+mod stopping;
 mod work;
 mod world;
 

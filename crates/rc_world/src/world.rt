@@ -29,9 +29,9 @@ use std::marker::Model;
 /// All nodes, and all that has happened. As a value it is what it was opened with and its list of
 /// events: all else in it is what these events lead to.
 pub struct World<A: Allocator> {
-    nodes: Nodes<A>,
-    sent: Vec<Message>,
-    events: Vec<Event>,
+    pub(crate) nodes: Nodes<A>,
+    pub(crate) sent: Vec<Message>,
+    pub(crate) events: Vec<Event>,
 }
 
 impl<A: Allocator> Drop for World<A> {
