@@ -44,7 +44,7 @@ impl Stuck {
     }
 
     /// Adds a segment with these members, if some of them are lost whom nobody of the list can replace, and it shows
-    /// none of the others crashed; the answer says whether it did. Where memory is refused, nothing has changed.
+    /// none of the others crashed; the answer says whether it did. Where memory is refused, it is not added.
     pub(crate) fn add(
         &mut self,
         own: ServerId,
