@@ -27,14 +27,14 @@ use Rattle.rc_reading.specs.Values.{message_of, id_of, addr_of, kept_of, kinds_o
 abbrev pub member_named : List ℕ → Option MemberName
 member_named text =
     if bytes_eq text (codes "e") then Some name.Event
-    else (if bytes_eq text (codes "host") then Some name.Host
-    else (if bytes_eq text (codes "kept") then Some name.Kept
-    else (if bytes_eq text (codes "id") then Some name.Id
+    else (if bytes_eq text (codes "n") then Some name.Number
     else (if bytes_eq text (codes "to") then Some name.To
     else (if bytes_eq text (codes "table") then Some name.Table
     else (if bytes_eq text (codes "key") then Some name.Key
     else (if bytes_eq text (codes "value") then Some name.Value
-    else (if bytes_eq text (codes "n") then Some name.Number
+    else (if bytes_eq text (codes "id") then Some name.Id
+    else (if bytes_eq text (codes "host") then Some name.Host
+    else (if bytes_eq text (codes "kept") then Some name.Kept
     else (if bytes_eq text (codes "kinds") then Some name.Kinds
     else (if bytes_eq text (codes "hosts") then Some name.Hosts
     else (if bytes_eq text (codes "owner") then Some name.Owner

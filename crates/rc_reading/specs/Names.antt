@@ -7,15 +7,15 @@ use Rattle.rc_reading.specs.declared.names.EventName.TheVariants as name
 -- the event that stands at `e`
 abbrev pub event_named : List ℕ → Option EventName
 event_named text =
-    if bytes_eq text (codes "start") then Some name.Start
+    if bytes_eq text (codes "deliver") then Some name.Deliver
+    else (if bytes_eq text (codes "settle") then Some name.Settle
+    else (if bytes_eq text (codes "write") then Some name.Write
+    else (if bytes_eq text (codes "tick") then Some name.Tick
+    else (if bytes_eq text (codes "read") then Some name.Read
+    else (if bytes_eq text (codes "start") then Some name.Start
     else (if bytes_eq text (codes "stop") then Some name.Stop
     else (if bytes_eq text (codes "suspect") then Some name.Suspect
     else (if bytes_eq text (codes "decide") then Some name.Decide
-    else (if bytes_eq text (codes "tick") then Some name.Tick
-    else (if bytes_eq text (codes "write") then Some name.Write
-    else (if bytes_eq text (codes "read") then Some name.Read
-    else (if bytes_eq text (codes "deliver") then Some name.Deliver
-    else (if bytes_eq text (codes "settle") then Some name.Settle
     else (if bytes_eq text (codes "create") then Some name.Create
     else (if bytes_eq text (codes "split") then Some name.Split
     else None))))))))))

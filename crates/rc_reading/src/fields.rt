@@ -44,19 +44,20 @@ pub(crate) enum MemberName {
 }
 
 impl MemberName {
+    /// The member of this name. What a long scenario has most of stands first.
     fn named(name: &str) -> Option<MemberName>
         ensures { result ≡ member_named name.now }
     {
         match name {
             "e" => Some(MemberName::Event),
-            "host" => Some(MemberName::Host),
-            "kept" => Some(MemberName::Kept),
-            "id" => Some(MemberName::Id),
+            "n" => Some(MemberName::Number),
             "to" => Some(MemberName::To),
             "table" => Some(MemberName::Table),
             "key" => Some(MemberName::Key),
             "value" => Some(MemberName::Value),
-            "n" => Some(MemberName::Number),
+            "id" => Some(MemberName::Id),
+            "host" => Some(MemberName::Host),
+            "kept" => Some(MemberName::Kept),
             "kinds" => Some(MemberName::Kinds),
             "hosts" => Some(MemberName::Hosts),
             "owner" => Some(MemberName::Owner),

@@ -21,20 +21,20 @@ pub(crate) enum EventName {
 impl EventName {
     ghost use Rattle.rc_reading.specs.Names.{event_named};
 
-    /// The event of this name.
+    /// The event of this name. What a long scenario has most of stands first.
     pub(crate) fn named(name: &str) -> Option<EventName>
         ensures { result ≡ event_named name.now }
     {
         match name {
+            "deliver" => Some(EventName::Deliver),
+            "settle" => Some(EventName::Settle),
+            "write" => Some(EventName::Write),
+            "tick" => Some(EventName::Tick),
+            "read" => Some(EventName::Read),
             "start" => Some(EventName::Start),
             "stop" => Some(EventName::Stop),
             "suspect" => Some(EventName::Suspect),
             "decide" => Some(EventName::Decide),
-            "tick" => Some(EventName::Tick),
-            "write" => Some(EventName::Write),
-            "read" => Some(EventName::Read),
-            "deliver" => Some(EventName::Deliver),
-            "settle" => Some(EventName::Settle),
             "create" => Some(EventName::Create),
             "split" => Some(EventName::Split),
             _ => None,

@@ -149,9 +149,9 @@ first_at passing delivered sent from last le none =
     (λ m ge lt. not_true (is_due_by passing delivered sent m) (λ due. none m ge (omega (arith, lt, width)) due)) ∙ rw width refl
 
 pub near_due : (events : List Event) (sent : List Message) (delivered : List Bool) (waiting : List Lane) (passing : Passing)
-    (from number : ℕ) → Fits events sent delivered waiting → first_due passing delivered from (drop from sent) ≡ Some number
-    → Some number ≡ due_from passing events sent from
-near_due events sent delivered waiting passing from number waits is =
+    (from : ℕ) (best : Option ℕ) → Fits events sent delivered waiting → first_due passing delivered from (drop from sent) ≡ best
+    → best ≡ due_from passing events sent from
+near_due events sent delivered waiting passing from best waits is =
     sym is ∙ same_due passing events delivered waits.marks from (drop from sent)
 
 pub noted_due : (events : List Event) (sent : List Message) (delivered : List Bool) (waiting : List Lane) (passing : Passing)

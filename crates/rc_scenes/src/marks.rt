@@ -71,11 +71,15 @@ impl Marks {
         }
     }
 
-    /// The least number from `from` on of a message that the pass delivers: mostly it is one of the next few.
+    /// The least number from `from` on of a message that the pass delivers: mostly it is one of the next few, or none
+    /// where these are the last.
     pub(crate) fn next_due(&self, passing: &Passing, sent: &[Message], from: usize) -> Option<usize>
         ensures { (events : List Event) → Fits events sent.now self.now.delivered.items self.now.lines.items →
             result ≡ due_from passing.now events sent.now from }
     {
+        if sent.len() <= from.saturating_add(NEAR) {
+            return self.next_new(passing, sent, from);
+        }
         match self.next_near(passing, sent, from) {
             Some(number) => Some(number),
             None => self.next_far(passing, sent, from),

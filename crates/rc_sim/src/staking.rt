@@ -8,6 +8,9 @@ use rc_types::Message;
 use std::alloc::Global;
 use std::io::Write;
 
+/// What the counts of a report begin with: they stand behind its list of messages.
+const BEFORE_COUNTS: &str = "\nmessages ";
+
 /// The lines of a report that count what a fault could have lost.
 const COUNTS: [&str; 3] = ["acknowledged ", "plans ", "grants "];
 
@@ -23,7 +26,11 @@ const OF_EXPLORED: &str = "a cut could have lost each write acknowledged before 
 /// Tells `errors` in a line what was at stake in a run with this report, with these words at its end.
 pub(crate) fn tell_stake<E: Write>(report: &str, end: &str, errors: &mut Counted<E>) {
     let _ = write_all(errors, b"at stake: ");
-    for line in report.split('\n') {
+    let counts = match report.rsplit_once(BEFORE_COUNTS) {
+        Some((_, counts)) => counts,
+        None => report,
+    };
+    for line in counts.split('\n') {
         if COUNTS.iter().any(|count| line.starts_with(*count)) {
             let _ = write_all(errors, line.as_bytes());
             let _ = write_all(errors, b"; ");

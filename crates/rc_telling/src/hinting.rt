@@ -69,23 +69,27 @@ fn tell_hints(
     pen.take(course.begin(messages.len()));
     course.take_all(events, messages);
     tell_early(&course, pen);
-    tell_waiting(&course, alloc, pen, messages);
-    tell_lost_own(&course, pen, messages);
+    let waiting = tell_waiting(&course, alloc, pen, messages);
+    if waiting > 0 {
+        tell_lost_own(&course, pen, messages);
+    }
     tell_unheard(&course, pen);
     tell_unstarted(&course, pen);
     tell_few(&course, pen, factors);
     tell_stale(alloc, pen, messages);
-    tell_unrecovered(&course, alloc, pen, messages);
+    tell_unrecovered(&course, alloc, pen, messages, waiting > 0);
 }
 
-/// Recoveries that are not at their end.
-fn tell_unrecovered(course: &Course, alloc: Global, pen: &mut Pen, messages: &[Message]) {
+/// Recoveries that are not at their end, in a run at whose end messages wait, or none does.
+fn tell_unrecovered(
+    course: &Course,
+    alloc: Global,
+    pen: &mut Pen,
+    messages: &[Message],
+    waits: bool,
+) {
     let mut recoveries = Recoveries::new(alloc);
     pen.take(recoveries.note_all(messages, course.delivered.as_slice()));
-    let waits = messages
-        .iter()
-        .enumerate()
-        .any(|(number, message)| course.waits(number, message));
     tell_recoveries(pen, &recoveries, course, waits);
 }
 
@@ -105,11 +109,13 @@ fn tell_early(course: &Course, pen: &mut Pen) {
     pen.say(", so it was refused: it takes a settle behind the starts, and enough hosts\n");
 }
 
-/// Messages that wait.
-fn tell_waiting(course: &Course, alloc: Global, pen: &mut Pen, messages: &[Message]) {
+/// Messages that wait; gives how many they are.
+fn tell_waiting(course: &Course, alloc: Global, pen: &mut Pen, messages: &[Message]) -> u64 {
     let mut groups = Table::new(alloc);
     pen.take(count_waiting(course, &mut groups, messages));
-    tell_groups(pen, total_of(&groups), &groups);
+    let waiting = total_of(&groups);
+    tell_groups(pen, waiting, &groups);
+    waiting
 }
 
 /// Counts the messages that wait, by kind and addressee.

@@ -1,8 +1,9 @@
+use Rattle.std.proofs.Common.{Some, sym}
 use Rattle.rc_scenes.proofs.Waitings.{near_due}
 use Rattle.rc_scenes.proofs.marks.Marks.next_due.Goals as goal
 
 pub returns-in-Some : goal.returns-in-Some
 returns-in-Some c events fits =
     let marks = c.args.self.now in
-    near_due events c.args.sent.now marks.delivered.items marks.lines.items c.args.passing.now c.args.from c.in-Some.number fits
-    c.in-Some.ensures
+    near_due events c.args.sent.now marks.delivered.items marks.lines.items c.args.passing.now c.args.from
+    (Some c.in-Some.number) fits c.in-Some.ensures
