@@ -3,8 +3,9 @@
 //! kinds of breach has a module: `missing`, `invented`, `falling`.
 #![tactic(auto)]
 
-ghost use Rattle.std.specs.Prelude.{◌≡◌, IfOk};
-ghost use Rattle.rc_model.specs.Breach.{breach};
+ghost use Rattle.std.specs.Prelude.{◌≡◌, [], false, IfOk};
+ghost use Rattle.rc_model.specs.Recovered.{accepted};
+ghost use Rattle.rc_model.specs.Breach.{breach, or_else, missing_of, invented_of};
 
 mod falling;
 mod invented;
@@ -14,6 +15,7 @@ use falling::falling_version;
 use invented::invented_place;
 use missing::missing_write;
 use rc_evidence::evidence::Evidence;
+use rc_evidence::recoveries::recovery_in;
 use rc_evidence::runs::runs_in;
 use rc_evidence::senders::senders_in;
 use rc_evidence::standing::standings_in;
@@ -42,6 +44,22 @@ use std::alloc::{AllocError, Global};
 pub fn audit(alloc: Global, messages: &[Message]) -> Result<Option<Breach>, AllocError>
     ensures { IfOk result (λ found. found ≡ breach messages.now) }
 {
+    let found = lost_or_invented(alloc, messages)?;
+    if found.is_some() {
+        return Ok(found);
+    }
+    falling_version(alloc, messages)
+}
+
+/// The first breach of a recovery: a write that is missing, or else a place that is invented. What was sent is sorted
+/// only where there is a recovery.
+fn lost_or_invented(alloc: Global, messages: &[Message]) -> Result<Option<Breach>, AllocError>
+    ensures { IfOk result (λ found. found ≡
+        or_else (missing_of messages.now (accepted messages.now)) (invented_of messages.now (accepted messages.now))) }
+{
+    if !has_recovery(messages) {
+        return Ok(None);
+    }
     let evidence = Evidence::new(alloc, messages)?;
     let standings = standings_in(alloc, &evidence)?;
     let senders = senders_in(alloc, messages)?;
@@ -50,9 +68,17 @@ pub fn audit(alloc: Global, messages: &[Message]) -> Result<Option<Breach>, Allo
         return Ok(missing);
     }
     let runs = runs_in(alloc, &evidence)?;
-    let invented = invented_place(alloc, &evidence, &runs)?;
-    if invented.is_some() {
-        return Ok(invented);
+    invented_place(alloc, &evidence, &runs)
+}
+
+/// Whether a recovery was accepted.
+fn has_recovery(messages: &[Message]) -> bool
+    ensures { result ≡ false → accepted messages.now ≡ [] }
+{
+    for message in messages {
+        if recovery_in(&message.body).is_some() {
+            return true;
+        }
     }
-    falling_version(alloc, messages)
+    false
 }
