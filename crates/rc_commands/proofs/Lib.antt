@@ -1,9 +1,9 @@
 pub mod Decimals
+pub mod EachCommand
 pub mod Words
 pub mod Lines
 pub mod Parsed
-pub mod AfterRun
-pub mod AfterAudit
+pub mod AfterOptions
 pub mod Texts
 pub mod Only
 pub mod ByWords

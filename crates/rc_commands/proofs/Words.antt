@@ -1,6 +1,7 @@
 -- What `clap` makes of one word that names no command.
 use Rattle.std.proofs.Common.{◌≡◌, ◌∙◌, ◌⊎◌, inl, inr, ⊎_elim, is_some, eqb, ◌==◌, ◌&&◌, ◌||◌, ℕ, Bool, true, false, not, cond, suc}
-use Rattle.std.proofs.Common.{arith, ◌+◌, take, List, [], ◌∷◌, Option, Some, None, codes, length, refl, sym, ap, ap₂, subst, true≢false}
+use Rattle.std.proofs.Common.{arith, ◌+◌, map, take, List, [], ◌∷◌, Option, Some, None, codes, length, refl, sym}
+use Rattle.std.proofs.Common.{ap, ap₂, subst, true≢false}
 use Rattle.std.proofs.Math.Bool.{or-false}
 use Rattle.std.proofs.lemmas.Bool.Decides.{eqb_tells}
 use Rattle.std.specs.List.{list_all, list_any, before_first, after_first, prefix_len}
@@ -17,9 +18,11 @@ use Rattle.clap.specs.Simple.{Shape, built, built_leaf, filled, help_rule, versi
 use Rattle.clap.specs.Faults.{positional_fault, short_fault, turn_fault, walk_fault, flag_word_fault, other_fault, step_fault}
 use Rattle.clap.specs.Faults.{stray_fault, level_fault, flags_fault, bundle_step_fault, bundle_fault, long_fault}
 use Rattle.clap.proofs.OnLiterals.{clap_on_literals}
-use Rattle.rc_commands.specs.Asking.{exploring, is_help, is_option, is_request, is_version, stopping}
+use Rattle.rc_commands.specs.Asking.{is_help, is_option, is_request, is_version, options_of}
 use Rattle.rc_commands.specs.Commands as command
 use Rattle.rc_commands.specs.Commands.{ramseg}
+use Rattle.rc_commands.proofs.EachCommand as each
+use Rattle.rc_commands.proofs.EachCommand.{Command, name_of, shape_of, takes_word}
 
 -- ---- kinds of errors that all are requests, or none is
 
@@ -87,7 +90,7 @@ top_short : (x : ℕ) → arg_by_short top.rules x ≡ flag_of (104 == x) (86 ==
 unfolding clap_on_literals
 top_short x = refl
 
-or_parts : (a b : Bool) → (a || b) ≡ false → (a ≡ false) × (b ≡ false)
+pub or_parts : (a b : Bool) → (a || b) ≡ false → (a ≡ false) × (b ≡ false)
 or_parts true b e = absurd (true≢false e)
 or_parts false b e = (refl, e)
 
@@ -107,140 +110,64 @@ top_is = record { long = λ name _. top_long name; short = top_short; strays = r
 passed : (b : Bool) (here past : Option Rule) → b ≡ false → cond (b || false) here past ≡ past
 passed b here past e = ap (λ c. cond (c || false) here past) e
 
-pub run_is : IsLevel (leaf command.run.top) false (codes "format" ∷ codes "heap" ∷ [])
+-- options and flags of these names, and the flag for help
+abbrev rule_by : Bool → Text → Rule
+rule_by true name = command.flag name
+rule_by false name = command.option name
+
+abbrev rules_by : List (Text × Bool) → List Rule
+rules_by [] = help ∷ []
+rules_by (x ∷ xs) = filled (rule_by x.1 x.0) ∷ rules_by xs
+
+passes : (xs : List (Text × Bool)) (name : Text) → list_any (λ option. bytes_eq option name) (map (λ x. x.0) xs) ≡ false
+    → arg_by_long (rules_by xs) name ≡ flag_of (bytes_eq (codes "help") name) false
 unfolding clap_on_literals
-run_is = record { long = long; short = λ x. refl; strays = refl; positional = refl }
+passes [] name e = refl
+passes (x ∷ xs) name e = here x.1 ∙ passes xs name (or_parts _ _ e).1
   where
-    long : (name : Text) → list_any (λ option. bytes_eq option name) (codes "format" ∷ codes "heap" ∷ []) ≡ false
-        → arg_by_long (leaf command.run.top).rules name ≡ flag_of (bytes_eq (codes "help") name) false
-    long name e =
-        let p = or_parts _ _ e in
-        passed (bytes_eq (codes "format") name) _ _ p.0 ∙ passed (bytes_eq (codes "heap") name) _ _ (or_parts _ _ p.1).0
+    here : (is_flag : Bool) → arg_by_long (filled (rule_by is_flag x.0) ∷ rules_by xs) name ≡ arg_by_long (rules_by xs) name
+    here true = passed (bytes_eq x.0 name) _ _ (or_parts _ _ e).0
+    here false = passed (bytes_eq x.0 name) _ _ (or_parts _ _ e).0
 
-pub trace_is : IsLevel (leaf command.trace.top) false []
-unfolding clap_on_literals
-trace_is = record { long = λ name _. refl; short = λ x. refl; strays = refl; positional = refl }
-
-pub history_is : IsLevel (leaf command.history.top) false []
-unfolding clap_on_literals
-history_is = record { long = λ name _. refl; short = λ x. refl; strays = refl; positional = refl }
-
-pub check_is : IsLevel (leaf command.check.top) false []
-unfolding clap_on_literals
-check_is = record { long = λ name _. refl; short = λ x. refl; strays = refl; positional = refl }
-
-pub audit_is : IsLevel (leaf command.audit.top) false (codes "format" ∷ [])
-unfolding clap_on_literals
-audit_is = record {
-  long = λ name e. passed (bytes_eq (codes "format") name) _ _ (or_parts _ _ e).0;
-  short = λ x. refl;
-  strays = refl;
-  positional = refl;
+level_by : (s : Shape) (xs : List (Text × Bool)) → s.rules ≡ rules_by xs → ((x : ℕ) → arg_by_short s.rules x ≡ flag_of (104 == x) false)
+    → tells false (stray_fault s) ≡ true → arg_by_index s.rules 1 ≡ None → IsLevel s false (map (λ x. x.0) xs)
+level_by s xs is short strays positional = record {
+  long = λ name e. ap (λ rules. arg_by_long rules name) is ∙ passes xs name e;
+  short = short;
+  strays = strays;
+  positional = positional;
 }
 
-pub stops_is : IsLevel (leaf command.stops.top) false stopping
-unfolding clap_on_literals
-stops_is = record { long = long; short = λ x. refl; strays = refl; positional = refl }
-  where
-    long : (name : Text) → list_any (λ option. bytes_eq option name) stopping ≡ false
-        → arg_by_long (leaf command.stops.top).rules name ≡ flag_of (bytes_eq (codes "help") name) false
-    long name e =
-        let p = or_parts _ _ e in
-        let q = or_parts _ _ p.1 in
-        let r = or_parts _ _ q.1 in
-        let s = or_parts _ _ r.1 in
-        let t = or_parts _ _ s.1 in
-        let u = or_parts _ _ t.1 in
-        let v = or_parts _ _ u.1 in
-        passed (bytes_eq (codes "format") name) _ _ p.0
-        ∙ passed (bytes_eq (codes "seed") name) _ _ q.0 ∙ passed (bytes_eq (codes "steps") name) _ _ r.0
-        ∙ passed (bytes_eq (codes "hosts") name) _ _ s.0 ∙ passed (bytes_eq (codes "factor") name) _ _ t.0
-        ∙ passed (bytes_eq (codes "segment") name) _ _ u.0 ∙ passed (bytes_eq (codes "free") name) _ _ v.0
-        ∙ passed (bytes_eq (codes "explored") name) _ _ (or_parts _ _ v.1).0
+-- the name of an option, or of a flag
+abbrev an_option : Text → Text × Bool
+an_option name = (name, false)
 
-pub threads_is : IsLevel (leaf command.threads.top) false (codes "hosts" ∷ codes "writes" ∷ [])
-unfolding clap_on_literals
-threads_is = record { long = long; short = λ x. refl; strays = refl; positional = refl }
-  where
-    long : (name : Text) → list_any (λ option. bytes_eq option name) (codes "hosts" ∷ codes "writes" ∷ []) ≡ false
-        → arg_by_long (leaf command.threads.top).rules name ≡ flag_of (bytes_eq (codes "help") name) false
-    long name e =
-        let p = or_parts _ _ e in
-        passed (bytes_eq (codes "hosts") name) _ _ p.0 ∙ passed (bytes_eq (codes "writes") name) _ _ (or_parts _ _ p.1).0
+abbrev a_flag : Text → Text × Bool
+a_flag name = (name, true)
 
-pub log_is : IsLevel (leaf command.log.top) false (codes "json" ∷ [])
-unfolding clap_on_literals
-log_is = record {
-  long = λ name e. passed (bytes_eq (codes "json") name) _ _ (or_parts _ _ e).0;
-  short = λ x. refl;
-  strays = refl;
-  positional = refl;
-}
+-- the options of `stops` and `explore` that say how large the drawn runs are, and those after them
+abbrev sizes_and : List (Text × Bool) → List (Text × Bool)
+sizes_and more = an_option (codes "format") ∷ an_option (codes "seed") ∷ an_option (codes "steps") ∷ an_option (codes "hosts")
+    ∷ an_option (codes "factor") ∷ an_option (codes "segment") ∷ a_flag (codes "free") ∷ more
 
-pub picture_is : IsLevel (leaf command.picture.top) false (codes "mermaid" ∷ [])
+pub level_of : (c : Command) → takes_word c ≡ false → IsLevel (leaf (shape_of c)) false (options_of (name_of c))
 unfolding clap_on_literals
-picture_is = record {
-  long = λ name e. passed (bytes_eq (codes "mermaid") name) _ _ (or_parts _ _ e).0;
-  short = λ x. refl;
-  strays = refl;
-  positional = refl;
-}
-
-pub heal_is : IsLevel (leaf command.heal.top) false (codes "power-cycle" ∷ [])
-unfolding clap_on_literals
-heal_is = record {
-  long = λ name e. passed (bytes_eq (codes "power-cycle") name) _ _ (or_parts _ _ e).0;
-  short = λ x. refl;
-  strays = refl;
-  positional = refl;
-}
-
-pub shrink_is : IsLevel (leaf command.shrink.top) false (codes "keep" ∷ [])
-unfolding clap_on_literals
-shrink_is = record {
-  long = λ name e. passed (bytes_eq (codes "keep") name) _ _ (or_parts _ _ e).0;
-  short = λ x. refl;
-  strays = refl;
-  positional = refl;
-}
-
-pub explore_is : IsLevel (leaf command.explore.top) false exploring
-unfolding clap_on_literals
-explore_is = record { long = long; short = λ x. refl; strays = refl; positional = refl }
-  where
-    long : (name : Text) → list_any (λ option. bytes_eq option name) exploring ≡ false
-        → arg_by_long (leaf command.explore.top).rules name ≡ flag_of (bytes_eq (codes "help") name) false
-    long name e =
-        let p = or_parts _ _ e in
-        let q = or_parts _ _ p.1 in
-        let r = or_parts _ _ q.1 in
-        let s = or_parts _ _ r.1 in
-        let t = or_parts _ _ s.1 in
-        let u = or_parts _ _ t.1 in
-        let v = or_parts _ _ u.1 in
-        let w = or_parts _ _ v.1 in
-        let x = or_parts _ _ w.1 in
-        let y = or_parts _ _ x.1 in
-        passed (bytes_eq (codes "format") name) _ _ p.0 ∙ passed (bytes_eq (codes "seed") name) _ _ q.0
-        ∙ passed (bytes_eq (codes "steps") name) _ _ r.0 ∙ passed (bytes_eq (codes "hosts") name) _ _ s.0
-        ∙ passed (bytes_eq (codes "factor") name) _ _ t.0 ∙ passed (bytes_eq (codes "segment") name) _ _ u.0
-        ∙ passed (bytes_eq (codes "free") name) _ _ v.0 ∙ passed (bytes_eq (codes "save") name) _ _ w.0
-        ∙ passed (bytes_eq (codes "seeds") name) _ _ x.0 ∙ passed (bytes_eq (codes "progress") name) _ _ y.0
-        ∙ passed (bytes_eq (codes "until") name) _ _ (or_parts _ _ y.1).0
-
-pub fuzz_is : IsLevel (leaf command.fuzz.top) false (codes "format" ∷ codes "seed" ∷ codes "steps" ∷ codes "free" ∷ [])
-unfolding clap_on_literals
-fuzz_is = record { long = long; short = λ x. refl; strays = refl; positional = refl }
-  where
-    long : (name : Text) →
-        list_any (λ option. bytes_eq option name) (codes "format" ∷ codes "seed" ∷ codes "steps" ∷ codes "free" ∷ []) ≡ false
-        → arg_by_long (leaf command.fuzz.top).rules name ≡ flag_of (bytes_eq (codes "help") name) false
-    long name e =
-        let p = or_parts _ _ e in
-        let q = or_parts _ _ p.1 in
-        let r = or_parts _ _ q.1 in
-        passed (bytes_eq (codes "format") name) _ _ p.0 ∙ passed (bytes_eq (codes "seed") name) _ _ q.0
-        ∙ passed (bytes_eq (codes "steps") name) _ _ r.0 ∙ passed (bytes_eq (codes "free") name) _ _ (or_parts _ _ r.1).0
+level_of each.run e = level_by _ (an_option (codes "format") ∷ an_option (codes "heap") ∷ []) refl (λ x. refl) refl refl
+level_of each.trace e = level_by _ [] refl (λ x. refl) refl refl
+level_of each.audit e = level_by _ (an_option (codes "format") ∷ []) refl (λ x. refl) refl refl
+level_of each.fuzz e = level_by _ (an_option (codes "format") ∷ an_option (codes "seed") ∷ an_option (codes "steps")
+    ∷ a_flag (codes "free") ∷ []) refl (λ x. refl) refl refl
+level_of each.stops e = level_by _ (sizes_and (a_flag (codes "explored") ∷ [])) refl (λ x. refl) refl refl
+level_of each.threads e = level_by _ (an_option (codes "hosts") ∷ an_option (codes "writes") ∷ []) refl (λ x. refl) refl refl
+level_of each.explore e = level_by _ (sizes_and (a_flag (codes "save") ∷ an_option (codes "seeds") ∷ a_flag (codes "progress")
+    ∷ an_option (codes "until") ∷ [])) refl (λ x. refl) refl refl
+level_of each.log e = level_by _ (a_flag (codes "json") ∷ []) refl (λ x. refl) refl refl
+level_of each.picture e = level_by _ (a_flag (codes "mermaid") ∷ []) refl (λ x. refl) refl refl
+level_of each.explain e = absurd (true≢false e)
+level_of each.shrink e = level_by _ (an_option (codes "keep") ∷ []) refl (λ x. refl) refl refl
+level_of each.heal e = level_by _ (a_flag (codes "power-cycle") ∷ []) refl (λ x. refl) refl refl
+level_of each.history e = level_by _ [] refl (λ x. refl) refl refl
+level_of each.check e = level_by _ [] refl (λ x. refl) refl refl
 
 -- whether the word asks for help, or where there is one for the version
 abbrev pub asks : Bool → Text → Bool

@@ -33,7 +33,7 @@ use crate::telling::tell_why;
 use crate::threading::threads;
 use crate::verdicts::{Output, SimFault, Verdict};
 use linked_list_allocator::LocalHeap;
-use rc_commands::{Asked, asked_for};
+use rc_commands::{Asked, Drawing, asked_for};
 use rc_reasons::Dialect;
 use rc_study::Options;
 use std::alloc::{Allocator, Global};
@@ -150,89 +150,38 @@ fn done<H: thread::Threads + Wait + Sync, R: Read, W: Write, E: Write>(
             tell_stake_of_drawn(alloc, seed, steps as usize, errors);
             cut_powers(alloc, seed, steps as usize, writer)
         }
-        Asked::StopsExplored {
-            seed,
-            steps,
-            hosts,
-            factor,
-            segment,
-            free,
-            ..
-        } => {
-            let options = Options {
-                seed,
-                steps: steps as usize,
-                hosts,
-                factor,
-                segment,
-                free,
-            };
+        Asked::StopsExplored { drawing, .. } => {
+            let options = options_of(&drawing);
             cut_explored(alloc, &options, writer, errors)
         }
         Asked::Threads { hosts, writes } => threads(rt, alloc, hosts, writes, writer, errors),
         Asked::Explore {
-            seed,
-            steps,
-            hosts,
-            factor,
-            segment,
-            free,
+            drawing,
             save,
             progress,
             ..
         } => {
-            let options = Options {
-                seed,
-                steps: steps as usize,
-                hosts,
-                factor,
-                segment,
-                free,
-            };
+            let options = options_of(&drawing);
             explore(alloc, &options, save, progress, writer, errors)
         }
         Asked::Survey {
-            first,
+            drawing,
             last,
-            steps,
-            hosts,
-            factor,
-            segment,
-            free,
             progress,
             ..
         } => {
-            let options = Options {
-                seed: first,
-                steps: steps as usize,
-                hosts,
-                factor,
-                segment,
-                free,
-            };
+            let options = options_of(&drawing);
             survey(alloc, &options, last, progress, writer, errors)
         }
         Asked::Until {
             goal,
-            first,
+            drawing,
             last,
-            steps,
-            hosts,
-            factor,
-            segment,
-            free,
             save,
             progress,
             ..
         } => {
-            let options = Options {
-                seed: first,
-                steps: steps as usize,
-                hosts,
-                factor,
-                segment,
-                free,
-            };
+            let options = options_of(&drawing);
             let search = Search {
                 goal,
                 last,
@@ -250,6 +199,22 @@ fn done<H: thread::Threads + Wait + Sync, R: Read, W: Write, E: Write>(
         Asked::Explain { word, json } => explained(alloc, word, json, writer, errors),
         Asked::Tell(text) => tell(text.as_str(), writer),
         Asked::Wrong(text) => Ok(refused(text.as_str(), errors)),
+    }
+}
+
+/// What a run is drawn with, as it was asked for.
+fn options_of(drawing: &Drawing) -> Options
+    ensures same { (result.seed ≡ drawing.now.seed) × (result.steps ≡ drawing.now.steps)
+        × (result.hosts ≡ drawing.now.hosts) × (result.factor ≡ drawing.now.factor)
+        × (result.segment ≡ drawing.now.segment) × (result.free ≡ drawing.now.free) }
+{
+    Options {
+        seed: drawing.seed,
+        steps: drawing.steps as usize,
+        hosts: drawing.hosts,
+        factor: drawing.factor,
+        segment: drawing.segment,
+        free: drawing.free,
     }
 }
 

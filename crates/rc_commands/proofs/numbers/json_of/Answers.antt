@@ -1,4 +1,4 @@
-use Rattle.std.proofs.Common.{◌≡◌, ◌∙◌, Bool, true, false, Option, Some, None, ap, codes, sym}
+use Rattle.std.proofs.Common.{◌∙◌, Bool, true, false, Option, Some, None, ap, codes, sym}
 use Rattle.std.specs.Prelude.{if◌then◌else◌}
 use Rattle.clap.specs.Words.{found_of}
 use Rattle.rc_commands.specs.Asking.{json_in}
