@@ -13,8 +13,8 @@ use Rattle.clap.proofs.WalkLemmas.{both}
 use Rattle.rc_commands.specs.declared.asking.Asked.{Asked}
 use Rattle.rc_commands.specs.declared.asking.Asked.TheVariants as asked
 use Rattle.rc_commands.specs.Asking.{asked_in, begins_with_help, command_in, drawn_by, explore_by, is_alone, is_end, json_in}
-use Rattle.rc_commands.specs.Asking.{drawing_in, has_flag, has_option, is_sized, json_given, number_given, number_or, seed_given, seeds_given}
-use Rattle.rc_commands.specs.Asking.{seeds_or_first, stops_in, where_taken}
+use Rattle.rc_commands.specs.Asking.{drawing_in, has_flag, has_option, is_sized, json_given, number_given, number_or, seed_given}
+use Rattle.rc_commands.specs.Asking.{seeds_given, seeds_or_first, stops_in, where_taken}
 use Rattle.rc_commands.specs.Numbers.{decimal_in}
 use Rattle.rc_commands.specs.Commands.{ramseg}
 use Rattle.rc_commands.proofs.EachCommand as each

@@ -20,7 +20,8 @@ pub use Rattle.rc_reading.specs.Scenario.{reading, scenario_in, scenario_of, sec
 pub use Rattle.rc_reading.specs.Scenario.{setup_by, setup_of, value_in, with_events}
 pub use Rattle.rc_reading.specs.Values.{addr_of, are_among, each, event_name, factor_of, factors_of, field, given2}
 pub use Rattle.rc_reading.specs.Values.{given4, has_only, host_of, hosts_of, id_in, id_of, is_one_of, kept_of, key_of}
-pub use Rattle.rc_reading.specs.Values.{kinds_of, list_from, list_of, listed, message_of, name_in, only, optional, or_absent}
+pub use Rattle.rc_reading.specs.Values.{kinds_of, list_from, list_of, listed, message_of, name_in, only, optional}
+pub use Rattle.rc_reading.specs.Values.{or_absent}
 pub use Rattle.rc_reading.specs.Values.{table_of, take_factor, take_host, take_kind, take_name, whole, within}
 pub use Rattle.rc_reading.specs.Values.{written}
 pub use Rattle.rc_reading.specs.Whole.{events_list, first_in, scenario_by, scenario_from, second_in}

@@ -5,7 +5,8 @@ use Rattle.rc_reading.specs.All.{each, list_from, list_of}
 use Rattle.rc_traces.specs.declared.lists.EntryParts.{EntryParts}
 use Rattle.rc_traces.specs.declared.lists.RowParts.{RowParts}
 use Rattle.rc_traces.specs.Trace.{entry_in, entry_of, row_in, row_of}
-use Rattle.rc_traces.specs.Parts.{takes_entry_part, takes_row_part, entry_part, no_entry_parts, entry_made, row_part, no_row_parts, row_made}
+use Rattle.rc_traces.specs.Parts.{takes_entry_part, entry_part, no_entry_parts, entry_made}
+use Rattle.rc_traces.specs.Parts.{takes_row_part, row_part, no_row_parts, row_made}
 
 -- one too many stays so
 entry_stays : (parts : EntryParts) (ds : List Data) →

@@ -17,7 +17,9 @@ pub returns-in_err-take-clause-bad : goal.returns-in_err-take-clause-bad
 returns-in_err-take-clause-bad g c place is =
     let l = c.members in
     let bad = c.in_err-take.ensures.bad place (grind (arith, is)) in
-    (bad.0, member_fails g.F.Object.of l.fields c.args.depth _ l.reader l.invariant c.in-Some.name.now c.next_key.new.self (grind arith) bad.1)
+    let none = member_fails g.F.Object.of l.fields c.args.depth _ l.reader l.invariant c.in-Some.name.now c.next_key.new.self
+    (grind arith) bad.1 in
+    (bad.0, none)
 
 pub returns-clause-ok : goal.returns-clause-ok
 returns-clause-ok g c =

@@ -11,4 +11,5 @@ returns-in_err-fields-clause-bad g c place is =
     (bad.0, object_fails c.args.depth c.args.reader.now c.opens_object.new.reader (grind arith) bad.1)
 
 pub returns-clause-ok : goal.returns-clause-ok
-returns-clause-ok g c = object_says c.args.depth c.args.reader.now c.opens_object.new.reader (grind arith) g.F.Object.of _ _ c.in_ok-fields.ensures.ok
+returns-clause-ok g c =
+    object_says c.args.depth c.args.reader.now c.opens_object.new.reader (grind arith) g.F.Object.of _ _ c.in_ok-fields.ensures.ok
