@@ -1,0 +1,2 @@
+pub mod Backup
+pub mod Runs

@@ -1,0 +1,11 @@
+use Rattle.std.proofs.Common.{◌++◌, ap, ◌∙◌}
+use Rattle.trial_model.specs.Backup.{open_names_of}
+use Rattle.trial_replica.proofs.HeldLemmas.{entries-held}
+use Rattle.trial_replica.proofs.held.Held.add_open_names.Goals as goal
+
+pub loop-seg-init : goal.loop-seg-init
+loop-seg-init c =
+    let h = c.self.inside in
+    let gives = c.into_iter-seg-iterator.ensures.into_iter_gives in
+    ap (λ replicas. c.args.names.now.items ++ open_names_of c.args.master replicas)
+    (gives.0 ∙ entries-held c.args.self.now h.fenced h.replicas.entries h.freed.keys c.self.view_is gives.5)
