@@ -134,16 +134,3 @@ pub addr_says : (depth : ℕ) (ts r : List Token) (id : Option ServerId) → 0 <
     → says addr_of depth (Token.begin_array ∷ ts) ≡ Some (option_map Server id, r)
 addr_says depth ts r id some e = ap (told addr_of) (opened_list depth ts some) ∙ addr_found (items_at (depth - 1) ts) ∙
     ap (told (option_map Server)) e
-
-some_found : {A : Type 0} (f : List Data → A) (o : Option (Items × List Token)) →
-    told (λ d. option_and_then (λ ds. Some (f ds)) (list_of d)) (told array o) ≡ told Some
-    (told (λ ds. f (listed ds)) o)
-some_found f None = refl
-some_found f (Some q) = refl
-
--- a list of which each says something
-pub listed_some : {A : Type 0} (f : List Data → A) (depth : ℕ) (ts r : List Token) (a : A) → 0 < depth →
-    told (λ ds. f (listed ds)) (items_at (depth - 1) ts) ≡ Some (a, r)
-    → says (λ d. option_and_then (λ ds. Some (f ds)) (list_of d)) depth (Token.begin_array ∷ ts) ≡ Some (Some a, r)
-listed_some f depth ts r a some e = ap (told (λ d. option_and_then (λ ds. Some (f ds)) (list_of d)))
-    (opened_list depth ts some) ∙ some_found f (items_at (depth - 1) ts) ∙ ap (told Some) e

@@ -11,4 +11,4 @@ pub mod TopNoted
 pub mod Texts
 pub mod Sets
 pub mod Loops
-pub mod Objects
+pub mod ObjectsRead

@@ -25,13 +25,12 @@ SaySo fields now depth all ts =
 module _ {A : Type 0} (takes : A → Data → Option A) (start now : Option A) (depth : ℕ) (all ts : List Token)
     (so_far : AreFolded takes start now depth all ts)
   where
-    pub item_taken : {B : Type 0} (f : Data → B) (step : B → Option A) (next : Option A) (b : B) (s r : List Token) →
-        (after_end_array ts ≡ None) × (s ≡ ts) → says f depth s ≡ Some (b, r) → length r < length s
-        → ((d : Data) → option_and_then (λ a. takes a d) now ≡ step (f d)) → next ≡ step b → AreFolded takes start next depth all r
-    item_taken f step next b s r going read less is same = (
-      ap (λ o. folds takes o depth r) same
-          ∙ sym (folds_more takes now f step depth ts r b is going.0 (subst (λ t. says f depth t ≡ Some (b, r)) going.1 read))
-          ∙ so_far.0,
+    pub item_taken : (next : Option A) (s r : List Token) → (after_end_array ts ≡ None) × (s ≡ ts) →
+        says (λ d. option_and_then (λ a. takes a d) now) depth s ≡ Some (next, r) → length r < length s
+        → AreFolded takes start next depth all r
+    item_taken next s r going read less = (
+      sym (folds_more takes now next depth ts r going.0
+          (subst (λ t. says (λ d. option_and_then (λ a. takes a d) now) depth t ≡ Some (next, r)) going.1 read)) ∙ so_far.0,
       omega (arith, so_far.1, ap length going.1, less),
     )
 

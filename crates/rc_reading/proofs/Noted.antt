@@ -1,9 +1,8 @@
 -- The fields of an event after one more member.
 use Rattle.std.proofs.Common.{◌≡◌, ℕ, List, [], ◌∷◌, Bool, true, false, ◌&&◌, if◌then◌else◌, codes, Option}
 use Rattle.std.proofs.Common.{Some, None, option_map, option_and_then, bytes_eq, refl, ap, ◌∙◌}
-use Rattle.json.specs.Token.{Token}
 use Rattle.serde_json.specs.Data.{Data, null, boolean, number, string, array, object, Members, put}
-use Rattle.serde_json.specs.Find.{get, as_object}
+use Rattle.serde_json.specs.Find.{get}
 use Rattle.rc_types.specs.declared.ids.ServerId.{ServerId}
 use Rattle.rc_types.specs.declared.ids.Addr.TheVariants.{Coordinator, Server}
 use Rattle.rc_reading.specs.declared.fields.Fields.{Fields}
@@ -15,8 +14,7 @@ use Rattle.rc_reading.specs.declared.scenarios.ScenarioEvent.TheVariants.{Core}
 use Rattle.rc_reading.specs.All.{no_kinds, no_hosts, start_members, id_members, write_members, read_members, deliver_members}
 use Rattle.rc_reading.specs.All.{settle_members, create_members, split_members, is_one_of, has_only, only, field, host_of, table_of, key_of}
 use Rattle.rc_reading.specs.All.{message_of, id_of, addr_of, kept_of, kinds_of, hosts_of, written, event_name, event_of, event_by}
-use Rattle.rc_reading.specs.All.{member_named, noted, fields_of, server_in, event_from, event_in, says}
-use Rattle.rc_reading.proofs.Objects.{no_object_says}
+use Rattle.rc_reading.specs.All.{member_named, noted, fields_of, server_in, event_from, event_in, if_object}
 use Rattle.rc_reading.proofs.Puts.{field_put, optional_put, only_put, by_names}
 
 -- the same, by the texts of the names
@@ -141,10 +139,12 @@ by_field : (o : Option EventName) (d : Data) →
 by_field None d = refl
 by_field (Some name) d = by_name name d
 
-pub event_of_fields : (d : Data) → event_of d ≡ event_in (fields_of d)
+-- the event that an object's members say
+pub event_found : (d : Data) → event_of d ≡ option_and_then event_in (if_object fields_of d)
 unfolding event_of
-event_of_fields d = by_field (field (codes "e") event_name d) d
-
-pub no_event_says : (depth : ℕ) (ts r : List Token) → says as_object depth ts ≡ Some (None, r) → says event_of depth ts ≡ Some (None, r)
-unfolding event_of
-no_event_says = no_object_says event_of None refl (λ b. refl) (λ n. refl) (λ s. refl) (λ ds. refl)
+event_found null = refl
+event_found (boolean b) = refl
+event_found (number n) = refl
+event_found (string s) = refl
+event_found (array ds) = refl
+event_found (object ms) = by_field (field (codes "e") event_name (object ms)) (object ms)

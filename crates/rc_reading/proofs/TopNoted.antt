@@ -1,14 +1,17 @@
 -- What the members of a scenario say after one more member, and at the end.
 use Rattle.std.proofs.Common.{[], ◌≡◌, ℕ, nat_eq, List, ◌∷◌, ◌&&◌, if◌then◌else◌, codes, Option, Some}
-use Rattle.std.proofs.Common.{None, option_map, option_and_then, bytes_eq, refl, sym, ap₂, ◌∙◌}
+use Rattle.std.proofs.Common.{None, Result, Ok, Err, option_map, option_and_then, bytes_eq, refl, sym, ap₂, ◌∙◌}
 use Rattle.rc_types.specs.declared.events.Setup.{Setup}
-use Rattle.serde_json.specs.Data.{Data, object, Members, put}
+use Rattle.serde_json.specs.Data.{Data, null, boolean, number, string, array, object, Members, put}
 use Rattle.serde_json.specs.Find.{get, as_bool}
 use Rattle.rc_reading.specs.declared.whole.Top.{Top}
 use Rattle.rc_reading.specs.All.{first_members, second_members, is_one_of, field, whole, list_of, factor_of, factors_of, segment_of}
 use Rattle.rc_reading.specs.All.{events_of, setup_by, setup_of, scenario_in, scenario_of, top_named, top_noted, top_of, events_list}
 use Rattle.rc_reading.specs.All.{first_in, second_in, scenario_from, scenario_by}
+use Rattle.rc_reading.specs.All.{each, event_of, if_object, takes_placed}
+use Rattle.rc_reading.specs.declared.scenarios.Scenario.{Scenario}
 use Rattle.rc_reading.proofs.Puts.{field_put, only_put, by_names}
+use Rattle.rc_reading.proofs.Each.{each_placed}
 
 -- the same, by the texts of the names
 abbrev expanded : List ℕ → Data → Top → Top
@@ -59,16 +62,29 @@ as_events : (o : Option Data) → option_and_then events_list o ≡ option_map (
 as_events None = refl
 as_events (Some d) = of_list (list_of d)
   where
-    of_list : (o : Option (List Data)) → option_and_then (λ ds. Some (events_of 2 ds)) o ≡ option_map (events_of 2) o
+    of_list : (o : Option (List Data)) → option_and_then (each (takes_placed event_of) (Ok [])) o ≡ option_map (events_of 2) o
     of_list None = refl
-    of_list (Some ds) = refl
+    of_list (Some ds) = each_placed event_of ds
 
 in_from : (setup : Option Setup) (o : Option (List Data)) → scenario_in setup o ≡ scenario_from setup (option_map (events_of 2) o)
 in_from None o = refl
 in_from (Some setup) None = refl
 in_from (Some setup) (Some ds) = refl
 
-pub scenario_of_top : (d : Data) → scenario_of d ≡ scenario_by (top_of d)
-scenario_of_top d =
+of_object : (d : Data) → scenario_of d ≡ scenario_by (top_of d)
+of_object d =
     in_from (setup_of d) (field (codes "events") list_of d)
     ∙ ap₂ scenario_from (by_format d (field (codes "format") (whole 1 2) d)) (sym (as_events (get (codes "events") d)))
+
+abbrev pub scenario_if : Option Top → Result Scenario ℕ
+scenario_if None = Err 1
+scenario_if (Some top) = scenario_by top
+
+-- the scenario that an object's members say
+pub scenario_found : (d : Data) → scenario_of d ≡ scenario_if (if_object top_of d)
+scenario_found null = refl
+scenario_found (boolean b) = refl
+scenario_found (number n) = refl
+scenario_found (string s) = refl
+scenario_found (array ds) = refl
+scenario_found (object ms) = of_object (object ms)

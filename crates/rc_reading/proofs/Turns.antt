@@ -214,6 +214,12 @@ pub says_some : {A : Type 0} (f : Data → A) (depth : ℕ) (ts r : List Token) 
     (d : Data) × (data_at depth ts ≡ Some (d, r)) × (f d ≡ a)
 says_some f depth ts r a e = told_of (data_at depth ts) f a r e
 
+-- what is told of one thing, of another that is made of it
+pub says_as : {A B : Type 0} (f : Data → A) (g : Data → B) (h : A → B) → ((d : Data) → g d ≡ h (f d)) → (depth : ℕ)
+    (ts r : List Token) (a : A) → says f depth ts ≡ Some (a, r) → says g depth ts ≡ Some (h a, r)
+says_as f g h is depth ts r a e =
+    let d = says_some f depth ts r a e in ap (told g) d.1 ∙ ap (λ b. Some (b, r)) (is d.0 ∙ ap h d.2)
+
 -- ---- a fold over items
 
 pub folds_over : {A : Type 0} (takes : A → Data → Option A) (a : Option A) (depth : ℕ) (ts r : List Token) →
@@ -228,14 +234,13 @@ one_taken takes None d (Some q) = refl
 one_taken takes (Some b) d (Some q) = refl
 
 -- one more item was taken
-pub folds_more : {A B : Type 0} (takes : A → Data → Option A) (a : Option A) (f : Data → B) (next : B → Option A)
-    (depth : ℕ) (ts r : List Token) (b : B)
-    → ((d : Data) → option_and_then (λ s. takes s d) a ≡ next (f d))
-    → after_end_array ts ≡ None → says f depth ts ≡ Some (b, r) → folds takes a depth ts ≡ folds takes (next b) depth r
-folds_more takes a f next depth ts r b is going e =
-    let d = says_some f depth ts r b e in
+pub folds_more : {A : Type 0} (takes : A → Data → Option A) (a next : Option A) (depth : ℕ) (ts r : List Token) →
+    after_end_array ts ≡ None → says (λ d. option_and_then (λ s. takes s d) a) depth ts ≡ Some (next, r)
+    → folds takes a depth ts ≡ folds takes next depth r
+folds_more takes a next depth ts r going e =
+    let d = says_some (λ d. option_and_then (λ s. takes s d) a) depth ts r next e in
     ap (told (taken_from takes a)) (item_read depth ts r d.0 going d.1) ∙ one_taken takes a d.0 (items_at depth r)
-    ∙ ap (λ s. folds takes s depth r) (is d.0 ∙ ap next d.2)
+    ∙ ap (λ s. folds takes s depth r) d.2
 
 -- what is told of a fold's end
 pub folded_told : {A B : Type 0} (takes : A → Data → Option A) (a b : Option A) (g : List Data → B) (h : Option A →

@@ -1,5 +1,5 @@
 -- What a JSON value says as a scenario, and which place of it is wrong.
-use Rattle.std.specs.Prelude.{ℕ, ◌+◌, false, nat_eq, nat_le, ◌&&◌, if◌then◌else◌, List, [], ◌∷◌, length, Option}
+use Rattle.std.specs.Prelude.{ℕ, false, nat_eq, nat_le, ◌&&◌, if◌then◌else◌, List, [], length, Option}
 use Rattle.std.specs.Prelude.{Some, None, option_map, option_and_then, Result, Ok, Err, codes}
 use Rattle.std.specs.Str.{is_utf8}
 use Rattle.rc_types.specs.declared.ids.ServerId.{ServerId}
@@ -25,6 +25,7 @@ use Rattle.rc_reading.specs.Names.{settle_members, create_members, split_members
 use Rattle.rc_reading.specs.Values.{only, field, optional, given2, given3, given4, whole, list_of, host_of}
 use Rattle.rc_reading.specs.Values.{factor_of, table_of, key_of, message_of, id_of, addr_of, kept_of, kinds_of}
 use Rattle.rc_reading.specs.Values.{hosts_of, factors_of, written, event_name}
+use Rattle.rc_reading.specs.Lists.{all_said}
 
 -- What a client asks, as an event of the world
 
@@ -92,16 +93,9 @@ event_of d = option_and_then (λ name. event_by name d) (field (codes "e") event
 
 -- The scenario, or the place that is wrong
 
--- the least event that is wrong counts
-abbrev pub one_event_more : ℕ → Option ScenarioEvent → Result (List ScenarioEvent) ℕ → Result (List ScenarioEvent) ℕ
-one_event_more place None rest = Err place
-one_event_more place (Some event) (Ok events) = Ok (event ∷ events)
-one_event_more place (Some event) (Err later) = Err later
-
--- the events, of which the first has this place
+-- the events, of which the first has this place; the least that is wrong counts
 abbrev pub events_of : ℕ → List Data → Result (List ScenarioEvent) ℕ
-events_of place [] = Ok []
-events_of place (d ∷ ds) = one_event_more place (event_of d) (events_of (place + 1) ds)
+events_of = all_said event_of
 
 abbrev pub segment_of : Data → Option ℕ
 segment_of = whole 1 MAX_SEGMENT

@@ -1,5 +1,5 @@
 -- What the members of a scenario say, a member at a time, and an event at a time.
-use Rattle.std.specs.Prelude.{ℕ, ◌+◌, false, nat_eq, if◌then◌else◌, List, [], ◌∷◌, ◌++◌, length, Option, Some, None}
+use Rattle.std.specs.Prelude.{ℕ, false, nat_eq, if◌then◌else◌, List, [], Option, Some, None}
 use Rattle.std.specs.Prelude.{option_and_then, Result, Ok, Err, codes}
 use Rattle.std.specs.Str.{bytes_eq}
 use Rattle.rc_types.specs.declared.events.Setup.{Setup}
@@ -11,17 +11,12 @@ use Rattle.rc_reading.specs.declared.whole.TopName.{TopName}
 use Rattle.rc_reading.specs.declared.whole.TopName.TheVariants.{Format, Factor, Factors, Free, Segment, Events}
 use Rattle.rc_reading.specs.declared.whole.Top.{Top}
 use Rattle.rc_reading.specs.Names.{first_members, second_members}
-use Rattle.rc_reading.specs.Values.{has_only, field, given2, given4, whole, list_of, factor_of, factors_of}
-use Rattle.rc_reading.specs.Scenario.{events_of, segment_of, with_events}
-
--- one more event, or nothing for a wrong one; the first event has place 2
-abbrev pub event_added : Result (List ScenarioEvent) ℕ → Option ScenarioEvent → Result (List ScenarioEvent) ℕ
-event_added (Err place) event = Err place
-event_added (Ok events) None = Err (2 + length events)
-event_added (Ok events) (Some event) = Ok (events ++ event ∷ [])
+use Rattle.rc_reading.specs.Values.{has_only, field, given2, given4, whole, list_from, factor_of, factors_of}
+use Rattle.rc_reading.specs.Lists.{takes_placed}
+use Rattle.rc_reading.specs.Scenario.{event_of, segment_of, with_events}
 
 abbrev pub events_list : Data → Option (Result (List ScenarioEvent) ℕ)
-events_list d = option_and_then (λ ds. Some (events_of 2 ds)) (list_of d)
+events_list = list_from (takes_placed event_of) (Ok [])
 
 abbrev pub top_named : List ℕ → Option TopName
 top_named text =

@@ -1,7 +1,7 @@
 //! What the members of an event say, a member at a time.
 
 ghost use Rattle.std.specs.Prelude.{◌≡◌, ◌<◌, ℕ, length, Some, None, Err, IfOk, OnOk, OnErr, option_map};
-ghost use Rattle.rc_reading.specs.declared.scenarios.ReadFault.TheVariants.{BadScenario};
+ghost use Rattle.rc_reading.specs.declared.faults.ReadFault.TheVariants.{BadInput};
 ghost use Rattle.serde_json.specs.Data.{object, no_members};
 ghost use Rattle.rc_types.specs.declared.events.Event.TheVariants.{Start, Deliver, Create, Split};
 ghost use Rattle.rc_reading.specs.declared.scenarios.ScenarioEvent.TheVariants.{Settle};
@@ -11,18 +11,21 @@ ghost use Rattle.rc_reading.specs.Fields.{member_named, narrowed, all_events, no
 ghost use Rattle.rc_reading.specs.Fields.{server_in, needed, needed_core, no_event};
 ghost use Rattle.rc_reading.specs.Ahead.{data_at, members_at, says, told};
 
+use crate::faults::ReadFault;
 use crate::hosts::Hosts;
 use crate::kinds::Kinds;
 use crate::limits::{LAST_MESSAGE, LAST_TABLE};
-use crate::lists::{hosts, kept, kinds};
+use crate::lists::{Said, read_list};
 use crate::names::EventName;
-use crate::scenarios::{ReadFault, ScenarioEvent};
+use crate::objects::{Object, read_object};
+use crate::scenarios::ScenarioEvent;
 use crate::simple::Simple;
-use crate::tokens::{opens_object, pass, simple};
+use crate::taken::NameParts;
+use crate::tokens::{pass, simple};
 use crate::wanted::{addr, event, host, id, number};
 use json::{Invalid, Reader};
 use rc_types::limits::LAST_KEY;
-use rc_types::{Addr, Body, Event, Seq, ServerId, Shared};
+use rc_types::{Addr, Body, Event, Kind, Seq, ServerId, Shared};
 use std::alloc::Global;
 
 /// A member that some event has.
@@ -206,7 +209,7 @@ fn value(
 ) -> Result<Option<Option<Shared<u8>>>, ReadFault>
     ensures ok { IfOk result (λ value. says written depth reader.old ≡ Some (value, reader.new)) }
     ensures shorter { OnOk result (length reader.new < length reader.old) }
-    ensures bad { (place : ℕ) → result ≡ Err (BadScenario place) → (place ≡ 0) × (data_at depth reader.old ≡ None) }
+    ensures bad { (place : ℕ) → result ≡ Err (BadInput place) → (place ≡ 0) × (data_at depth reader.old ≡ None) }
 {
     match simple(reader, depth)? {
         Simple::Null => Ok(Some(None)),
@@ -218,10 +221,12 @@ fn value(
     }
 }
 
-impl Fields {
-    fn new(alloc: Global) -> Fields
-        ensures { result ≡ fields_of (object no_members) }
-    {
+impl Object for Fields {
+    ghost of = { fields_of };
+
+    ghost noted = { λ k. noted (member_named k) };
+
+    fn none(alloc: Global) -> Fields {
         Fields {
             only: Only::all(),
             event: None,
@@ -240,38 +245,51 @@ impl Fields {
         }
     }
 
-    /// Takes the value of one more member.
     fn take(
         &mut self,
         alloc: Global,
-        name: Option<MemberName>,
+        name: &str,
         reader: &mut Reader<'_>,
         depth: usize,
-    ) -> Result<(), ReadFault>
-        ensures ok { OnOk result (says (λ d. noted name d self.old) depth reader.old ≡ Some (self.new, reader.new)) }
-        ensures shorter { OnOk result (length reader.new < length reader.old) }
-        ensures bad { (place : ℕ) → result ≡ Err (BadScenario place) → (place ≡ 0) × (data_at depth reader.old ≡ None) }
-    {
+    ) -> Result<(), ReadFault> {
+        let name = MemberName::named(name);
         self.only = self.only.narrowed(name);
         match name {
             Some(MemberName::Event) => self.event = event(reader, depth)?,
             Some(MemberName::Host) => self.host = host(reader, depth)?,
-            Some(MemberName::Kept) => self.kept = kept(alloc, reader, depth)?,
+            Some(MemberName::Kept) => self.kept = read_list::<NameParts, _>(
+                Seq::new(alloc),
+                alloc,
+                reader,
+                depth,
+            )?,
             Some(MemberName::Id) => self.addr = addr(reader, depth)?,
             Some(MemberName::To) => self.to = id(reader, depth)?,
             Some(MemberName::Table) => self.table = table(reader, depth)?,
             Some(MemberName::Key) => self.key = number(reader, depth, 0, LAST_KEY)?,
             Some(MemberName::Value) => self.value = value(alloc, reader, depth)?,
             Some(MemberName::Number) => self.number = message(reader, depth)?,
-            Some(MemberName::Kinds) => self.kinds = kinds(reader, depth)?,
-            Some(MemberName::Hosts) => self.hosts = hosts(reader, depth)?,
+            Some(MemberName::Kinds) => self.kinds = read_list::<Kind, _>(
+                Kinds::new(),
+                alloc,
+                reader,
+                depth,
+            )?,
+            Some(MemberName::Hosts) => self.hosts = read_list::<u8, _>(
+                Hosts::new(),
+                alloc,
+                reader,
+                depth,
+            )?,
             Some(MemberName::Owner) => self.owner = id(reader, depth)?,
             Some(MemberName::At) => self.at = number(reader, depth, 0, LAST_KEY)?,
             None => pass(reader, depth)?,
         }
         Ok(())
     }
+}
 
+impl Fields {
     /// The server that `id` names; the coordinator is none.
     fn server(&self) -> Option<ServerId>
         ensures { result ≡ server_in self.now.addr }
@@ -392,34 +410,16 @@ fn split_event(table: Option<u32>, at: Option<u64>) -> Option<Event>
     })
 }
 
-/// The members of an event, up to the end of its object.
-fn event_members(alloc: Global, reader: &mut Reader<'_>, depth: usize) -> Result<Fields, ReadFault>
-    ensures ok { IfOk result (λ fields. told (λ ms. fields_of (object ms)) (members_at no_members depth reader.old) ≡
-        Some (fields, reader.new)) }
-    ensures shorter { OnOk result (length reader.new < length reader.old) }
-    ensures bad { (place : ℕ) → result ≡ Err (BadScenario place) →
-        (place ≡ 0) × (members_at no_members depth reader.old ≡ None) }
-{
-    let mut fields = Fields::new(alloc);
-    'members: while let Some(name) = reader.next_key()? {
-        fields.take(alloc, MemberName::named(name), reader, depth)?;
-    }
-    Ok(fields)
-}
+/// One event of a scenario.
+impl Said<ScenarioEvent> for Fields {
+    ghost said = { event_of };
 
-/// One event of a scenario; nothing, where the value is another.
-pub(crate) fn scenario_event(
-    alloc: Global,
-    reader: &mut Reader<'_>,
-    depth: usize,
-) -> Result<Option<ScenarioEvent>, ReadFault>
-    ensures ok { IfOk result (λ event. says event_of depth reader.old ≡ Some (event, reader.new)) }
-    ensures shorter { OnOk result (length reader.new < length reader.old) }
-    ensures bad { (place : ℕ) → result ≡ Err (BadScenario place) → (place ≡ 0) × (data_at depth reader.old ≡ None) }
-{
-    if !opens_object(reader, depth)? {
-        return Ok(None);
+    fn read(
+        alloc: Global,
+        reader: &mut Reader<'_>,
+        depth: usize,
+    ) -> Result<Option<ScenarioEvent>, ReadFault> {
+        let fields: Option<Fields> = read_object(alloc, reader, depth)?;
+        Ok(fields.and_then(Fields::event))
     }
-    let fields = event_members(alloc, reader, depth - 1)?;
-    Ok(fields.event())
 }

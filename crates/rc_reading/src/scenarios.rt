@@ -1,13 +1,8 @@
 //! What a scenario says: a setup, and the events that happen in turn.
 
-ghost use Rattle.std.specs.Prelude.{◌≡◌};
-
 use crate::hosts::Hosts;
 use crate::kinds::Kinds;
-use json::Invalid;
 use rc_types::{Event, Seq, Setup};
-use std::alloc::{AllocError, AllocFailed};
-use thiserror::Error;
 
 /// A scenario of either format.
 #[derive(Drop)]
@@ -32,50 +27,4 @@ pub enum ScenarioEvent {
         /// The hosts whose servers are left out.
         hosts: Hosts,
     },
-}
-
-/// Why no scenario was read.
-#[derive(Clone, Copy, Debug, PartialEq, Eq, Error)]
-pub enum ReadFault {
-    /// F1: memory was refused.
-    #[error("F1: a growth, or the making of a thread, was refused")]
-    OutOfMemory,
-    /// F17: the scenario is wrong at this place: 0 where the bytes are no JSON text or too many, 1
-    /// where the object or a member other than its events is wrong, or the events are no list, and
-    /// 2 + i where event i is wrong. The least place counts.
-    #[error("F17: bad input at {0}")]
-    BadScenario(usize),
-}
-
-/// What has no memory says nothing of the scenario.
-impl From<AllocError> for ReadFault {
-    ghost use Rattle.rc_reading.specs.declared.scenarios.ReadFault.TheVariants.{OutOfMemory};
-
-    ghost from_gives = { λ _ e. e ≡ OutOfMemory };
-
-    fn from(_: AllocError) -> ReadFault {
-        ReadFault::OutOfMemory
-    }
-}
-
-/// What could not be stored for want of memory says nothing of the scenario.
-impl<T: Drop> From<AllocFailed<T>> for ReadFault {
-    ghost use Rattle.rc_reading.specs.declared.scenarios.ReadFault.TheVariants.{OutOfMemory};
-
-    ghost from_gives = { λ _ e. e ≡ OutOfMemory };
-
-    fn from(_: AllocFailed<T>) -> ReadFault {
-        ReadFault::OutOfMemory
-    }
-}
-
-/// What is no JSON text is wrong at place 0.
-impl From<Invalid> for ReadFault {
-    ghost use Rattle.rc_reading.specs.declared.scenarios.ReadFault.TheVariants.{BadScenario};
-
-    ghost from_gives = { λ _ e. e ≡ BadScenario 0 };
-
-    fn from(_: Invalid) -> ReadFault {
-        ReadFault::BadScenario(0)
-    }
 }

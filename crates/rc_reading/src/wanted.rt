@@ -177,7 +177,7 @@ pub(crate) fn addr(reader: &mut Reader<'_>, depth: usize) -> Result<Option<Addr>
 }
 
 /// One more item of a kept replica's name.
-fn name_item(
+pub(crate) fn name_item(
     so_far: Pair<Option<ServerId>, Option<u16>>,
     reader: &mut Reader<'_>,
     depth: usize,
@@ -203,45 +203,5 @@ fn name_item(
             pass(reader, depth)?;
             Ok(Pair::More)
         }
-    }
-}
-
-/// The replica's name that a master and a segment are.
-fn paired_name(pair: Pair<Option<ServerId>, Option<u16>>) -> Option<(ServerId, u16)>
-    ensures { result ≡ both_in replica_name pair }
-{
-    match pair {
-        Pair::Both(Some(master), Some(segment)) => Some((master, segment)),
-        _ => None,
-    }
-}
-
-/// The items of a replica's name, up to the end of their list.
-fn name_items(reader: &mut Reader<'_>, depth: usize) -> Result<Option<(ServerId, u16)>, Invalid>
-    ensures ok { IfOk result (λ name. told (λ ds. name_in (listed ds)) (items_at depth reader.old) ≡ Some
-        (name, reader.new)) }
-    ensures shorter { OnOk result (length reader.new < length reader.old) }
-    ensures err { OnErr result (items_at depth reader.old ≡ None) }
-{
-    let mut so_far = Pair::Nothing;
-    'items: while !reader.take_end_array() {
-        so_far = name_item(so_far, reader, depth)?;
-    }
-    Ok(paired_name(so_far))
-}
-
-/// A kept replica's name, its master and its segment.
-pub(crate) fn name(
-    reader: &mut Reader<'_>,
-    depth: usize,
-) -> Result<Option<(ServerId, u16)>, Invalid>
-    ensures ok { IfOk result (λ name. says (λ d. option_and_then name_in (list_of d)) depth reader.old ≡ Some
-        (name, reader.new)) }
-    ensures shorter { OnOk result (length reader.new < length reader.old) }
-    ensures err { OnErr result (data_at depth reader.old ≡ None) }
-{
-    match begin(reader, depth)? {
-        Some(_) => Ok(None),
-        None => name_items(reader, depth - 1),
     }
 }

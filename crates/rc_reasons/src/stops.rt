@@ -56,7 +56,7 @@ fn tell_stop(alloc: Global, text: &[u8], number: usize, sent: usize, pen: &mut P
     match read_scenario(alloc, text) {
         Ok(scenario) => tell_stop_in(scenario.events.as_slice(), number, sent, pen),
         Err(ReadFault::OutOfMemory) => pen.take(Err(AllocError)),
-        Err(ReadFault::BadScenario(_)) => pen.say("it is not possible"),
+        Err(ReadFault::BadInput(_)) => pen.say("it is not possible"),
     }
 }
 

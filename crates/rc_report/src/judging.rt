@@ -9,7 +9,8 @@ ghost use Rattle.rc_report.specs.Judged.{finding_of, finding_in, text_of};
 use crate::ends::error_text;
 use crate::reports::judgement_of;
 use rc_audit::audit;
-use rc_traces::{TraceFault, read_trace};
+use rc_reading::ReadFault;
+use rc_traces::read_trace;
 use rc_types::{Breach, Message};
 use std::alloc::{AllocError, Global};
 
@@ -45,8 +46,8 @@ pub fn judge(alloc: Global, bytes: &[u8]) -> Result<Judgement, AllocError>
 {
     match read_trace(alloc, bytes) {
         Ok(messages) => judge_messages(alloc, messages.as_slice()),
-        Err(TraceFault::BadTrace(place)) => bad(alloc, place),
-        Err(TraceFault::OutOfMemory) => Err(AllocError),
+        Err(ReadFault::BadInput(place)) => bad(alloc, place),
+        Err(ReadFault::OutOfMemory) => Err(AllocError),
     }
 }
 

@@ -47,7 +47,7 @@ pub(crate) fn answer_to<A: Allocator + Clone>(
     match read_scenario(alloc, bytes) {
         Ok(scenario) => played(alloc, scenario, tablets, output, kept),
         Err(ReadFault::OutOfMemory) => Err(SimFault::Memory),
-        Err(ReadFault::BadScenario(place)) => bad(alloc, place),
+        Err(ReadFault::BadInput(place)) => bad(alloc, place),
     }
 }
 

@@ -68,7 +68,7 @@ fn healed_of<E: Write>(
     match read_scenario(alloc, bytes) {
         Ok(scenario) => answer_of(alloc, scenario, power_cycle, errors),
         Err(ReadFault::OutOfMemory) => Err(SimFault::Memory),
-        Err(ReadFault::BadScenario(place)) => bad(alloc, place),
+        Err(ReadFault::BadInput(place)) => bad(alloc, place),
     }
 }
 

@@ -97,7 +97,7 @@ fn story_of(
     match read_scenario(alloc, bytes) {
         Ok(scenario) => told(alloc, &scenario, telling, kept),
         Err(ReadFault::OutOfMemory) => Err(SimFault::Memory),
-        Err(ReadFault::BadScenario(place)) => bad(alloc, place),
+        Err(ReadFault::BadInput(place)) => bad(alloc, place),
     }
 }
 

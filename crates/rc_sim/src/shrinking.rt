@@ -57,7 +57,7 @@ fn shrunk_of(alloc: Global, bytes: &[u8], keep: &str) -> Result<Answer, SimFault
     match read_scenario(alloc, bytes) {
         Ok(scenario) => smallest(alloc, &scenario, keep),
         Err(ReadFault::OutOfMemory) => Err(SimFault::Memory),
-        Err(ReadFault::BadScenario(place)) => bad(alloc, place),
+        Err(ReadFault::BadInput(place)) => bad(alloc, place),
     }
 }
 

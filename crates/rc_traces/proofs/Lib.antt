@@ -1,4 +1,3 @@
-mod Each
 mod Noted
 mod TopNoted
 mod PartsFound

@@ -1,10 +1,7 @@
 -- The fields of a message after one more member.
 use Rattle.std.proofs.Common.{[], ◌≡◌, ℕ, List, ◌∷◌, ◌&&◌, if◌then◌else◌, codes, Option, Some, None, option_and_then, bytes_eq, refl, ◌∙◌}
-use Rattle.json.specs.Token.{Token}
-use Rattle.serde_json.specs.Data.{Data, object, Members, put}
-use Rattle.serde_json.specs.Find.{as_object}
-use Rattle.rc_reading.specs.All.{is_one_of, field, id_of, table_of, key_of, says}
-use Rattle.rc_reading.proofs.Objects.{no_object_says}
+use Rattle.serde_json.specs.Data.{Data, null, boolean, number, string, array, object, Members, put}
+use Rattle.rc_reading.specs.All.{is_one_of, field, id_of, if_object, table_of, key_of}
 use Rattle.rc_reading.proofs.Puts.{field_put, only_put, by_names}
 use Rattle.rc_traces.specs.declared.fields.Fields.{Fields}
 use Rattle.rc_traces.specs.declared.names.MessageName.{MessageName}
@@ -95,11 +92,12 @@ by_field : (o : Option MessageName) (d : Data) →
 by_field None d = refl
 by_field (Some name) d = by_name name d
 
-pub message_of_fields : (d : Data) → message_of d ≡ message_in (fields_of d)
+-- the message that an object's members say
+pub message_found : (d : Data) → message_of d ≡ option_and_then message_in (if_object fields_of d)
 unfolding message_of
-message_of_fields d = by_field (field (codes "m") message_name d) d
-
-pub no_message_says : (depth : ℕ) (ts r : List Token) → says as_object depth ts ≡ Some (None, r) →
-    says message_of depth ts ≡ Some (None, r)
-unfolding message_of
-no_message_says = no_object_says message_of None refl (λ b. refl) (λ n. refl) (λ s. refl) (λ ds. refl)
+message_found null = refl
+message_found (boolean b) = refl
+message_found (number n) = refl
+message_found (string s) = refl
+message_found (array ds) = refl
+message_found (object ms) = by_field (field (codes "m") message_name (object ms)) (object ms)

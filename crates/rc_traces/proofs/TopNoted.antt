@@ -1,14 +1,15 @@
 -- What the members of a trace say after one more member, and at the end.
 use Rattle.std.proofs.Common.{[], ◌≡◌, ℕ, List, ◌∷◌, Bool, true, false, ◌&&◌, if◌then◌else◌, codes, Option, Some}
-use Rattle.std.proofs.Common.{None, option_and_then, Result, Err, bytes_eq, refl, sym, ◌∙◌}
+use Rattle.std.proofs.Common.{None, option_and_then, Result, Ok, Err, bytes_eq, refl, sym, ap, ◌∙◌}
 use Rattle.rc_types.specs.declared.messages.Message.{Message}
-use Rattle.serde_json.specs.Data.{Data, object, Members, put}
+use Rattle.serde_json.specs.Data.{Data, null, boolean, number, string, array, object, Members, put}
 use Rattle.serde_json.specs.Find.{get}
-use Rattle.rc_reading.specs.All.{is_one_of, field, whole, list_of}
+use Rattle.rc_reading.specs.All.{is_one_of, each, field, if_object, list_of, takes_placed, whole}
 use Rattle.rc_reading.proofs.Puts.{field_put, only_put, by_names}
+use Rattle.rc_reading.proofs.Each.{each_placed}
 use Rattle.rc_traces.specs.declared.whole.Top.{Top}
 use Rattle.rc_traces.specs.Names.{trace_members}
-use Rattle.rc_traces.specs.Trace.{messages_of, is_trace, listed_messages, trace_of}
+use Rattle.rc_traces.specs.Trace.{message_of, is_trace, listed_messages, trace_of}
 use Rattle.rc_traces.specs.Whole.{top_named, top_noted, top_of, messages_list, messages_in, trace_by}
 
 -- the same, by the texts of the names
@@ -44,14 +45,27 @@ as_messages : (o : Option Data) → messages_in (option_and_then messages_list o
 as_messages None = refl
 as_messages (Some d) = of_list (list_of d)
   where
-    of_list : (o : Option (List Data)) → messages_in (option_and_then (λ ds. Some (messages_of 2 ds)) o) ≡ listed_messages o
+    of_list : (o : Option (List Data)) → messages_in (option_and_then (each (takes_placed message_of) (Ok [])) o) ≡ listed_messages o
     of_list None = refl
-    of_list (Some ds) = refl
+    of_list (Some ds) = ap messages_in (each_placed message_of ds)
 
 by_test : (b : Bool) (one other : Result (List Message) ℕ) → one ≡ other → (if b then one else Err 1) ≡ (if b then other else Err 1)
 by_test true one other same = same
 by_test false one other same = refl
 
-pub trace_of_top : (d : Data) → trace_of d ≡ trace_by (top_of d)
-trace_of_top d = by_test (is_trace d) (listed_messages (field (codes "messages") list_of d))
+of_object : (d : Data) → trace_of d ≡ trace_by (top_of d)
+of_object d = by_test (is_trace d) (listed_messages (field (codes "messages") list_of d))
     (messages_in (field (codes "messages") messages_list d)) (sym (as_messages (get (codes "messages") d)))
+
+abbrev pub trace_if : Option Top → Result (List Message) ℕ
+trace_if None = Err 1
+trace_if (Some top) = trace_by top
+
+-- the messages that an object's members say
+pub trace_found : (d : Data) → trace_of d ≡ trace_if (if_object top_of d)
+trace_found null = refl
+trace_found (boolean b) = refl
+trace_found (number n) = refl
+trace_found (string s) = refl
+trace_found (array ds) = refl
+trace_found (object ms) = of_object (object ms)

@@ -1,5 +1,5 @@
 -- Entries and rows, an item at a time.
-use Rattle.std.specs.Prelude.{nat_eq, if◌then◌else◌, Option, None}
+use Rattle.std.specs.Prelude.{nat_eq, if◌then◌else◌, Option, Some, None}
 use Rattle.rc_types.specs.declared.entries.Entry.{Entry}
 use Rattle.rc_types.specs.declared.rows.PlanRow.{PlanRow}
 use Rattle.serde_json.specs.Data.{Data}
@@ -22,6 +22,9 @@ entry_part parts d =
     else (if nat_eq parts.count 4 then record parts { count = 5; value = value_of d }
     else record parts { count = 6 }))))
 
+abbrev pub takes_entry_part : EntryParts → Data → Option EntryParts
+takes_entry_part parts d = Some (entry_part parts d)
+
 -- the entry that five items say
 abbrev pub entry_made : EntryParts → Option Entry
 entry_made parts = if nat_eq parts.count 5 then given5 entry_with parts.term parts.table parts.key parts.version
@@ -37,6 +40,9 @@ row_part parts d =
     else (if nat_eq parts.count 1 then record parts { count = 2; holder = id_of d }
     else (if nat_eq parts.count 2 then record parts { count = 3; len = number_of d }
     else record parts { count = 4 }))
+
+abbrev pub takes_row_part : RowParts → Data → Option RowParts
+takes_row_part parts d = Some (row_part parts d)
 
 -- the row that three items say
 abbrev pub row_made : RowParts → Option PlanRow

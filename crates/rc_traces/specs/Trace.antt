@@ -1,7 +1,7 @@
 -- What a JSON value says as a trace: messages of five kinds, of which it carries what a judge asks. The rest is 0,
 -- empty or false.
-use Rattle.std.specs.Prelude.{ℕ, ◌+◌, Bool, false, ◌&&◌, is_some, if◌then◌else◌, List, [], ◌∷◌, ◌++◌, Option, Some}
-use Rattle.std.specs.Prelude.{None, option_map, option_and_then, Result, Ok, Err, codes}
+use Rattle.std.specs.Prelude.{ℕ, Bool, false, ◌&&◌, is_some, if◌then◌else◌, List, [], ◌∷◌, ◌++◌, Option, Some}
+use Rattle.std.specs.Prelude.{None, option_map, option_and_then, Result, Err, codes}
 use Rattle.rc_types.specs.declared.ids.ServerId.{ServerId}
 use Rattle.rc_types.specs.declared.ids.Addr.{Addr}
 use Rattle.rc_types.specs.declared.ids.Addr.TheVariants.{Server, Coordinator, Outside}
@@ -13,6 +13,7 @@ use Rattle.serde_json.specs.Data.{Data}
 use Rattle.serde_json.specs.Find.{as_str}
 use Rattle.rc_reading.specs.Values.{has_only, only, field, given3, given4, whole, list_of, list_from, id_of}
 use Rattle.rc_reading.specs.Values.{table_of, key_of}
+use Rattle.rc_reading.specs.Lists.{all_said}
 use Rattle.serde_json.specs.Read.{read}
 use Rattle.rc_reading.specs.Scenario.{value_in}
 use Rattle.rc_traces.specs.declared.names.MessageName.{MessageName}
@@ -123,16 +124,9 @@ message_of d = option_and_then (λ name. message_by name d) (field (codes "m") m
 
 -- The trace, or the place that is wrong
 
--- the least message that is wrong counts
-abbrev pub one_message_more : ℕ → Option Message → Result (List Message) ℕ → Result (List Message) ℕ
-one_message_more place None rest = Err place
-one_message_more place (Some message) (Ok messages) = Ok (message ∷ messages)
-one_message_more place (Some message) (Err later) = Err later
-
--- the messages, of which the first has this place
+-- the messages, of which the first has this place; the least that is wrong counts
 abbrev pub messages_of : ℕ → List Data → Result (List Message) ℕ
-messages_of place [] = Ok []
-messages_of place (d ∷ ds) = one_message_more place (message_of d) (messages_of (place + 1) ds)
+messages_of = all_said message_of
 
 -- an object with no other members than a trace's, which says that the format is the first
 abbrev pub is_trace : Data → Bool

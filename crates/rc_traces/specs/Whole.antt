@@ -1,24 +1,19 @@
 -- What the members of a trace say, a member at a time, and a message at a time.
-use Rattle.std.specs.Prelude.{ℕ, ◌+◌, false, ◌&&◌, is_some, if◌then◌else◌, List, [], ◌∷◌, ◌++◌, length, Option}
-use Rattle.std.specs.Prelude.{Some, None, option_and_then, Result, Ok, Err, codes}
+use Rattle.std.specs.Prelude.{ℕ, false, ◌&&◌, is_some, if◌then◌else◌, List, [], Option}
+use Rattle.std.specs.Prelude.{Some, None, Result, Ok, Err, codes}
 use Rattle.std.specs.Str.{bytes_eq}
 use Rattle.rc_types.specs.declared.messages.Message.{Message}
 use Rattle.serde_json.specs.Data.{Data}
 use Rattle.rc_traces.specs.declared.whole.TopName.{TopName}
 use Rattle.rc_traces.specs.declared.whole.TopName.TheVariants.{Format, Messages}
 use Rattle.rc_traces.specs.declared.whole.Top.{Top}
-use Rattle.rc_reading.specs.Values.{has_only, field, whole, list_of}
+use Rattle.rc_reading.specs.Values.{has_only, field, whole, list_from}
+use Rattle.rc_reading.specs.Lists.{takes_placed}
 use Rattle.rc_traces.specs.Names.{trace_members}
-use Rattle.rc_traces.specs.Trace.{messages_of}
-
--- one more message, or nothing for a wrong one; the first message has place 2
-abbrev pub message_added : Result (List Message) ℕ → Option Message → Result (List Message) ℕ
-message_added (Err place) message = Err place
-message_added (Ok messages) None = Err (2 + length messages)
-message_added (Ok messages) (Some message) = Ok (messages ++ message ∷ [])
+use Rattle.rc_traces.specs.Trace.{message_of}
 
 abbrev pub messages_list : Data → Option (Result (List Message) ℕ)
-messages_list d = option_and_then (λ ds. Some (messages_of 2 ds)) (list_of d)
+messages_list = list_from (takes_placed message_of) (Ok [])
 
 abbrev pub top_named : List ℕ → Option TopName
 top_named text =

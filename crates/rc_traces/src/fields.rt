@@ -1,7 +1,7 @@
 //! What the members of a message say, a member at a time.
 
 ghost use Rattle.std.specs.Prelude.{◌≡◌, ◌<◌, ℕ, length, Some, None, Err, IfOk, OnOk, OnErr};
-ghost use Rattle.rc_traces.specs.declared.faults.TraceFault.TheVariants.{BadTrace};
+ghost use Rattle.rc_reading.specs.declared.faults.ReadFault.TheVariants.{BadInput};
 ghost use Rattle.serde_json.specs.Data.{object, no_members};
 ghost use Rattle.rc_traces.specs.Fields.{member_named, all_messages, no_message, narrowed, noted, fields_of, allowed};
 ghost use Rattle.rc_traces.specs.Fields.{needed, message_in};
@@ -11,12 +11,14 @@ ghost use Rattle.rc_traces.specs.Values.{given7};
 ghost use Rattle.rc_reading.specs.Values.{given3, given4};
 ghost use Rattle.rc_reading.specs.Ahead.{data_at, members_at, says, told};
 
-use crate::faults::TraceFault;
-use crate::lists::{entries, rows};
+use crate::lists::{EntryParts, RowParts};
 use crate::names::MessageName;
 use crate::values::{key, number, seg, table};
 use json::{Invalid, Reader};
-use rc_reading::tokens::{opens_object, pass, simple};
+use rc_reading::ReadFault;
+use rc_reading::lists::{Said, read_list};
+use rc_reading::objects::{Object, read_object};
+use rc_reading::tokens::{pass, simple};
 use rc_reading::wanted::id;
 use rc_types::{Addr, Body, Entry, Message, PlanRow, Seq, ServerId, Shared};
 use std::alloc::Global;
@@ -194,10 +196,12 @@ fn name(reader: &mut Reader<'_>, depth: usize) -> Result<Option<MessageName>, In
     Ok(MessageName::named(text))
 }
 
-impl Fields {
-    fn new() -> Fields
-        ensures { result ≡ fields_of (object no_members) }
-    {
+impl Object for Fields {
+    ghost of = { fields_of };
+
+    ghost noted = { λ k. noted (member_named k) };
+
+    fn none(_alloc: Global) -> Fields {
         Fields {
             only: Only::all(),
             name: None,
@@ -219,32 +223,35 @@ impl Fields {
         }
     }
 
-    /// Takes the value of one more member.
     fn take(
         &mut self,
         alloc: Global,
-        member: Option<MemberName>,
+        member: &str,
         reader: &mut Reader<'_>,
         depth: usize,
-    ) -> Result<(), TraceFault>
-        ensures ok { OnOk result (says (λ d. noted member d self.old) depth reader.old ≡ Some (self.new, reader.new)) }
-        ensures shorter { OnOk result (length reader.new < length reader.old) }
-        ensures bad { (place : ℕ) → result ≡ Err (BadTrace place) → (place ≡ 0) × (data_at depth reader.old ≡ None) }
-    {
+    ) -> Result<(), ReadFault> {
+        let member = MemberName::named(member);
         self.only = self.only.narrowed(member);
         match member {
             Some(MemberName::Name) => self.name = name(reader, depth)?,
             Some(MemberName::From) => self.from = id(reader, depth)?,
             Some(MemberName::Seg) => self.seg = seg(reader, depth)?,
             Some(MemberName::Offset) => self.offset = number(reader, depth)?,
-            Some(MemberName::Entries) => self.entries = entries(alloc, reader, depth)?,
+            Some(MemberName::Entries) => {
+                self.entries = read_list::<EntryParts, _>(Seq::new(alloc), alloc, reader, depth)?;
+            }
             Some(MemberName::Term) => self.term = number(reader, depth)?,
             Some(MemberName::Table) => self.table = table(reader, depth)?,
             Some(MemberName::Key) => self.key = key(reader, depth)?,
             Some(MemberName::Version) => self.version = key(reader, depth)?,
             Some(MemberName::Attempt) => self.attempt = number(reader, depth)?,
             Some(MemberName::Master) => self.master = id(reader, depth)?,
-            Some(MemberName::Rows) => self.rows = rows(alloc, reader, depth)?,
+            Some(MemberName::Rows) => self.rows = read_list::<RowParts, _>(
+                Seq::new(alloc),
+                alloc,
+                reader,
+                depth,
+            )?,
             Some(MemberName::To) => self.to = id(reader, depth)?,
             Some(MemberName::Lo) => self.lo = key(reader, depth)?,
             Some(MemberName::Hi) => self.hi = key(reader, depth)?,
@@ -253,7 +260,9 @@ impl Fields {
         }
         Ok(())
     }
+}
 
+impl Fields {
     /// The message of this name, where the members that it needs say something.
     fn needed(self, alloc: Global, name: MessageName) -> Option<Message>
         ensures { result ≡ needed name self }
@@ -410,38 +419,16 @@ fn own(
     })
 }
 
-/// The members of a message, up to the end of its object.
-fn message_members(
-    alloc: Global,
-    reader: &mut Reader<'_>,
-    depth: usize,
-) -> Result<Fields, TraceFault>
-    ensures ok { IfOk result (λ fields. told (λ ms. fields_of (object ms)) (members_at no_members depth reader.old) ≡
-        Some (fields, reader.new)) }
-    ensures shorter { OnOk result (length reader.new < length reader.old) }
-    ensures bad { (place : ℕ) → result ≡ Err (BadTrace place) →
-        (place ≡ 0) × (members_at no_members depth reader.old ≡ None) }
-{
-    let mut fields = Fields::new();
-    'members: while let Some(name) = reader.next_key()? {
-        fields.take(alloc, MemberName::named(name), reader, depth)?;
-    }
-    Ok(fields)
-}
+/// One message of a trace.
+impl Said<Message> for Fields {
+    ghost said = { message_of };
 
-/// One message of a trace; nothing, where the value is another.
-pub(crate) fn message(
-    alloc: Global,
-    reader: &mut Reader<'_>,
-    depth: usize,
-) -> Result<Option<Message>, TraceFault>
-    ensures ok { IfOk result (λ message. says message_of depth reader.old ≡ Some (message, reader.new)) }
-    ensures shorter { OnOk result (length reader.new < length reader.old) }
-    ensures bad { (place : ℕ) → result ≡ Err (BadTrace place) → (place ≡ 0) × (data_at depth reader.old ≡ None) }
-{
-    if !opens_object(reader, depth)? {
-        return Ok(None);
+    fn read(
+        alloc: Global,
+        reader: &mut Reader<'_>,
+        depth: usize,
+    ) -> Result<Option<Message>, ReadFault> {
+        let fields: Option<Fields> = read_object(alloc, reader, depth)?;
+        Ok(fields.and_then(|fields| fields.message(alloc)))
     }
-    let fields = message_members(alloc, reader, depth - 1)?;
-    Ok(fields.message(alloc))
 }

@@ -2,7 +2,6 @@
 //! members.
 #![tactic(auto)]
 
-mod faults;
 mod fields;
 pub mod limits;
 mod lists;
@@ -12,6 +11,5 @@ mod values;
 mod whole;
 mod writing;
 
-pub use faults::TraceFault;
 pub use reading::read_trace;
 pub use writing::write_trace;

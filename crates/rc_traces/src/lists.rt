@@ -1,21 +1,18 @@
-//! The entries and rows that a message of a trace carries, read an item at a time. Once an item is wrong, the later
-//! ones are passed and nothing is kept.
+//! The entries and rows that a message of a trace carries, read an item at a time.
 
-ghost use Rattle.std.specs.Prelude.{◌≡◌, ◌<◌, ℕ, [], length, Some, None, Err, IfOk, OnOk, OnErr};
-ghost use Rattle.rc_traces.specs.declared.faults.TraceFault.TheVariants.{BadTrace};
-ghost use Rattle.rc_traces.specs.Trace.{entry_in, entry_of, take_entry, entries_of, row_in, row_of, take_row, rows_of};
-ghost use Rattle.rc_traces.specs.Parts.{entry_part, no_entry_parts, entry_made, row_part, no_row_parts, row_made};
-ghost use Rattle.rc_reading.specs.Lists.{added, at_end};
-ghost use Rattle.rc_reading.specs.Values.{listed};
-ghost use Rattle.rc_reading.specs.Ahead.{data_at, items_at, says, told, folds};
+ghost use Rattle.std.specs.Prelude.{◌≡◌};
+ghost use Rattle.rc_traces.specs.Trace.{entry_of, row_of};
+ghost use Rattle.rc_traces.specs.Parts.{takes_entry_part, no_entry_parts, entry_made};
+ghost use Rattle.rc_traces.specs.Parts.{takes_row_part, no_row_parts, row_made};
 
-use crate::faults::TraceFault;
 use crate::values::{entry_value, key, number, seg, table};
-use json::{Invalid, Reader};
-use rc_reading::tokens::{begin, pass};
+use json::Reader;
+use rc_reading::ReadFault;
+use rc_reading::lists::{Items, Said, read_list};
+use rc_reading::tokens::pass;
 use rc_reading::wanted::id;
-use rc_types::{Entry, PlanRow, Seq, ServerId, Shared};
-use std::alloc::{AllocError, Global};
+use rc_types::{Entry, PlanRow, ServerId, Shared};
+use std::alloc::Global;
 
 /// What the items of an entry say so far.
 #[derive(Drop)]
@@ -43,46 +40,6 @@ impl EntryParts {
         }
     }
 
-    /// Takes one more item.
-    fn take(
-        &mut self,
-        alloc: Global,
-        reader: &mut Reader<'_>,
-        depth: usize,
-    ) -> Result<(), TraceFault>
-        ensures ok { OnOk result (says (entry_part self.old) depth reader.old ≡ Some (self.new, reader.new)) }
-        ensures shorter { OnOk result (length reader.new < length reader.old) }
-        ensures bad { (place : ℕ) → result ≡ Err (BadTrace place) → (place ≡ 0) × (data_at depth reader.old ≡ None) }
-    {
-        match self.count {
-            0 => {
-                self.count = 1;
-                self.term = number(reader, depth)?;
-            }
-            1 => {
-                self.count = 2;
-                self.table = table(reader, depth)?;
-            }
-            2 => {
-                self.count = 3;
-                self.key = key(reader, depth)?;
-            }
-            3 => {
-                self.count = 4;
-                self.version = key(reader, depth)?;
-            }
-            4 => {
-                self.count = 5;
-                self.value = entry_value(alloc, reader, depth)?;
-            }
-            _ => {
-                self.count = 6;
-                pass(reader, depth)?;
-            }
-        }
-        Ok(())
-    }
-
     /// The entry that the items say: a term, a table, a key, a version and a value.
     fn entry(self) -> Option<Entry>
         ensures { result ≡ entry_made self }
@@ -100,83 +57,59 @@ impl EntryParts {
     }
 }
 
-/// The items of an entry, up to the end of their list.
-fn entry_items(
-    alloc: Global,
-    reader: &mut Reader<'_>,
-    depth: usize,
-) -> Result<Option<Entry>, TraceFault>
-    ensures ok { IfOk result (λ entry. told (λ ds. entry_in (listed ds)) (items_at depth reader.old) ≡ Some
-        (entry, reader.new)) }
-    ensures shorter { OnOk result (length reader.new < length reader.old) }
-    ensures bad { (place : ℕ) → result ≡ Err (BadTrace place) → (place ≡ 0) × (items_at depth reader.old ≡ None) }
-{
-    let mut parts = EntryParts::none();
-    'items: while !reader.take_end_array() {
-        parts.take(alloc, reader, depth)?;
+impl Items<EntryParts> for EntryParts {
+    ghost takes = { takes_entry_part };
+
+    fn take(
+        so_far: &mut Option<EntryParts>,
+        alloc: Global,
+        reader: &mut Reader<'_>,
+        depth: usize,
+    ) -> Result<(), ReadFault> {
+        let Some(parts) = so_far else {
+            return Ok(pass(reader, depth)?);
+        };
+        match parts.count {
+            0 => {
+                parts.count = 1;
+                parts.term = number(reader, depth)?;
+            }
+            1 => {
+                parts.count = 2;
+                parts.table = table(reader, depth)?;
+            }
+            2 => {
+                parts.count = 3;
+                parts.key = key(reader, depth)?;
+            }
+            3 => {
+                parts.count = 4;
+                parts.version = key(reader, depth)?;
+            }
+            4 => {
+                parts.count = 5;
+                parts.value = entry_value(alloc, reader, depth)?;
+            }
+            _ => {
+                parts.count = 6;
+                pass(reader, depth)?;
+            }
+        }
+        Ok(())
     }
-    Ok(parts.entry())
 }
 
 /// One entry.
-fn entry(alloc: Global, reader: &mut Reader<'_>, depth: usize) -> Result<Option<Entry>, TraceFault>
-    ensures ok { IfOk result (λ entry. says entry_of depth reader.old ≡ Some (entry, reader.new)) }
-    ensures shorter { OnOk result (length reader.new < length reader.old) }
-    ensures bad { (place : ℕ) → result ≡ Err (BadTrace place) → (place ≡ 0) × (data_at depth reader.old ≡ None) }
-{
-    match begin(reader, depth)? {
-        Some(_) => Ok(None),
-        None => entry_items(alloc, reader, depth - 1),
-    }
-}
+impl Said<Entry> for EntryParts {
+    ghost said = { entry_of };
 
-fn with_entry(
-    entries: Option<Seq<Entry>>,
-    entry: Option<Entry>,
-) -> Result<Option<Seq<Entry>>, AllocError>
-    ensures { IfOk result (λ all. all ≡ added at_end entries entry) }
-{
-    match (entries, entry) {
-        (Some(entries), Some(entry)) => {
-            let mut entries = entries.into_vec();
-            entries.push(entry)?;
-            Ok(Some(Seq::from_vec(entries)))
-        }
-        _ => Ok(None),
-    }
-}
-
-/// The entries of a list, up to its end.
-fn entries_items(
-    alloc: Global,
-    reader: &mut Reader<'_>,
-    depth: usize,
-) -> Result<Option<Seq<Entry>>, TraceFault>
-    ensures ok { IfOk result (λ entries. folds take_entry (Some []) depth reader.old ≡ Some (entries, reader.new)) }
-    ensures shorter { OnOk result (length reader.new < length reader.old) }
-    ensures bad { (place : ℕ) → result ≡ Err (BadTrace place) → (place ≡ 0) × (items_at depth reader.old ≡ None) }
-{
-    let mut entries = Some(Seq::new(alloc));
-    'items: while !reader.take_end_array() {
-        let entry = entry(alloc, reader, depth)?;
-        entries = with_entry(entries, entry)?;
-    }
-    Ok(entries)
-}
-
-/// A list of entries.
-pub(crate) fn entries(
-    alloc: Global,
-    reader: &mut Reader<'_>,
-    depth: usize,
-) -> Result<Option<Seq<Entry>>, TraceFault>
-    ensures ok { IfOk result (λ entries. says entries_of depth reader.old ≡ Some (entries, reader.new)) }
-    ensures shorter { OnOk result (length reader.new < length reader.old) }
-    ensures bad { (place : ℕ) → result ≡ Err (BadTrace place) → (place ≡ 0) × (data_at depth reader.old ≡ None) }
-{
-    match begin(reader, depth)? {
-        Some(_) => Ok(None),
-        None => entries_items(alloc, reader, depth - 1),
+    fn read(
+        alloc: Global,
+        reader: &mut Reader<'_>,
+        depth: usize,
+    ) -> Result<Option<Entry>, ReadFault> {
+        let parts = read_list::<EntryParts, _>(EntryParts::none(), alloc, reader, depth)?;
+        Ok(parts.and_then(EntryParts::entry))
     }
 }
 
@@ -202,33 +135,6 @@ impl RowParts {
         }
     }
 
-    /// Takes one more item.
-    fn take(&mut self, reader: &mut Reader<'_>, depth: usize) -> Result<(), Invalid>
-        ensures ok { OnOk result (says (row_part self.old) depth reader.old ≡ Some (self.new, reader.new)) }
-        ensures shorter { OnOk result (length reader.new < length reader.old) }
-        ensures err { OnErr result (data_at depth reader.old ≡ None) }
-    {
-        match self.count {
-            0 => {
-                self.count = 1;
-                self.seg = seg(reader, depth)?;
-            }
-            1 => {
-                self.count = 2;
-                self.holder = id(reader, depth)?;
-            }
-            2 => {
-                self.count = 3;
-                self.len = number(reader, depth)?;
-            }
-            _ => {
-                self.count = 4;
-                pass(reader, depth)?;
-            }
-        }
-        Ok(())
-    }
-
     /// The row that the items say: a segment, the id that holds it, and a length.
     fn row(self) -> Option<PlanRow>
         ensures { result ≡ row_made self }
@@ -244,78 +150,50 @@ impl RowParts {
     }
 }
 
-/// The items of a row, up to the end of their list.
-fn row_items(reader: &mut Reader<'_>, depth: usize) -> Result<Option<PlanRow>, Invalid>
-    ensures ok { IfOk result (λ row. told (λ ds. row_in (listed ds)) (items_at depth reader.old) ≡ Some
-        (row, reader.new)) }
-    ensures shorter { OnOk result (length reader.new < length reader.old) }
-    ensures err { OnErr result (items_at depth reader.old ≡ None) }
-{
-    let mut parts = RowParts::none();
-    'items: while !reader.take_end_array() {
-        parts.take(reader, depth)?;
+impl Items<RowParts> for RowParts {
+    ghost takes = { takes_row_part };
+
+    fn take(
+        so_far: &mut Option<RowParts>,
+        _alloc: Global,
+        reader: &mut Reader<'_>,
+        depth: usize,
+    ) -> Result<(), ReadFault> {
+        let Some(parts) = so_far else {
+            return Ok(pass(reader, depth)?);
+        };
+        match parts.count {
+            0 => {
+                parts.count = 1;
+                parts.seg = seg(reader, depth)?;
+            }
+            1 => {
+                parts.count = 2;
+                parts.holder = id(reader, depth)?;
+            }
+            2 => {
+                parts.count = 3;
+                parts.len = number(reader, depth)?;
+            }
+            _ => {
+                parts.count = 4;
+                pass(reader, depth)?;
+            }
+        }
+        Ok(())
     }
-    Ok(parts.row())
 }
 
 /// One row.
-fn row(reader: &mut Reader<'_>, depth: usize) -> Result<Option<PlanRow>, Invalid>
-    ensures ok { IfOk result (λ row. says row_of depth reader.old ≡ Some (row, reader.new)) }
-    ensures shorter { OnOk result (length reader.new < length reader.old) }
-    ensures err { OnErr result (data_at depth reader.old ≡ None) }
-{
-    match begin(reader, depth)? {
-        Some(_) => Ok(None),
-        None => row_items(reader, depth - 1),
-    }
-}
+impl Said<PlanRow> for RowParts {
+    ghost said = { row_of };
 
-fn with_row(
-    rows: Option<Seq<PlanRow>>,
-    row: Option<PlanRow>,
-) -> Result<Option<Seq<PlanRow>>, AllocError>
-    ensures { IfOk result (λ all. all ≡ added at_end rows row) }
-{
-    match (rows, row) {
-        (Some(rows), Some(row)) => {
-            let mut rows = rows.into_vec();
-            rows.push(row)?;
-            Ok(Some(Seq::from_vec(rows)))
-        }
-        _ => Ok(None),
-    }
-}
-
-/// The rows of a list, up to its end.
-fn rows_items(
-    alloc: Global,
-    reader: &mut Reader<'_>,
-    depth: usize,
-) -> Result<Option<Seq<PlanRow>>, TraceFault>
-    ensures ok { IfOk result (λ rows. folds take_row (Some []) depth reader.old ≡ Some (rows, reader.new)) }
-    ensures shorter { OnOk result (length reader.new < length reader.old) }
-    ensures bad { (place : ℕ) → result ≡ Err (BadTrace place) → (place ≡ 0) × (items_at depth reader.old ≡ None) }
-{
-    let mut rows = Some(Seq::new(alloc));
-    'items: while !reader.take_end_array() {
-        let row = row(reader, depth)?;
-        rows = with_row(rows, row)?;
-    }
-    Ok(rows)
-}
-
-/// A list of rows.
-pub(crate) fn rows(
-    alloc: Global,
-    reader: &mut Reader<'_>,
-    depth: usize,
-) -> Result<Option<Seq<PlanRow>>, TraceFault>
-    ensures ok { IfOk result (λ rows. says rows_of depth reader.old ≡ Some (rows, reader.new)) }
-    ensures shorter { OnOk result (length reader.new < length reader.old) }
-    ensures bad { (place : ℕ) → result ≡ Err (BadTrace place) → (place ≡ 0) × (data_at depth reader.old ≡ None) }
-{
-    match begin(reader, depth)? {
-        Some(_) => Ok(None),
-        None => rows_items(alloc, reader, depth - 1),
+    fn read(
+        alloc: Global,
+        reader: &mut Reader<'_>,
+        depth: usize,
+    ) -> Result<Option<PlanRow>, ReadFault> {
+        let parts = read_list::<RowParts, _>(RowParts::none(), alloc, reader, depth)?;
+        Ok(parts.and_then(RowParts::row))
     }
 }

@@ -2,12 +2,12 @@
 //! kept. "Trace" in `docs/FORMATS.md` has the members.
 
 ghost use Rattle.std.specs.Prelude.{◌≡◌, ℕ, ◌<◌, length, Ok, Err, IfOk};
-ghost use Rattle.rc_traces.specs.declared.faults.TraceFault.TheVariants.{OutOfMemory, BadTrace};
+ghost use Rattle.rc_reading.specs.declared.faults.ReadFault.TheVariants.{OutOfMemory, BadInput};
 ghost use Rattle.rc_traces.specs.Trace.{of_text, reading};
 
-use crate::faults::TraceFault;
 use crate::whole::trace;
 use json::{Reader, Scratch};
+use rc_reading::ReadFault;
 use rc_reading::limits::MOST_BYTES;
 use rc_types::Message;
 use std::alloc::Global;
@@ -21,36 +21,36 @@ const MOST_DEPTH: usize = 127;
 ///
 /// F1 where memory was refused; nothing is then said of the bytes. F17 where they say no trace, with the
 /// least place that is wrong.
-pub fn read_trace(alloc: Global, bytes: &[u8]) -> Result<Vec<Message>, TraceFault>
+pub fn read_trace(alloc: Global, bytes: &[u8]) -> Result<Vec<Message>, ReadFault>
     ensures ok { IfOk result (λ messages. reading bytes.now ≡ Ok messages.items) }
-    ensures bad { (place : ℕ) → result ≡ Err (BadTrace place) → reading bytes.now ≡ Err place }
+    ensures bad { (place : ℕ) → result ≡ Err (BadInput place) → reading bytes.now ≡ Err place }
     ensures memory { result ≡ Err OutOfMemory → 0 < length bytes.now }
 {
     if bytes.is_empty() {
-        return Err(TraceFault::BadTrace(0));
+        return Err(ReadFault::BadInput(0));
     }
     if bytes.len() > MOST_BYTES {
-        return Err(TraceFault::BadTrace(0));
+        return Err(ReadFault::BadInput(0));
     }
     match std::str::from_utf8(bytes) {
         Ok(text) => read_text(alloc, text),
-        Err(_) => Err(TraceFault::BadTrace(0)),
+        Err(_) => Err(ReadFault::BadInput(0)),
     }
 }
 
 /// The messages that the text says.
-fn read_text(alloc: Global, text: &str) -> Result<Vec<Message>, TraceFault>
+fn read_text(alloc: Global, text: &str) -> Result<Vec<Message>, ReadFault>
     ensures ok { IfOk result (λ messages. of_text text.now ≡ Ok messages.items) }
-    ensures bad { (place : ℕ) → result ≡ Err (BadTrace place) → of_text text.now ≡ Err place }
+    ensures bad { (place : ℕ) → result ≡ Err (BadInput place) → of_text text.now ≡ Err place }
 {
     let mut scratch = Scratch::new(alloc);
     let mut reader = Reader::new(text, &mut scratch)?;
     let messages = trace(alloc, &mut reader, MOST_DEPTH)?;
     if let Some(_) = reader.next() {
-        return Err(TraceFault::BadTrace(0));
+        return Err(ReadFault::BadInput(0));
     }
     match messages {
         Ok(messages) => Ok(messages.into_vec()),
-        Err(place) => Err(TraceFault::BadTrace(place)),
+        Err(place) => Err(ReadFault::BadInput(place)),
     }
 }

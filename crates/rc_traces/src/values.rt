@@ -3,19 +3,18 @@
 
 ghost use Rattle.std.specs.Prelude.{◌≡◌, ◌<◌, ℕ, length, Some, None, Err, IfOk, IfErr, OnOk, OnErr};
 ghost use Rattle.std.specs.List.{list_any};
-ghost use Rattle.rc_traces.specs.declared.faults.TraceFault.TheVariants.{OutOfMemory, BadTrace};
+ghost use Rattle.rc_reading.specs.declared.faults.ReadFault.TheVariants.{OutOfMemory, BadInput};
 ghost use Rattle.rc_traces.specs.Values.{seg_of, number_of, is_upper, bytes_of, value_of, value_in};
 ghost use Rattle.rc_reading.specs.Ahead.{data_at, says};
 ghost use Rattle.rc_reading.specs.Said.{shown};
 ghost use Rattle.rc_reading.specs.Values.{table_of, key_of};
 
-use crate::faults::TraceFault;
 use crate::limits::LAST_NUMBER;
 use hex::FromHexError;
 use json::{Invalid, Reader};
 use rc_reading::simple::Simple;
 use rc_reading::tokens::simple;
-use rc_reading::wanted;
+use rc_reading::{ReadFault, wanted};
 use rc_types::Shared;
 use rc_types::limits::{LAST_KEY, LAST_SEGMENT};
 use std::alloc::Global;
@@ -68,7 +67,7 @@ fn has_upper(text: &[u8]) -> bool
 }
 
 /// The bytes that a text in lower-case hexadecimal says.
-fn bytes(alloc: Global, text: &str) -> Result<Option<Shared<u8>>, TraceFault>
+fn bytes(alloc: Global, text: &str) -> Result<Option<Shared<u8>>, ReadFault>
     ensures ok { IfOk result (λ bytes. bytes ≡ bytes_of text.now) }
     ensures err { IfErr result (λ e. e ≡ OutOfMemory) }
 {
@@ -77,13 +76,13 @@ fn bytes(alloc: Global, text: &str) -> Result<Option<Shared<u8>>, TraceFault>
     }
     match hex::decode(alloc, text) {
         Ok(bytes) => Ok(Some(Shared::from_vec(alloc, bytes)?)),
-        Err(FromHexError::OutOfMemory) => Err(TraceFault::OutOfMemory),
+        Err(FromHexError::OutOfMemory) => Err(ReadFault::OutOfMemory),
         Err(_) => Ok(None),
     }
 }
 
 /// What is said of an entry's value: its bytes, or nothing for a deletion.
-fn value_in(alloc: Global, said: Simple<'_>) -> Result<Option<Option<Shared<u8>>>, TraceFault>
+fn value_in(alloc: Global, said: Simple<'_>) -> Result<Option<Option<Shared<u8>>>, ReadFault>
     ensures ok { IfOk result (λ value. value ≡ value_in (shown said.entry)) }
     ensures err { IfErr result (λ e. e ≡ OutOfMemory) }
 {
@@ -102,10 +101,10 @@ pub(crate) fn entry_value(
     alloc: Global,
     reader: &mut Reader<'_>,
     depth: usize,
-) -> Result<Option<Option<Shared<u8>>>, TraceFault>
+) -> Result<Option<Option<Shared<u8>>>, ReadFault>
     ensures ok { IfOk result (λ value. says value_of depth reader.old ≡ Some (value, reader.new)) }
     ensures shorter { OnOk result (length reader.new < length reader.old) }
-    ensures bad { (place : ℕ) → result ≡ Err (BadTrace place) → (place ≡ 0) × (data_at depth reader.old ≡ None) }
+    ensures bad { (place : ℕ) → result ≡ Err (BadInput place) → (place ≡ 0) × (data_at depth reader.old ≡ None) }
 {
     let said = simple(reader, depth)?;
     let value = value_in(alloc, said)?;

@@ -1,78 +1,25 @@
 //! What the members of a trace say, a member at a time, and a message at a time.
 
 ghost use Rattle.std.specs.Prelude.{◌≡◌, ◌<◌, ℕ, length, Some, None, Err, IfOk, OnOk, OnErr};
-ghost use Rattle.rc_traces.specs.declared.faults.TraceFault.TheVariants.{BadTrace};
+ghost use Rattle.rc_reading.specs.declared.faults.ReadFault.TheVariants.{BadInput};
 ghost use Rattle.serde_json.specs.Data.{object, no_members};
-ghost use Rattle.rc_traces.specs.Trace.{messages_of, trace_of};
-ghost use Rattle.rc_traces.specs.Whole.{top_named, top_noted, top_of, message_added, messages_list, trace_by};
+ghost use Rattle.rc_traces.specs.Trace.{trace_of};
+ghost use Rattle.rc_traces.specs.Whole.{top_named, top_noted, top_of, trace_by};
 ghost use Rattle.rc_reading.specs.Values.{listed};
 ghost use Rattle.rc_reading.specs.Ahead.{data_at, items_at, members_at, says, told};
 
-use crate::faults::TraceFault;
-use crate::fields::message;
+use crate::fields::Fields;
 use json::Reader;
-use rc_reading::tokens::{begin, opens_object, pass};
+use rc_reading::ReadFault;
+use rc_reading::lists::read_list;
+use rc_reading::objects::{Object, read_object};
+use rc_reading::tokens::pass;
 use rc_reading::wanted::number;
 use rc_types::{Message, Seq};
-use std::alloc::{AllocError, Global};
+use std::alloc::Global;
 
 /// The messages that were read, or the place of the first that is wrong.
 type Messages = Result<Seq<Message>, usize>;
-
-/// One more message, or nothing for one that is wrong. The first message has place 2. Once one is wrong, none is
-/// kept.
-fn with_message(messages: Messages, message: Option<Message>) -> Result<Messages, AllocError>
-    ensures { IfOk result (λ all. all ≡ message_added messages message) }
-{
-    let messages = match messages {
-        Ok(messages) => messages,
-        Err(place) => return Ok(Err(place)),
-    };
-    let mut messages = messages.into_vec();
-    let Some(message) = message else {
-        return Ok(Err(2 + messages.len()));
-    };
-    messages.push(message)?;
-    Ok(Ok(Seq::from_vec(messages)))
-}
-
-/// The messages of a list, up to its end.
-fn message_items(
-    alloc: Global,
-    reader: &mut Reader<'_>,
-    depth: usize,
-) -> Result<Messages, TraceFault>
-    ensures ok { IfOk result (λ messages. told (λ ds. messages_of 2 (listed ds)) (items_at depth reader.old) ≡ Some
-        (messages, reader.new)) }
-    ensures shorter { OnOk result (length reader.new < length reader.old) }
-    ensures bad { (place : ℕ) → result ≡ Err (BadTrace place) → (place ≡ 0) × (items_at depth reader.old ≡ None) }
-{
-    let mut messages = Ok(Seq::new(alloc));
-    'items: while !reader.take_end_array() {
-        let message = message(alloc, reader, depth)?;
-        messages = with_message(messages, message)?;
-    }
-    Ok(messages)
-}
-
-/// A list of messages; nothing, where the value is another.
-fn messages(
-    alloc: Global,
-    reader: &mut Reader<'_>,
-    depth: usize,
-) -> Result<Option<Messages>, TraceFault>
-    ensures ok { IfOk result (λ messages. says messages_list depth reader.old ≡ Some (messages, reader.new)) }
-    ensures shorter { OnOk result (length reader.new < length reader.old) }
-    ensures bad { (place : ℕ) → result ≡ Err (BadTrace place) → (place ≡ 0) × (data_at depth reader.old ≡ None) }
-{
-    match begin(reader, depth)? {
-        Some(_) => Ok(None),
-        None => {
-            let messages = message_items(alloc, reader, depth - 1)?;
-            Ok(Some(messages))
-        }
-    }
-}
 
 /// A member of a trace.
 #[derive(Clone, Copy)]
@@ -103,10 +50,12 @@ pub(crate) struct Top {
     messages: Option<Messages>,
 }
 
-impl Top {
-    fn new() -> Top
-        ensures { result ≡ top_of (object no_members) }
-    {
+impl Object for Top {
+    ghost of = { top_of };
+
+    ghost noted = { λ k. top_noted (top_named k) };
+
+    fn none(_alloc: Global) -> Top {
         Top {
             only: true,
             format: None,
@@ -114,22 +63,18 @@ impl Top {
         }
     }
 
-    /// Takes the value of one more member.
     fn take(
         &mut self,
         alloc: Global,
-        name: Option<TopName>,
+        name: &str,
         reader: &mut Reader<'_>,
         depth: usize,
-    ) -> Result<(), TraceFault>
-        ensures ok { OnOk result (says (λ d. top_noted name d self.old) depth reader.old ≡ Some
-            (self.new, reader.new)) }
-        ensures shorter { OnOk result (length reader.new < length reader.old) }
-        ensures bad { (place : ℕ) → result ≡ Err (BadTrace place) → (place ≡ 0) × (data_at depth reader.old ≡ None) }
-    {
-        match name {
+    ) -> Result<(), ReadFault> {
+        match TopName::named(name) {
             Some(TopName::Format) => self.format = number(reader, depth, 1, 1)?,
-            Some(TopName::Messages) => self.messages = messages(alloc, reader, depth)?,
+            Some(TopName::Messages) => {
+                self.messages = read_list::<Fields, _>(Ok(Seq::new(alloc)), alloc, reader, depth)?;
+            }
             None => {
                 self.only = false;
                 pass(reader, depth)?;
@@ -137,7 +82,9 @@ impl Top {
         }
         Ok(())
     }
+}
 
+impl Top {
     /// The messages that the members say, or the place that is wrong.
     fn trace(self) -> Messages
         ensures { result ≡ trace_by self }
@@ -152,33 +99,15 @@ impl Top {
     }
 }
 
-/// The members of a trace, up to the end of its object.
-fn top_members(alloc: Global, reader: &mut Reader<'_>, depth: usize) -> Result<Top, TraceFault>
-    ensures ok { IfOk result (λ top. told (λ ms. top_of (object ms)) (members_at no_members depth reader.old) ≡ Some
-        (top, reader.new)) }
-    ensures shorter { OnOk result (length reader.new < length reader.old) }
-    ensures bad { (place : ℕ) → result ≡ Err (BadTrace place) →
-        (place ≡ 0) × (members_at no_members depth reader.old ≡ None) }
-{
-    let mut top = Top::new();
-    'members: while let Some(name) = reader.next_key()? {
-        top.take(alloc, TopName::named(name), reader, depth)?;
-    }
-    Ok(top)
-}
-
 /// The messages of the trace that the value that comes next is, or the place of it that is wrong.
 pub(crate) fn trace(
     alloc: Global,
     reader: &mut Reader<'_>,
     depth: usize,
-) -> Result<Messages, TraceFault>
+) -> Result<Messages, ReadFault>
     ensures ok { IfOk result (λ messages. says trace_of depth reader.old ≡ Some (messages, reader.new)) }
-    ensures bad { (place : ℕ) → result ≡ Err (BadTrace place) → (place ≡ 0) × (data_at depth reader.old ≡ None) }
+    ensures bad { (place : ℕ) → result ≡ Err (BadInput place) → (place ≡ 0) × (data_at depth reader.old ≡ None) }
 {
-    if !opens_object(reader, depth)? {
-        return Ok(Err(1));
-    }
-    let top = top_members(alloc, reader, depth - 1)?;
-    Ok(top.trace())
+    let top: Option<Top> = read_object(alloc, reader, depth)?;
+    Ok(top.map_or(Err(1), Top::trace))
 }
