@@ -1,5 +1,6 @@
 -- What the tokens to come say, as the reader of JSON hands them out.
-use Rattle.std.specs.Prelude.{ℕ, List, length, Option, option_map, option_and_then}
+use Rattle.std.specs.Prelude.{◌≡◌, ◌<◌, ℕ, List, length, Option, Some, None, option_map, option_and_then, Result}
+use Rattle.std.specs.Prelude.{MatchResult}
 use Rattle.json.specs.Token.{Token}
 use Rattle.json.specs.Json.{value, items, members}
 use Rattle.serde_json.specs.Data.{Data, Items, Members}
@@ -25,6 +26,12 @@ told f read = option_map (λ p. (f p.0, p.1)) read
 -- what the value that comes next says
 abbrev pub says : {A : Type 0} → (Data → A) → ℕ → List Token → Option (A × List Token)
 says f depth tokens = told f (data_at depth tokens)
+
+-- the value that comes next was read: it says this, and fewer tokens follow; or there is none
+abbrev pub IsRead : {A E : Type 0} → (Data → A) → ℕ → List Token → Result A E → List Token → Type 0
+IsRead f depth tokens result after =
+    MatchResult result (λ a. (says f depth tokens ≡ Some (a, after)) × (length after < length tokens))
+    (λ _. data_at depth tokens ≡ None)
 
 -- what each item to come, up to the end of the list, makes of what there is
 abbrev pub taken_from : {A : Type 0} → (A → Data → Option A) → Option A → Items → Option A

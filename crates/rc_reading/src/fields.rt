@@ -1,15 +1,14 @@
 //! What the members of an event say, a member at a time.
 
-ghost use Rattle.std.specs.Prelude.{◌≡◌, ◌<◌, ℕ, length, Some, None, Err, IfOk, OnOk, OnErr, option_map};
+ghost use Rattle.std.specs.Prelude.{◌≡◌, ◌<◌, ℕ, length, Some, None, Err, IfOk, OnOk, option_map};
 ghost use Rattle.rc_reading.specs.declared.faults.ReadFault.TheVariants.{BadInput};
-ghost use Rattle.serde_json.specs.Data.{object, no_members};
 ghost use Rattle.rc_types.specs.declared.events.Event.TheVariants.{Start, Deliver, Create, Split};
 ghost use Rattle.rc_reading.specs.declared.scenarios.ScenarioEvent.TheVariants.{Settle};
 ghost use Rattle.rc_reading.specs.Values.{written, table_of, message_of, given2, given3, given4};
 ghost use Rattle.rc_reading.specs.Scenario.{event_of, asks_write, asks_read};
 ghost use Rattle.rc_reading.specs.Fields.{member_named, narrowed, all_events, noted, fields_of, event_in, allowed};
 ghost use Rattle.rc_reading.specs.Fields.{server_in, needed, needed_core, no_event};
-ghost use Rattle.rc_reading.specs.Ahead.{data_at, members_at, says, told};
+ghost use Rattle.rc_reading.specs.Ahead.{IsRead, data_at, says};
 
 use crate::faults::ReadFault;
 use crate::hosts::Hosts;
@@ -183,9 +182,7 @@ pub(crate) struct Fields {
 
 /// A table's name.
 fn table(reader: &mut Reader<'_>, depth: usize) -> Result<Option<u32>, Invalid>
-    ensures ok { IfOk result (λ table. says table_of depth reader.old ≡ Some (table, reader.new)) }
-    ensures shorter { OnOk result (length reader.new < length reader.old) }
-    ensures err { OnErr result (data_at depth reader.old ≡ None) }
+    ensures { IsRead table_of depth reader.old result reader.new }
 {
     let table = number(reader, depth, 0, u64::from(LAST_TABLE))?;
     Ok(table.map(|table| table as u32))
@@ -193,9 +190,7 @@ fn table(reader: &mut Reader<'_>, depth: usize) -> Result<Option<u32>, Invalid>
 
 /// A message's number.
 fn message(reader: &mut Reader<'_>, depth: usize) -> Result<Option<u32>, Invalid>
-    ensures ok { IfOk result (λ n. says message_of depth reader.old ≡ Some (n, reader.new)) }
-    ensures shorter { OnOk result (length reader.new < length reader.old) }
-    ensures err { OnErr result (data_at depth reader.old ≡ None) }
+    ensures { IsRead message_of depth reader.old result reader.new }
 {
     let number = number(reader, depth, 0, u64::from(LAST_MESSAGE))?;
     Ok(number.map(|number| number as u32))

@@ -1,7 +1,5 @@
 //! Lists of exactly two items, an item at a time.
 
-ghost use Rattle.std.specs.Prelude.{◌≡◌};
-
 /// What the items of a list say so far, where two are wanted.
 #[derive(Clone, Copy, Drop)]
 pub(crate) enum Pair<A, B> {

@@ -11,9 +11,9 @@ use crate::kinds::Kinds;
 use crate::lists::{Items, Said, read_list};
 use crate::pairs::Pair;
 use crate::tokens::pass;
-use crate::wanted::{factor, host, kind, name_item};
+use crate::wanted::{factor, host, id, kind, number};
 use json::Reader;
-use rc_types::limits::MAX_HOSTS;
+use rc_types::limits::{LAST_SEGMENT, MAX_HOSTS};
 use rc_types::{Kind, Seq, ServerId};
 use std::alloc::{AllocError, Global};
 
@@ -99,10 +99,21 @@ impl Items<NameParts> for NameParts {
         reader: &mut Reader<'_>,
         depth: usize,
     ) -> Result<(), ReadFault> {
-        match *so_far {
-            Some(pair) => *so_far = Some(name_item(pair, reader, depth)?),
-            None => pass(reader, depth)?,
-        }
+        *so_far = match *so_far {
+            Some(Pair::Nothing) => Some(Pair::First(id(reader, depth)?)),
+            Some(Pair::First(master)) => {
+                let segment = number(reader, depth, 1, u64::from(LAST_SEGMENT))?;
+                Some(Pair::Both(master, segment.map(|segment| segment as u16)))
+            }
+            Some(Pair::Both(_, _) | Pair::More) => {
+                pass(reader, depth)?;
+                Some(Pair::More)
+            }
+            None => {
+                pass(reader, depth)?;
+                None
+            }
+        };
         Ok(())
     }
 }

@@ -1,20 +1,16 @@
 //! Values of JSON where a number, an id, a name or a list is wanted. Each function takes one value whole,
 //! and answers what it says, if it says such a thing; or fails where none stands.
 
-ghost use Rattle.std.specs.Prelude.{◌≡◌, ◌<◌, ◌≤◌, [], length, Some, None, IfOk, OnOk, OnErr, IfSome, option_map};
+ghost use Rattle.std.specs.Prelude.{◌≡◌, ◌<◌, ◌≤◌, length, Some, None, IfOk, OnOk, OnErr, IfSome};
 ghost use Rattle.std.specs.Prelude.{option_and_then};
 ghost use Rattle.rc_types.specs.declared.limits.TheConstants.{MAX_HOSTS, MAX_FACTOR, LAST_SEGMENT};
 ghost use Rattle.serde_json.specs.Find.{as_bool, as_str};
 ghost use Rattle.rc_reading.specs.declared.limits.TheConstants.{LAST_GENERATION};
-ghost use Rattle.rc_reading.specs.Values.{whole, host_of, id_in, id_of, addr_of, name_in, list_of, listed, kept_of};
-ghost use Rattle.rc_reading.specs.Values.{take_name, kinds_of, take_kind, hosts_of, take_host, factors_of};
-ghost use Rattle.rc_reading.specs.Values.{take_factor, factor_of, event_name};
+ghost use Rattle.rc_reading.specs.Values.{whole, host_of, id_in, id_of, addr_of, listed};
+ghost use Rattle.rc_reading.specs.Values.{factor_of, event_name};
 ghost use Rattle.rc_types.specs.Kinds.{kind_named};
-ghost use Rattle.rc_reading.specs.Kinds.{no_kinds};
-ghost use Rattle.rc_reading.specs.Hosts.{no_hosts};
-ghost use Rattle.rc_reading.specs.Pairs.{replica_name, both_in, server_id, id_item, name_item, generation_of};
-ghost use Rattle.rc_reading.specs.Pairs.{kept_segment_of};
-ghost use Rattle.rc_reading.specs.Ahead.{data_at, items_at, says, told, folds};
+ghost use Rattle.rc_reading.specs.Pairs.{both_in, server_id, id_item};
+ghost use Rattle.rc_reading.specs.Ahead.{IsRead, data_at, items_at, says, told};
 
 use crate::hosts::Hosts;
 use crate::kinds::Kinds;
@@ -33,29 +29,23 @@ pub fn number(
     low: u64,
     high: u64,
 ) -> Result<Option<u64>, Invalid>
-    ensures ok { IfOk result (λ n. says (whole low high) depth reader.old ≡ Some (n, reader.new)) }
+    ensures read { IsRead (whole low high) depth reader.old result reader.new }
     ensures in_range { IfOk result (λ o. IfSome o (λ n. (low ≤ n) × (n ≤ high))) }
-    ensures shorter { OnOk result (length reader.new < length reader.old) }
-    ensures err { OnErr result (data_at depth reader.old ≡ None) }
 {
     Ok(simple(reader, depth)?.number(low, high))
 }
 
 /// The index of a host.
 pub(crate) fn host(reader: &mut Reader<'_>, depth: usize) -> Result<Option<u8>, Invalid>
-    ensures ok { IfOk result (λ host. says host_of depth reader.old ≡ Some (host, reader.new)) }
+    ensures read { IsRead host_of depth reader.old result reader.new }
     ensures in_range { IfOk result (λ o. IfSome o (λ host. host < MAX_HOSTS)) }
-    ensures shorter { OnOk result (length reader.new < length reader.old) }
-    ensures err { OnErr result (data_at depth reader.old ≡ None) }
 {
     Ok(simple(reader, depth)?.host())
 }
 
 /// A number of copies.
 pub(crate) fn factor(reader: &mut Reader<'_>, depth: usize) -> Result<Option<u8>, Invalid>
-    ensures ok { IfOk result (λ factor. says factor_of depth reader.old ≡ Some (factor, reader.new)) }
-    ensures shorter { OnOk result (length reader.new < length reader.old) }
-    ensures err { OnErr result (data_at depth reader.old ≡ None) }
+    ensures { IsRead factor_of depth reader.old result reader.new }
 {
     let factor = number(reader, depth, 1, u64::from(MAX_FACTOR))?;
     Ok(factor.map(|factor| factor as u8))
@@ -63,18 +53,14 @@ pub(crate) fn factor(reader: &mut Reader<'_>, depth: usize) -> Result<Option<u8>
 
 /// True or false.
 pub(crate) fn flag(reader: &mut Reader<'_>, depth: usize) -> Result<Option<bool>, Invalid>
-    ensures ok { IfOk result (λ flag. says as_bool depth reader.old ≡ Some (flag, reader.new)) }
-    ensures shorter { OnOk result (length reader.new < length reader.old) }
-    ensures err { OnErr result (data_at depth reader.old ≡ None) }
+    ensures { IsRead as_bool depth reader.old result reader.new }
 {
     Ok(simple(reader, depth)?.flag())
 }
 
 /// The name of an event.
 pub(crate) fn event(reader: &mut Reader<'_>, depth: usize) -> Result<Option<EventName>, Invalid>
-    ensures ok { IfOk result (λ name. says event_name depth reader.old ≡ Some (name, reader.new)) }
-    ensures shorter { OnOk result (length reader.new < length reader.old) }
-    ensures err { OnErr result (data_at depth reader.old ≡ None) }
+    ensures { IsRead event_name depth reader.old result reader.new }
 {
     let Some(text) = simple(reader, depth)?.text() else {
         return Ok(None);
@@ -84,10 +70,7 @@ pub(crate) fn event(reader: &mut Reader<'_>, depth: usize) -> Result<Option<Even
 
 /// The name of a kind of bodies.
 pub(crate) fn kind(reader: &mut Reader<'_>, depth: usize) -> Result<Option<Kind>, Invalid>
-    ensures ok { IfOk result (λ kind. says (λ d. option_and_then kind_named (as_str d)) depth reader.old ≡ Some
-        (kind, reader.new)) }
-    ensures shorter { OnOk result (length reader.new < length reader.old) }
-    ensures err { OnErr result (data_at depth reader.old ≡ None) }
+    ensures { IsRead (λ d. option_and_then kind_named (as_str d)) depth reader.old result reader.new }
 {
     let Some(text) = simple(reader, depth)?.text() else {
         return Ok(None);
@@ -101,9 +84,7 @@ fn id_item(
     reader: &mut Reader<'_>,
     depth: usize,
 ) -> Result<Pair<Option<u8>, Option<u32>>, Invalid>
-    ensures ok { IfOk result (λ pair. says (id_item so_far) depth reader.old ≡ Some (pair, reader.new)) }
-    ensures shorter { OnOk result (length reader.new < length reader.old) }
-    ensures err { OnErr result (data_at depth reader.old ≡ None) }
+    ensures { IsRead (id_item so_far) depth reader.old result reader.new }
 {
     match so_far {
         Pair::Nothing => {
@@ -114,11 +95,7 @@ fn id_item(
             let generation = number(reader, depth, 1, u64::from(LAST_GENERATION))?;
             Ok(Pair::Both(index, generation.map(|generation| generation as u32)))
         }
-        Pair::Both(_, _) => {
-            pass(reader, depth)?;
-            Ok(Pair::More)
-        }
-        Pair::More => {
+        Pair::Both(_, _) | Pair::More => {
             pass(reader, depth)?;
             Ok(Pair::More)
         }
@@ -173,35 +150,5 @@ pub(crate) fn addr(reader: &mut Reader<'_>, depth: usize) -> Result<Option<Addr>
             Some(id) => Ok(Some(Addr::Server(id))),
             None => Ok(None),
         },
-    }
-}
-
-/// One more item of a kept replica's name.
-pub(crate) fn name_item(
-    so_far: Pair<Option<ServerId>, Option<u16>>,
-    reader: &mut Reader<'_>,
-    depth: usize,
-) -> Result<Pair<Option<ServerId>, Option<u16>>, Invalid>
-    ensures ok { IfOk result (λ pair. says (name_item so_far) depth reader.old ≡ Some (pair, reader.new)) }
-    ensures shorter { OnOk result (length reader.new < length reader.old) }
-    ensures err { OnErr result (data_at depth reader.old ≡ None) }
-{
-    match so_far {
-        Pair::Nothing => {
-            let master = id(reader, depth)?;
-            Ok(Pair::First(master))
-        }
-        Pair::First(master) => {
-            let segment = number(reader, depth, 1, u64::from(LAST_SEGMENT))?;
-            Ok(Pair::Both(master, segment.map(|segment| segment as u16)))
-        }
-        Pair::Both(_, _) => {
-            pass(reader, depth)?;
-            Ok(Pair::More)
-        }
-        Pair::More => {
-            pass(reader, depth)?;
-            Ok(Pair::More)
-        }
     }
 }

@@ -1,13 +1,11 @@
 //! What the members of a scenario say, a member at a time, and an event at a time.
 
-ghost use Rattle.std.specs.Prelude.{◌≡◌, ◌<◌, ℕ, [], length, Some, None, Ok, Err, IfOk, OnOk, OnErr};
+ghost use Rattle.std.specs.Prelude.{◌≡◌, ◌<◌, ℕ, Some, None, Ok, Err, IfOk};
 ghost use Rattle.rc_reading.specs.declared.faults.ReadFault.TheVariants.{BadInput};
-ghost use Rattle.serde_json.specs.Data.{object, no_members};
-ghost use Rattle.rc_reading.specs.Values.{listed, whole};
-ghost use Rattle.rc_reading.specs.Scenario.{events_of, scenario_of, segment_of};
+ghost use Rattle.rc_reading.specs.Scenario.{scenario_of, segment_of};
 ghost use Rattle.rc_reading.specs.Whole.{top_named, top_noted, top_of, first_in};
 ghost use Rattle.rc_reading.specs.Whole.{scenario_from, scenario_by};
-ghost use Rattle.rc_reading.specs.Ahead.{data_at, items_at, members_at, says, told};
+ghost use Rattle.rc_reading.specs.Ahead.{IsRead, data_at, says};
 
 use crate::faults::ReadFault;
 use crate::fields::Fields as EventFields;
@@ -69,9 +67,7 @@ pub(crate) struct Top {
 
 /// The size of a segment.
 fn segment(reader: &mut Reader<'_>, depth: usize) -> Result<Option<u16>, Invalid>
-    ensures ok { IfOk result (λ segment. says segment_of depth reader.old ≡ Some (segment, reader.new)) }
-    ensures shorter { OnOk result (length reader.new < length reader.old) }
-    ensures err { OnErr result (data_at depth reader.old ≡ None) }
+    ensures { IsRead segment_of depth reader.old result reader.new }
 {
     let segment = number(reader, depth, 1, u64::from(MAX_SEGMENT))?;
     Ok(segment.map(|segment| segment as u16))

@@ -1,15 +1,13 @@
 //! What the members of a message say, a member at a time.
 
-ghost use Rattle.std.specs.Prelude.{◌≡◌, ◌<◌, ℕ, length, Some, None, Err, IfOk, OnOk, OnErr};
-ghost use Rattle.rc_reading.specs.declared.faults.ReadFault.TheVariants.{BadInput};
-ghost use Rattle.serde_json.specs.Data.{object, no_members};
+ghost use Rattle.std.specs.Prelude.{◌≡◌, ◌<◌, Some, None};
 ghost use Rattle.rc_traces.specs.Fields.{member_named, all_messages, no_message, narrowed, noted, fields_of, allowed};
 ghost use Rattle.rc_traces.specs.Fields.{needed, message_in};
 ghost use Rattle.rc_traces.specs.Trace.{nobody, message_of, message_name, place_with, append_with, ok_with, plan_with};
 ghost use Rattle.rc_traces.specs.Trace.{own_with};
 ghost use Rattle.rc_traces.specs.Values.{given7};
 ghost use Rattle.rc_reading.specs.Values.{given3, given4};
-ghost use Rattle.rc_reading.specs.Ahead.{data_at, members_at, says, told};
+ghost use Rattle.rc_reading.specs.Ahead.{IsRead};
 
 use crate::lists::{EntryParts, RowParts};
 use crate::names::MessageName;
@@ -186,9 +184,7 @@ pub(crate) struct Fields {
 
 /// The name of a message.
 fn name(reader: &mut Reader<'_>, depth: usize) -> Result<Option<MessageName>, Invalid>
-    ensures ok { IfOk result (λ name. says message_name depth reader.old ≡ Some (name, reader.new)) }
-    ensures shorter { OnOk result (length reader.new < length reader.old) }
-    ensures err { OnErr result (data_at depth reader.old ≡ None) }
+    ensures { IsRead message_name depth reader.old result reader.new }
 {
     let Some(text) = simple(reader, depth)?.text() else {
         return Ok(None);

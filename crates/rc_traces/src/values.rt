@@ -1,11 +1,11 @@
 //! What the value of JSON that comes next says where a number or bytes are wanted. Each function takes one value
 //! whole, and answers what it says, if it says such a thing; or fails where none stands.
 
-ghost use Rattle.std.specs.Prelude.{◌≡◌, ◌<◌, ℕ, length, Some, None, Err, IfOk, IfErr, OnOk, OnErr};
+ghost use Rattle.std.specs.Prelude.{◌≡◌, ◌<◌, ℕ, length, Some, None, Err, IfOk, IfErr, OnOk};
 ghost use Rattle.std.specs.List.{list_any};
 ghost use Rattle.rc_reading.specs.declared.faults.ReadFault.TheVariants.{OutOfMemory, BadInput};
 ghost use Rattle.rc_traces.specs.Values.{seg_of, number_of, is_upper, bytes_of, value_of, value_in};
-ghost use Rattle.rc_reading.specs.Ahead.{data_at, says};
+ghost use Rattle.rc_reading.specs.Ahead.{IsRead, data_at, says};
 ghost use Rattle.rc_reading.specs.Said.{shown};
 ghost use Rattle.rc_reading.specs.Values.{table_of, key_of};
 
@@ -21,9 +21,7 @@ use std::alloc::Global;
 
 /// An offset, a length, an attempt or a term.
 pub(crate) fn number(reader: &mut Reader<'_>, depth: usize) -> Result<Option<u32>, Invalid>
-    ensures ok { IfOk result (λ n. says number_of depth reader.old ≡ Some (n, reader.new)) }
-    ensures shorter { OnOk result (length reader.new < length reader.old) }
-    ensures err { OnErr result (data_at depth reader.old ≡ None) }
+    ensures { IsRead number_of depth reader.old result reader.new }
 {
     let number = wanted::number(reader, depth, 0, u64::from(LAST_NUMBER))?;
     Ok(number.map(|number| number as u32))
@@ -31,9 +29,7 @@ pub(crate) fn number(reader: &mut Reader<'_>, depth: usize) -> Result<Option<u32
 
 /// The name of a table.
 pub(crate) fn table(reader: &mut Reader<'_>, depth: usize) -> Result<Option<u32>, Invalid>
-    ensures ok { IfOk result (λ table. says table_of depth reader.old ≡ Some (table, reader.new)) }
-    ensures shorter { OnOk result (length reader.new < length reader.old) }
-    ensures err { OnErr result (data_at depth reader.old ≡ None) }
+    ensures { IsRead table_of depth reader.old result reader.new }
 {
     let table = wanted::number(reader, depth, 0, u64::from(LAST_NUMBER))?;
     Ok(table.map(|table| table as u32))
@@ -41,9 +37,7 @@ pub(crate) fn table(reader: &mut Reader<'_>, depth: usize) -> Result<Option<u32>
 
 /// A key or a version.
 pub(crate) fn key(reader: &mut Reader<'_>, depth: usize) -> Result<Option<u64>, Invalid>
-    ensures ok { IfOk result (λ key. says key_of depth reader.old ≡ Some (key, reader.new)) }
-    ensures shorter { OnOk result (length reader.new < length reader.old) }
-    ensures err { OnErr result (data_at depth reader.old ≡ None) }
+    ensures { IsRead key_of depth reader.old result reader.new }
 {
     let key = wanted::number(reader, depth, 0, LAST_KEY)?;
     Ok(key)
@@ -51,9 +45,7 @@ pub(crate) fn key(reader: &mut Reader<'_>, depth: usize) -> Result<Option<u64>, 
 
 /// A segment's number.
 pub(crate) fn seg(reader: &mut Reader<'_>, depth: usize) -> Result<Option<u16>, Invalid>
-    ensures ok { IfOk result (λ seg. says seg_of depth reader.old ≡ Some (seg, reader.new)) }
-    ensures shorter { OnOk result (length reader.new < length reader.old) }
-    ensures err { OnErr result (data_at depth reader.old ≡ None) }
+    ensures { IsRead seg_of depth reader.old result reader.new }
 {
     let seg = wanted::number(reader, depth, 0, u64::from(LAST_SEGMENT))?;
     Ok(seg.map(|seg| seg as u16))

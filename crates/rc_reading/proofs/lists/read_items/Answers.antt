@@ -12,7 +12,9 @@ pub returns-in_err-take-clause-bad : goal.returns-in_err-take-clause-bad
 returns-in_err-take-clause-bad g c place is =
     let l = c.items in
     let bad = c.in_err-take.ensures.bad place (grind (arith, is)) in
-    (bad.0, item_fails g.S.Items.takes (Some c.args.start) l.so_far c.args.depth _ l.reader l.invariant c.take_end_array.new.self (grind arith) bad.1)
+    let none = item_fails g.S.Items.takes (Some c.args.start) l.so_far c.args.depth _ l.reader l.invariant c.take_end_array.new.self
+    (grind arith) bad.1 in
+    (bad.0, none)
 
 pub returns-clause-ok : goal.returns-clause-ok
 returns-clause-ok g c =

@@ -11,14 +11,14 @@ items-preserved c =
     let l = c.items in
     item_taken (λ pair d. Some (id_item pair d)) (Some Nothing) (Some l.so_far) c.args.depth _ l.reader l.invariant _
     c.take_end_array.new.self _ (grind arith)
-    (says_as (id_item l.so_far) (λ d. Some (id_item l.so_far d)) Some (λ d. refl) _ _ _ _ c.in_ok-so_far.ensures.ok)
-    c.in_ok-so_far.ensures.shorter
+    (says_as (id_item l.so_far) (λ d. Some (id_item l.so_far d)) Some (λ d. refl) _ _ _ _ c.in_ok-so_far.ensures.0)
+    c.in_ok-so_far.ensures.1
 
 pub returns-in_err-so_far-clause-err : goal.returns-in_err-so_far-clause-err
 returns-in_err-so_far-clause-err c =
     let l = c.items in
     let none = item_fails (λ pair d. Some (id_item pair d)) (Some Nothing) (Some l.so_far) c.args.depth _ l.reader l.invariant
-    c.take_end_array.new.self (grind arith) c.in_err-so_far.ensures.err in
+    c.take_end_array.new.self (grind arith) c.in_err-so_far.ensures in
     grind (arith, none)
 
 pub returns-clause-ok : goal.returns-clause-ok
