@@ -1,17 +1,18 @@
 //! What is answered to the bytes of a scenario or of a trace.
 
-ghost use Rattle.std.specs.Prelude.{◌≡◌, ◌++◌, string_bytes, Ok, IfOk};
+ghost use Rattle.std.specs.Prelude.{◌≡◌, ◌++◌, string_bytes, Ok, IfOk, IfErr};
 ghost use Rattle.rc_model.specs.Breach.{breach};
 ghost use Rattle.rc_model.specs.Report.{report};
 ghost use Rattle.rc_world.specs.Happened.{sent_in};
 ghost use Rattle.rc_world.specs.HostView.{IsWithinLimits};
 ghost use Rattle.rc_report.specs.Ends.{error_line};
 ghost use Rattle.rc_reading.specs.Scenario.{reading};
+ghost use Rattle.rc_sim.specs.declared.verdicts.SimFault.TheVariants.{Memory};
 ghost use Rattle.rc_sim.specs.declared.verdicts.Verdict.TheVariants.{Bad, Stopped};
 ghost use Rattle.rc_sim.specs.Verdicts.{audited, verdict_of, printed_of, last_line, Comes, Judged};
 
 use crate::playing::Kept;
-use crate::verdicts::{Output, Verdict};
+use crate::verdicts::{Output, SimFault, Verdict};
 use rc_audit::audit;
 use rc_reading::{ReadFault, Scenario, read_scenario};
 use rc_report::{Finding, add_stopped, error_text, report_of};
@@ -20,7 +21,7 @@ use rc_telling::Factors;
 use rc_traces::write_trace;
 use rc_types::{Code, Message};
 use rc_world::World;
-use std::alloc::{AllocError, Allocator, Global};
+use std::alloc::{Allocator, Global};
 
 /// What is answered, and what is printed.
 #[derive(Drop)]
@@ -39,12 +40,13 @@ pub(crate) fn answer_to<A: Allocator + Clone>(
     tablets: A,
     output: Output,
     kept: &mut Kept,
-) -> Result<Answer, AllocError>
+) -> Result<Answer, SimFault>
     ensures ok { IfOk result (λ answer. Comes output (reading bytes.now) answer.verdict (string_bytes answer.text)) }
+    ensures fault { IfErr result (λ fault. fault ≡ Memory) }
 {
     match read_scenario(alloc, bytes) {
         Ok(scenario) => played(alloc, scenario, tablets, output, kept),
-        Err(ReadFault::OutOfMemory) => Err(AllocError),
+        Err(ReadFault::OutOfMemory) => Err(SimFault::Memory),
         Err(ReadFault::BadInput(place)) => bad(alloc, place),
     }
 }
@@ -56,9 +58,10 @@ fn played<A: Allocator + Clone>(
     tablets: A,
     output: Output,
     kept: &mut Kept,
-) -> Result<Answer, AllocError>
+) -> Result<Answer, SimFault>
     requires { IsWithinLimits scenario.setup }
     ensures ok { IfOk result (λ answer. Comes output (Ok scenario) answer.verdict (string_bytes answer.text)) }
+    ensures fault { IfErr result (λ fault. fault ≡ Memory) }
 {
     let Scenario { setup, events } = scenario;
     let factors = Factors::of(&setup);
@@ -78,9 +81,10 @@ pub(crate) fn ended<A: Allocator + Clone>(
     alloc: Global,
     world: &World<A>,
     output: Output,
-) -> Result<Answer, AllocError>
+) -> Result<Answer, SimFault>
     ensures verdict { IfOk result (λ answer. answer.verdict ≡ verdict_of output (sent_in world.now)) }
     ensures text { IfOk result (λ answer. string_bytes answer.text ≡ printed_of output (sent_in world.now)) }
+    ensures fault { IfErr result (λ fault. fault ≡ Memory) }
 {
     match output {
         Output::Report => reported(alloc, world.sent()),
@@ -89,12 +93,13 @@ pub(crate) fn ended<A: Allocator + Clone>(
 }
 
 /// The answer with a report of these messages.
-fn reported(alloc: Global, sent: &[Message]) -> Result<Answer, AllocError>
+fn reported(alloc: Global, sent: &[Message]) -> Result<Answer, SimFault>
     ensures verdict { IfOk result (λ answer. answer.verdict ≡ audited (breach sent.now)) }
     ensures text { IfOk result (λ answer. string_bytes answer.text ≡ report sent.now) }
+    ensures fault { IfErr result (λ fault. fault ≡ Memory) }
 {
-    let found = audit(alloc, sent)?;
-    let text = report_of(alloc, sent, found)?;
+    let found = audit(alloc, sent).map_err(|_| SimFault::Memory)?;
+    let text = report_of(alloc, sent, found).map_err(|_| SimFault::Memory)?;
     let verdict = match found {
         None => Verdict::Clean,
         Some(_) => Verdict::Breach,
@@ -108,9 +113,10 @@ fn reported(alloc: Global, sent: &[Message]) -> Result<Answer, AllocError>
 }
 
 /// The answer with a trace of these messages.
-fn traced(alloc: Global, sent: &[Message]) -> Result<Answer, AllocError>
+fn traced(alloc: Global, sent: &[Message]) -> Result<Answer, SimFault>
     ensures verdict { IfOk result (λ answer. answer.verdict ≡ verdict_of Output.Trace sent.now) }
     ensures text { IfOk result (λ answer. string_bytes answer.text ≡ printed_of Output.Trace sent.now) }
+    ensures fault { IfErr result (λ fault. fault ≡ Memory) }
 {
     let text = write_trace(alloc, sent)?;
     let verdict = Verdict::Clean;
@@ -129,10 +135,11 @@ pub(crate) fn stopped<A: Allocator + Clone>(
     output: Output,
     place: usize,
     code: Code,
-) -> Result<Answer, AllocError>
+) -> Result<Answer, SimFault>
     ensures verdict { IfOk result (λ answer. answer.verdict ≡ Stopped place code) }
     ensures text { IfOk result (λ answer. string_bytes answer.text
         ≡ printed_of output (sent_in world.now) ++ last_line output code place) }
+    ensures fault { IfErr result (λ fault. fault ≡ Memory) }
 {
     let Answer { mut text, sent, .. } = ended(alloc, world, output)?;
     add_last_line(alloc, &mut text, output, place, code)?;
@@ -151,21 +158,23 @@ fn add_last_line(
     output: Output,
     place: usize,
     code: Code,
-) -> Result<(), AllocError>
+) -> Result<(), SimFault>
     ensures ok { IfOk result (λ _. string_bytes text.new ≡ string_bytes text.old ++ last_line output code place) }
+    ensures fault { IfErr result (λ fault. fault ≡ Memory) }
 {
     match output {
-        Output::Report => add_stopped(alloc, text, code, place),
+        Output::Report => { add_stopped(alloc, text, code, place).map_err(|_| SimFault::Memory) }
         Output::Trace => Ok(()),
     }
 }
 
 /// The answer to a scenario that is wrong at this place.
-pub(crate) fn bad(alloc: Global, place: usize) -> Result<Answer, AllocError>
+pub(crate) fn bad(alloc: Global, place: usize) -> Result<Answer, SimFault>
     ensures verdict { IfOk result (λ answer. answer.verdict ≡ Bad place) }
     ensures text { IfOk result (λ answer. string_bytes answer.text ≡ error_line place) }
+    ensures fault { IfErr result (λ fault. fault ≡ Memory) }
 {
-    let text = error_text(alloc, place)?;
+    let text = error_text(alloc, place).map_err(|_| SimFault::Memory)?;
     let verdict = Verdict::Bad(place);
     Ok(Answer {
         verdict,
@@ -175,10 +184,11 @@ pub(crate) fn bad(alloc: Global, place: usize) -> Result<Answer, AllocError>
 }
 
 /// The answer to these bytes as a trace. It fails only where memory was refused.
-pub fn judgement_of(alloc: Global, bytes: &[u8]) -> Result<Answer, AllocError>
+pub fn judgement_of(alloc: Global, bytes: &[u8]) -> Result<Answer, SimFault>
     ensures ok { IfOk result (λ answer. Judged bytes.now answer.verdict (string_bytes answer.text)) }
+    ensures fault { IfErr result (λ fault. fault ≡ Memory) }
 {
-    let judged = rc_report::judge(alloc, bytes)?;
+    let judged = rc_report::judge(alloc, bytes).map_err(|_| SimFault::Memory)?;
     let verdict = match judged.finding {
         Finding::Clean => Verdict::Clean,
         Finding::Breach => Verdict::Breach,

@@ -1,6 +1,6 @@
 //! From a seed to bytes: a run that is drawn to reach much, and what it has reached; or that run as a scenario.
 
-ghost use Rattle.std.specs.Prelude.{◌≡◌, ◌≢◌, ℕ, true, false, string_bytes, IfOk, Ok, Err};
+ghost use Rattle.std.specs.Prelude.{◌≡◌, ◌≢◌, ℕ, true, false, string_bytes, IfOk, IfErr, Ok, Err};
 ghost use Rattle.std.specs.Io.KnownBytes.{Keeps};
 ghost use Rattle.rc_sim.specs.declared.verdicts.SimFault.TheVariants.{Memory, Read as ReadFailed, Write as WriteFailed};
 ghost use Rattle.rc_sim.specs.declared.verdicts.Verdict.TheVariants.{Breach};
@@ -56,13 +56,15 @@ fn explored<E: Write>(
     options: &Options,
     progress: bool,
     errors: &mut Counted<E>,
-) -> Result<Exploration, AllocError> {
+) -> Result<Exploration, SimFault>
+    ensures fault { IfErr result (λ fault. fault ≡ Memory) }
+{
     let Ok(mut run) = Exploration::begin(alloc, options) else {
-        return Err(AllocError);
+        return Err(SimFault::Memory);
     };
     for _ in 0..options.steps.saturating_add(CHUNK - 1) / CHUNK {
         if run.go_on(alloc, CHUNK).is_err() {
-            return Err(AllocError);
+            return Err(SimFault::Memory);
         }
         if progress {
             tell_steps(&run, options, errors);
@@ -82,8 +84,9 @@ fn explored_answer(
     options: &Options,
     save: bool,
     run: &Exploration,
-) -> Result<Answer, AllocError>
+) -> Result<Answer, SimFault>
     ensures ok { IfOk result (λ answer. Explored save answer.verdict (string_bytes answer.text)) }
+    ensures fault { IfErr result (λ fault. fault ≡ Memory) }
 {
     if save {
         saved(alloc, options, run)
@@ -93,8 +96,9 @@ fn explored_answer(
 }
 
 /// The world as a scenario.
-fn saved(alloc: Global, options: &Options, run: &Exploration) -> Result<Answer, AllocError>
+fn saved(alloc: Global, options: &Options, run: &Exploration) -> Result<Answer, SimFault>
     ensures ok { IfOk result (λ answer. Explored true answer.verdict (string_bytes answer.text)) }
+    ensures fault { IfErr result (λ fault. fault ≡ Memory) }
 {
     let setup = options.setup(alloc);
     let text = saved_events(alloc, &setup, run.world().events())?;
@@ -106,8 +110,9 @@ fn saved(alloc: Global, options: &Options, run: &Exploration) -> Result<Answer, 
 }
 
 /// The report of the world, and what the run has reached.
-fn reported(alloc: Global, options: &Options, run: &Exploration) -> Result<Answer, AllocError>
+fn reported(alloc: Global, options: &Options, run: &Exploration) -> Result<Answer, SimFault>
     ensures ok { IfOk result (λ answer. Explored false answer.verdict (string_bytes answer.text)) }
+    ensures fault { IfErr result (λ fault. fault ≡ Memory) }
 {
     let lines = lines_of(alloc, options, run)?;
     let Answer {

@@ -1,20 +1,22 @@
 //! From the bytes of a scenario to those of one in which its tablets have come back.
 
-ghost use Rattle.std.specs.Prelude.{◌≡◌, ◌≢◌, [], string_bytes, IfOk, Ok};
+ghost use Rattle.std.specs.Prelude.{◌≡◌, ◌≢◌, ℕ, [], string_bytes, IfOk, IfErr, IfSome, Ok, Err};
+ghost use Rattle.std.specs.Io.KnownBytes.{Keeps};
 ghost use Rattle.rc_world.specs.HostView.{IsWithinLimits};
+ghost use Rattle.rc_sim.specs.declared.verdicts.SimFault.TheVariants.{Memory, Read as ReadFailed, Write as WriteFailed};
 ghost use Rattle.rc_sim.specs.declared.verdicts.Verdict.TheVariants.{Breach};
 ghost use Rattle.rc_sim.specs.Failures.{failed_reads, failed_writes};
-ghost use Rattle.rc_sim.specs.Statuses.{Answered};
 ghost use Rattle.rc_sim.specs.Verdicts.{IsHealed, Healed as HealedText};
+ghost use Rattle.rc_sim.specs.Written.{IsWritten, IsBegun};
 
 use crate::answers::{Answer, bad};
 use crate::counted::Counted;
 use crate::outlets::read_all;
-use crate::playing::{Kept, finish};
+use crate::playing::Kept;
+use crate::simulating::write_answer;
 use crate::verdicts::{SimFault, Verdict};
 use rc_healing::{Deed, Gone, Healed, Served, Why};
 use rc_reading::{ReadFault, Scenario, ScenarioEvent, read_scenario};
-use rc_reasons::Dialect;
 use rc_runs::Run;
 use rc_study::{Left, saved_scenario};
 use rc_types::{Event, Fault, Setup, Tablet, TryClone};
@@ -24,7 +26,7 @@ use std::slice;
 
 /// Reads a scenario, and writes it with the events that bring its tablets back, or the one line of a scenario that is
 /// wrong. Each thing that was done is told to `errors`, with its reason, and what came of each tablet. Where the run
-/// stops, or the events that a world takes do not suffice, nothing is written.
+/// stops, or the events that a world takes do not suffice, nothing is written. The bytes are kept once that is there.
 ///
 /// It fails as [`simulate`](crate::simulate) does.
 pub(crate) fn heal<R: Read, W: Write, E: Write>(
@@ -33,17 +35,24 @@ pub(crate) fn heal<R: Read, W: Write, E: Write>(
     reader: &mut Counted<R>,
     writer: &mut Counted<W>,
     errors: &mut Counted<E>,
+    kept: &mut Kept,
 ) -> Result<Verdict, SimFault>
-    ensures answered { Answered HealedText result (R.remaining reader.old.inner) (W.contents writer.old.inner)
-        (W.contents writer.new.inner) }
+    ensures ok { IfOk result (λ verdict. IfSome (R.remaining reader.old.inner)
+        (λ bytes. IsWritten (HealedText bytes) verdict (W.contents writer.old.inner) (W.contents writer.new.inner))) }
+    ensures cut_short { (count : ℕ) → result ≡ Err (WriteFailed count) → IfSome (R.remaining reader.old.inner)
+        (λ bytes. IsBegun (HealedText bytes) count (W.contents writer.old.inner) (W.contents writer.new.inner)) }
+    ensures nothing_without_memory { result ≡ Err Memory →
+        Keeps (W.contents writer.old.inner) (W.contents writer.new.inner) }
+    ensures nothing_unread { result ≡ Err ReadFailed →
+        Keeps (W.contents writer.old.inner) (W.contents writer.new.inner) }
     ensures reads { reader.new.failures ≡ failed_reads result reader.old.failures }
     ensures writes { writer.new.failures ≡ failed_writes result writer.old.failures }
     ensures no_breach { result ≢ Ok Breach }
 {
     let bytes = read_all(alloc, reader)?;
     let answer = healed_of(alloc, bytes.as_slice(), power_cycle, errors)?;
-    let kept = Kept::new(alloc).with(bytes, &answer);
-    finish(alloc, Dialect::Scenario, &kept, &answer, writer, errors)
+    kept.note(bytes, &answer);
+    write_answer(writer, &answer)
 }
 
 /// What is written of these bytes as a scenario.
@@ -52,12 +61,13 @@ fn healed_of<E: Write>(
     bytes: &[u8],
     power_cycle: bool,
     errors: &mut Counted<E>,
-) -> Result<Answer, AllocError>
+) -> Result<Answer, SimFault>
     ensures ok { IfOk result (λ answer. HealedText bytes.now answer.verdict (string_bytes answer.text)) }
+    ensures fault { IfErr result (λ fault. fault ≡ Memory) }
 {
     match read_scenario(alloc, bytes) {
         Ok(scenario) => answer_of(alloc, scenario, power_cycle, errors),
-        Err(ReadFault::OutOfMemory) => Err(AllocError),
+        Err(ReadFault::OutOfMemory) => Err(SimFault::Memory),
         Err(ReadFault::BadInput(place)) => bad(alloc, place),
     }
 }
@@ -68,12 +78,15 @@ fn answer_of<E: Write>(
     scenario: Scenario,
     power_cycle: bool,
     errors: &mut Counted<E>,
-) -> Result<Answer, AllocError>
+) -> Result<Answer, SimFault>
     requires { IsWithinLimits scenario.setup }
     ensures ok { IfOk result (λ answer. IsHealed answer.verdict (string_bytes answer.text)) }
+    ensures fault { IfErr result (λ fault. fault ≡ Memory) }
 {
     let Scenario { setup, events } = scenario;
-    let copy = setup.try_clone(alloc)?;
+    let Ok(copy) = setup.try_clone(alloc) else {
+        return Err(SimFault::Memory);
+    };
     let mut run = Run::new(alloc, copy, alloc);
     let mut places = Vec::new(alloc);
     for (place, event) in events.as_slice().iter().enumerate() {
@@ -96,7 +109,7 @@ fn answer_of<E: Write>(
             &healed,
             errors,
         ),
-        Err(Fault::OutOfMemory) => Err(AllocError),
+        Err(Fault::OutOfMemory) => Err(SimFault::Memory),
         Err(_) => {
             let _ = writeln!(
                 errors.inner,
@@ -135,8 +148,9 @@ fn told<E: Write>(
     places: &[usize],
     healed: &Healed,
     errors: &mut Counted<E>,
-) -> Result<Answer, AllocError>
+) -> Result<Answer, SimFault>
     ensures verdict { IfOk result (λ answer. IsHealed answer.verdict (string_bytes answer.text)) }
+    ensures fault { IfErr result (λ fault. fault ≡ Memory) }
 {
     let places = Places {
         places,
@@ -144,7 +158,9 @@ fn told<E: Write>(
     };
     tell(&places, healed, errors);
     for event in &healed.events {
-        let copy = event.try_clone(alloc)?;
+        let Ok(copy) = event.try_clone(alloc) else {
+            return Err(SimFault::Memory);
+        };
         events.push(ScenarioEvent::Core(copy))?;
     }
     let mut left = Vec::new(alloc);

@@ -1,6 +1,6 @@
 //! From several seeds to bytes: the first of them whose run reaches a rule, a kind of event or a kind of message.
 
-ghost use Rattle.std.specs.Prelude.{◌≡◌, ◌≢◌, ℕ, string_bytes, IfOk, Ok, Err, []};
+ghost use Rattle.std.specs.Prelude.{◌≡◌, ◌≢◌, ℕ, string_bytes, IfOk, IfErr, Ok, Err, []};
 ghost use Rattle.std.specs.Io.KnownBytes.{Keeps};
 ghost use Rattle.rc_sim.specs.declared.verdicts.SimFault.TheVariants.{Memory, Read as ReadFailed, Write as WriteFailed};
 ghost use Rattle.rc_sim.specs.declared.verdicts.Verdict.TheVariants.{Breach};
@@ -67,9 +67,10 @@ fn sought<E: Write>(
     options: &Options,
     search: &Search,
     errors: &mut Counted<E>,
-) -> Result<Answer, AllocError>
+) -> Result<Answer, SimFault>
     ensures ok { IfOk result (λ answer. Sought answer.verdict (string_bytes answer.text)) }
     ensures no_breach { IfOk result (λ answer. answer.verdict ≢ Breach) }
+    ensures fault { IfErr result (λ fault. fault ≡ Memory) }
 {
     let word = str::from_utf8(search.goal.as_slice()).unwrap_or("");
     let Some(goal) = Goal::of(word) else {
@@ -115,7 +116,9 @@ fn first_of<E: Write>(
     search: &Search,
     goal: Goal,
     errors: &mut Counted<E>,
-) -> Result<Option<String>, AllocError> {
+) -> Result<Option<String>, SimFault>
+    ensures fault { IfErr result (λ fault. fault ≡ Memory) }
+{
     let count = search.last.saturating_sub(options.seed).saturating_add(1);
     for number in 0..count {
         let mut options = *options;
@@ -136,12 +139,14 @@ fn found_in(
     options: &Options,
     save: bool,
     goal: Goal,
-) -> Result<Option<String>, AllocError> {
+) -> Result<Option<String>, SimFault>
+    ensures fault { IfErr result (λ fault. fault ≡ Memory) }
+{
     let Ok(mut run) = Exploration::toward(alloc, options, Some(goal)) else {
-        return Err(AllocError);
+        return Err(SimFault::Memory);
     };
     if run.go_until(alloc).is_err() {
-        return Err(AllocError);
+        return Err(SimFault::Memory);
     }
     let Some(number) = run.found() else {
         return Ok(None);

@@ -1,6 +1,6 @@
 //! From several seeds to bytes: runs that are drawn to reach much, and what they have reached together.
 
-ghost use Rattle.std.specs.Prelude.{◌≡◌, ◌≢◌, ℕ, false, string_bytes, IfOk, Ok, Err};
+ghost use Rattle.std.specs.Prelude.{◌≡◌, ◌≢◌, ℕ, false, string_bytes, IfOk, IfErr, Ok, Err};
 ghost use Rattle.std.specs.Io.KnownBytes.{Keeps};
 ghost use Rattle.rc_sim.specs.declared.verdicts.SimFault.TheVariants.{Memory, Read as ReadFailed, Write as WriteFailed};
 ghost use Rattle.rc_sim.specs.declared.verdicts.Verdict.TheVariants.{Breach};
@@ -54,8 +54,9 @@ fn surveyed<E: Write>(
     last: u64,
     progress: bool,
     errors: &mut Counted<E>,
-) -> Result<Answer, AllocError>
+) -> Result<Answer, SimFault>
     ensures ok { IfOk result (λ answer. Surveyed answer.verdict (string_bytes answer.text)) }
+    ensures fault { IfErr result (λ fault. fault ≡ Memory) }
 {
     let mut text = heading(alloc, options, last)?;
     let mut sum = Sum::new();
@@ -96,8 +97,9 @@ fn run_all<E: Write>(
     sum: &mut Sum,
     text: &mut String,
     errors: &mut Counted<E>,
-) -> Result<bool, AllocError>
+) -> Result<bool, SimFault>
     ensures ok { IfOk result (λ found. found ≡ false) }
+    ensures fault { IfErr result (λ fault. fault ≡ Memory) }
 {
     let mut found = false;
     for number in 0..count {
@@ -124,8 +126,9 @@ fn run_one(
     options: &Options,
     sum: &mut Sum,
     text: &mut String,
-) -> Result<bool, AllocError>
+) -> Result<bool, SimFault>
     ensures ok { IfOk result (λ found. found ≡ false) }
+    ensures fault { IfErr result (λ fault. fault ≡ Memory) }
 {
     let run = drawn(alloc, options)?;
     let breach = has_breach(alloc, run.world())?;
@@ -135,20 +138,25 @@ fn run_one(
 }
 
 /// Whether an audit of what was sent in the world finds a breach.
-fn has_breach(alloc: Global, world: &World<Global>) -> Result<bool, AllocError>
+fn has_breach(alloc: Global, world: &World<Global>) -> Result<bool, SimFault>
     ensures ok { IfOk result (λ found. found ≡ false) }
+    ensures fault { IfErr result (λ fault. fault ≡ Memory) }
 {
-    let found = audit(alloc, world.sent())?;
-    Ok(found.is_some())
+    match audit(alloc, world.sent()) {
+        Ok(found) => Ok(found.is_some()),
+        Err(_) => Err(SimFault::Memory),
+    }
 }
 
 /// The run to its end.
-pub(crate) fn drawn(alloc: Global, options: &Options) -> Result<Exploration, AllocError> {
+pub(crate) fn drawn(alloc: Global, options: &Options) -> Result<Exploration, SimFault>
+    ensures fault { IfErr result (λ fault. fault ≡ Memory) }
+{
     let Ok(mut run) = Exploration::begin(alloc, options) else {
-        return Err(AllocError);
+        return Err(SimFault::Memory);
     };
     if run.go_on(alloc, options.steps).is_err() {
-        return Err(AllocError);
+        return Err(SimFault::Memory);
     }
     Ok(run)
 }

@@ -1,0 +1,10 @@
+use Rattle.rc_sim.specs.Verdicts.{Played}
+use Rattle.rc_sim.proofs.Closings.{answered}
+use Rattle.rc_sim.proofs.commanding.played.Goals as goal
+
+pub returns-clause-answered : goal.returns-clause-answered
+returns-clause-answered g c =
+    let done = c.play-outcome in
+    answered (Played c.args.output) done.result (g.R.Read.remaining c.args.reader.now.inner)
+    (g.W.Write.contents c.args.writer.now.inner) (g.W.Write.contents done.new.writer.inner)
+    done.ensures.ok done.ensures.cut_short done.ensures.nothing_without_memory done.ensures.nothing_unread
