@@ -1,5 +1,6 @@
 -- A line that goes on past a command whose options all have values is refused, or gives one of them a value.
-use Rattle.std.proofs.Common.{◌≡◌, ◌∙◌, ◌⊎◌, inl, inr, ⊎_elim, ◌||◌, ◌==◌, ℕ, Bool, true, false, List, [], ◌∷◌, ◌++◌, length, drop}
+use Rattle.std.proofs.Common.{◌≡◌, ◌∙◌, ◌⊎◌, inl, inr, ⊎_elim, ◌||◌, ◌==◌, ℕ, Bool, true, false, List}
+use Rattle.std.proofs.Common.{[], ◌∷◌, ◌++◌, length, drop}
 use Rattle.std.proofs.Common.{Option, Some, None, codes, is_some, nat_lt, refl, sym, ap, subst, true≢false, option_map}
 use Rattle.std.specs.List.{fold, list_all}
 use Rattle.std.specs.Option.{option_map_or}
@@ -106,8 +107,8 @@ first_more : (values rest : List Text) (v : Text) → is_some (slice_get (values
 first_more [] rest v = refl
 first_more (x ∷ xs) rest v = refl
 
-has_value : (name : Text) → bytes_eq name name ≡ true → (how : Reading) (source : ValueSource) (v : Text) (vs : List Text) (rows : List Row)
-    → is_some (first_of name (with_values name how source (v ∷ vs) rows)) ≡ true
+has_value : (name : Text) → bytes_eq name name ≡ true → (how : Reading) (source : ValueSource) (v : Text)
+    (vs : List Text) (rows : List Row) → is_some (first_of name (with_values name how source (v ∷ vs) rows)) ≡ true
 has_value name same how source v vs [] = rw same refl
 has_value name same how source v vs (r ∷ rs) = go (bytes_eq r.id name) refl (has_value name same how source v vs rs)
   where
@@ -314,7 +315,8 @@ module _ (s : Shape) (given : List Row → Bool) (has : HasOptions s given) wher
   goes_on [] w st e = st
   goes_on (x ∷ xs) w st e =
       let parts = none_first (turn_fault s [] w x) (walk_fault s [] (walked s.rules [] w x) xs) e in
-      ⊎_elim (λ f. absurd (true≢false (sym f ∙ ap fails parts.0))) (λ on. goes_on xs (walked s.rules [] w x) on parts.1) (step x w st)
+      ⊎_elim (λ f. absurd (true≢false (sym f ∙ ap fails parts.0)))
+      (λ on. goes_on xs (walked s.rules [] w x) on parts.1) (step x w st)
 
   begins : (word : Text) (rest : List Text) → bytes_eq word (codes "--") ≡ false →
       walk_fault s [] (walk_from nothing_held) (word ∷ rest) ≡ []

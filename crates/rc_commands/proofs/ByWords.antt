@@ -8,7 +8,7 @@ use Rattle.clap.specs.Walk.{Text}
 use Rattle.clap.proofs.OnLiterals.{clap_on_literals}
 use Rattle.clap.proofs.WalkLemmas.{both}
 use Rattle.rc_commands.specs.declared.asking.Asked.{Asked}
-use Rattle.rc_commands.specs.Asking.{as_command, asked_in, is_alone, is_end, heap_line, option_zip_with}
+use Rattle.rc_commands.specs.Asking.{as_command, asked_in, drawing_in, is_alone, is_end, heap_line, option_zip_with}
 use Rattle.rc_commands.proofs.Words.{asks}
 use Rattle.rc_commands.specs.Numbers.{decimal_in}
 use Rattle.rc_commands.specs.declared.asking.Asked.TheVariants as asked
@@ -27,7 +27,8 @@ bare each.audit = Some (asked.Audit false)
 bare each.fuzz = Some (asked.Fuzz 1 1000 false false)
 bare each.stops = Some (asked.Stops 1 300 false)
 bare each.threads = Some (asked.Threads 4 10)
-bare each.explore = Some (asked.Explore 1 2000 5 2 2 false false false false)
+bare each.explore = Some (asked.Explore (record { seed = 1; steps = 2000; hosts = 5; factor = 2; segment = 2; free = false })
+    false false false)
 bare each.log = Some (asked.Log false)
 bare each.picture = Some (asked.Picture false)
 bare each.explain = Some (asked.Explain None false)
@@ -49,7 +50,7 @@ alone_gives c here ended (word ∷ rest) h =
     go (w ∷ other ∷ more) e = absurd (true≢false (sym e))
 
 gives : (c : Command) (words : List Text) → is_alone (name_of c) words ≡ true → asked_in words ≡ bare c
-unfolding clap_on_literals
+unfolding clap_on_literals drawing_in
 gives each.run = alone_gives each.run refl refl
 gives each.trace = alone_gives each.trace refl refl
 gives each.audit = alone_gives each.audit refl refl

@@ -21,7 +21,9 @@ pub data Command : Type 0 where
   check : Command
 
 abbrev pub commands : List Command
-commands = run ∷ trace ∷ audit ∷ fuzz ∷ stops ∷ threads ∷ explore ∷ log ∷ picture ∷ explain ∷ shrink ∷ heal ∷ history ∷ check ∷ []
+commands =
+    run ∷ trace ∷ audit ∷ fuzz ∷ stops ∷ threads ∷ explore ∷ log ∷ picture ∷ explain ∷ shrink ∷ heal ∷ history ∷
+    check ∷ []
 
 abbrev pub name_of : Command → Text
 name_of run = codes "run"

@@ -1,5 +1,6 @@
 -- What `clap` makes of a command line.
-use Rattle.std.proofs.Common.{◌≡◌, ◌∙◌, ⊎_elim, is_some, map, option_map, ◌||◌, true, false, List, [], ◌∷◌, Option, Some, None, codes}
+use Rattle.std.proofs.Common.{◌≡◌, ◌∙◌, ⊎_elim, is_some, map, option_map, ◌||◌, true, false, List, [], ◌∷◌}
+use Rattle.std.proofs.Common.{Option, Some, None, codes}
 use Rattle.std.proofs.Common.{refl, sym, ap, ap₂, subst, true≢false}
 use Rattle.std.specs.List.{fold, list_any}
 use Rattle.std.specs.Prelude.{find}
@@ -119,7 +120,9 @@ no_option word = go (long_of word)
 
 module _ (word : Text) (rest : List Text) (none : is_command word ≡ false) (no_help : bytes_eq (codes "help") word ≡ false) where
   no_name : (c : Command) → bytes_eq (name_of c) word ≡ false
-  no_name c = ⊎_elim (λ it. absurd (true≢false (sym (listed c) ∙ ap is_command it.1 ∙ none))) (λ e. e) (text_tells (name_of c) word)
+  no_name c =
+      ⊎_elim (λ it. absurd (true≢false (sym (listed c) ∙ ap is_command it.1 ∙ none))) (λ e. e)
+      (text_tells (name_of c) word)
 
   no_command : subcommand_met top_names idle word ≡ None
   no_command = rw (

@@ -1,5 +1,6 @@
 -- Which commands come of lines without options alone.
-use Rattle.std.proofs.Common.{◌≡◌, ◌∙◌, ◌&&◌, ◌||◌, ⊎_elim, ℕ, Bool, true, false, not, List, [], ◌∷◌, Option, Some, None}
+use Rattle.std.proofs.Common.{◌≡◌, ◌∙◌, ◌&&◌, ◌||◌, ⊎_elim, ℕ, Bool, true, false, not, List, [], ◌∷◌}
+use Rattle.std.proofs.Common.{Option, Some, None}
 use Rattle.std.proofs.Common.{codes, refl, sym, ap, ap₂, subst, true≢false, option_map, is_some, cond}
 use Rattle.std.specs.Option.{option_map_or}
 use Rattle.std.specs.Prelude.{option_and_then, if◌then◌else◌}
@@ -13,8 +14,8 @@ use Rattle.clap.proofs.WalkLemmas.{both}
 use Rattle.rc_commands.specs.declared.asking.Asked.{Asked}
 use Rattle.rc_commands.specs.declared.asking.Asked.TheVariants as asked
 use Rattle.rc_commands.specs.Asking.{asked_in, begins_with_help, command_in, drawn_by, explore_by, is_alone, is_end, json_in}
-use Rattle.rc_commands.specs.Asking.{has_flag, has_option, is_sized, json_given, number_given, number_or, seed_given, seeds_given}
-use Rattle.rc_commands.specs.Asking.{seeds_or_first, stops_in, where_taken}
+use Rattle.rc_commands.specs.Asking.{drawing_in, has_flag, has_option, is_sized, json_given, number_given, number_or, seed_given}
+use Rattle.rc_commands.specs.Asking.{seeds_given, seeds_or_first, stops_in, where_taken}
 use Rattle.rc_commands.specs.Numbers.{decimal_in}
 use Rattle.rc_commands.specs.Commands.{ramseg}
 use Rattle.rc_commands.proofs.EachCommand as each
@@ -46,7 +47,7 @@ word_of asked.History = codes "history"
 word_of asked.Check = codes "check"
 word_of (asked.Fuzz seed steps free json) = codes "fuzz"
 word_of (asked.Stops seed steps json) = codes "stops"
-word_of (asked.StopsExplored seed steps hosts factor segment free json) = codes "stops"
+word_of (asked.StopsExplored drawing json) = codes "stops"
 word_of (asked.Threads hosts writes) = codes "threads"
 word_of (asked.Shrink keep) = codes "shrink"
 word_of (asked.Log json) = codes "log"
@@ -80,32 +81,24 @@ module _ (name : Text) where
   either true x y e f = e
   either false x y e f = f
 
--- what is made of the four numbers that say how large a run is
-sized : (name : Text) (rows : List Row) (steps : Option ℕ) (f : ℕ → ℕ → ℕ → ℕ → Asked) →
-    ((b c d e : ℕ) → word_of (f b c d e) ≡ name) → IsNamed name (option_and_then (λ b. option_and_then (λ c. option_and_then
-    (λ d. option_map (λ e. f b c d e) (number_or 2 (codes "segment") 1 1024 rows)) (number_or 2 (codes "factor") 1 5 rows))
-    (number_or 5 (codes "hosts") 1 16 rows)) steps)
-sized name rows steps f is = chain name _ steps (λ b. chain name _ (number_or 5 (codes "hosts") 1 16 rows) (λ c.
-    chain name _ (number_or 2 (codes "factor") 1 5 rows) (λ d. with name _ (number_or 2 (codes "segment") 1 1024 rows) (λ e. is b c d e))))
-
 stops_named : (rows : List Row) → IsNamed (codes "stops") (stops_in rows)
 stops_named rows = either _ (has_flag (codes "explored") rows) _ _
     (chain _ _ (json_given rows) (λ json. chain _ _ (number_or 1 (codes "seed") 0 18446744073709551615 rows) (λ seed.
-    sized _ rows (number_or 300 (codes "steps") 0 1000 rows) _ (λ b c d e. refl))))
+    with _ _ (drawing_in seed 300 1000 rows) (λ drawing. refl))))
     (either _ (is_sized rows) _ _ (nothing _) (chain _ _ (json_given rows) (λ json. chain _ _ (seed_given rows) (λ seed.
     with _ _ (number_given (codes "steps") 0 1000 rows) (λ steps. refl)))))
 
 drawn_named : (seeds : Option (ℕ × ℕ)) (json : Bool) (rows : List Row) → IsNamed (codes "explore") (drawn_by json seeds rows)
 drawn_named None json rows = chain _ _ (number_or 1 (codes "seed") 0 18446744073709551615 rows) (λ seed.
-    sized _ rows (number_or 2000 (codes "steps") 0 100000 rows) _ (λ b c d e. refl))
+    with _ _ (drawing_in seed 2000 100000 rows) (λ drawing. refl))
 drawn_named (Some seeds) json rows = either _ (has_option (codes "seed") rows || has_flag (codes "save") rows) _ _ (nothing _)
-    (sized _ rows (number_or 2000 (codes "steps") 0 100000 rows) _ (λ b c d e. refl))
+    (with _ _ (drawing_in seeds.0 2000 100000 rows) (λ drawing. refl))
 
 explore_named : (goal : Option Text) (rows : List Row) → IsNamed (codes "explore") (explore_by goal rows)
 explore_named None rows = chain _ _ (json_given rows) (λ json. chain _ _ (seeds_given rows) (λ seeds. drawn_named seeds json rows))
 explore_named (Some goal) rows = either _ (has_option (codes "seed") rows) _ _ (nothing _)
     (chain _ _ (json_given rows) (λ json. chain _ _ (seeds_or_first rows) (λ seeds.
-    sized _ rows (number_or 2000 (codes "steps") 0 100000 rows) _ (λ b c d e. refl))))
+    with _ _ (drawing_in seeds.0 2000 100000 rows) (λ drawing. refl))))
 
 named : (c : Command) (rows : List Row) → IsNamed (name_of c) (command_in (leaf (shape_of c)).name rows)
 named each.run rows = chain _ _ (json_given rows) (λ json. with _ _ (number_given (codes "heap") 16 1048576 rows) (λ heap. refl))
@@ -143,12 +136,14 @@ begins a word rest = by_command (λ w. asked_in (w ∷ rest) ≡ Some a → word
     (λ c e. by_faults (name_of c) (faults_at (shape_of c) rest) (made c rest) (named c (rows_at (leaf (shape_of c)) rest).1)
     (sym (asked_is c rest) ∙ e))
     (λ e. no_answer (sym (of_help rest) ∙ e))
-    (λ w no_name no_help e. no_answer (sym (faulty (fault_of ramseg (w ∷ rest)) _ (asks true w) (told w rest no_name no_help)) ∙ e)) word
+    (λ w no_name no_help e. no_answer (sym (faulty (fault_of ramseg (w ∷ rest)) _ (asks true w)
+    (told w rest no_name no_help)) ∙ e)) word
   where
     no_answer : {X : Type 0} → None ≡ Some a → X
     no_answer e = absurd (cc)
 
-    by_faults : (name : Text) (faults : Kinds) (x : Option Asked) → IsNamed name x → where_taken faults x ≡ Some a → word_of a ≡ name
+    by_faults : (name : Text) (faults : Kinds) (x : Option Asked) → IsNamed name x → where_taken faults x ≡ Some a
+        → word_of a ≡ name
     by_faults name [] x named_is e = named_is.is a e
     by_faults name (k ∷ ks) x named_is e = no_answer e
 

@@ -129,7 +129,8 @@ passes (x ∷ xs) name e = here x.1 ∙ passes xs name (or_parts _ _ e).1
     here true = passed (bytes_eq x.0 name) _ _ (or_parts _ _ e).0
     here false = passed (bytes_eq x.0 name) _ _ (or_parts _ _ e).0
 
-level_by : (s : Shape) (xs : List (Text × Bool)) → s.rules ≡ rules_by xs → ((x : ℕ) → arg_by_short s.rules x ≡ flag_of (104 == x) false)
+level_by : (s : Shape) (xs : List (Text × Bool)) → s.rules ≡ rules_by xs
+    → ((x : ℕ) → arg_by_short s.rules x ≡ flag_of (104 == x) false)
     → tells false (stray_fault s) ≡ true → arg_by_index s.rules 1 ≡ None → IsLevel s false (map (λ x. x.0) xs)
 level_by s xs is short strays positional = record {
   long = λ name e. ap (λ rules. arg_by_long rules name) is ∙ passes xs name e;

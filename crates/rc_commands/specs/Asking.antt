@@ -14,6 +14,7 @@ use Rattle.clap.specs.declared.error.kind.ErrorKind.{ErrorKind}
 use Rattle.clap.specs.declared.error.kind.ErrorKind.TheVariants as kind
 use Rattle.rc_commands.specs.declared.asking.Asked.{Asked}
 use Rattle.rc_commands.specs.declared.asking.Asked.TheVariants as asked
+use Rattle.rc_commands.specs.declared.asking.Drawing.{Drawing}
 use Rattle.rc_commands.specs.Commands.{ramseg}
 use Rattle.rc_commands.specs.Numbers.{IsWithin, decimal_in}
 
@@ -29,10 +30,10 @@ as_command (asked.Tell text) = None
 as_command (asked.Wrong text) = None
 as_command command = Some command
 
--- what a drawn run is asked for with is in its ranges
-abbrev pub IsSized : ℕ → ℕ → ℕ → ℕ → Type 0
-IsSized steps hosts factor segment = (steps ≤ 100000) × (1 ≤ hosts) × (hosts ≤ 16)
-    × (1 ≤ factor) × (factor ≤ 5) × (1 ≤ segment) × (segment ≤ 1024)
+-- what runs are drawn with is in its ranges, with so many steps at most
+abbrev pub IsSized : ℕ → Drawing → Type 0
+IsSized most drawing = (drawing.steps ≤ most) × (1 ≤ drawing.hosts) × (drawing.hosts ≤ 16)
+    × (1 ≤ drawing.factor) × (drawing.factor ≤ 5) × (1 ≤ drawing.segment) × (drawing.segment ≤ 1024)
 
 -- a range of seeds
 abbrev pub IsFew : ℕ × ℕ → Type 0
@@ -43,14 +44,11 @@ abbrev pub IsInRange : Asked → Type 0
 IsInRange (asked.Run heap json) = IsWithin 16 1048576 heap
 IsInRange (asked.Fuzz seed steps free json) = steps ≤ 100000
 IsInRange (asked.Stops seed steps json) = steps ≤ 1000
-IsInRange (asked.StopsExplored seed steps hosts factor segment free json) =
-    (steps ≤ 1000) × IsSized steps hosts factor segment
+IsInRange (asked.StopsExplored drawing json) = IsSized 1000 drawing
 IsInRange (asked.Threads hosts writes) = (3 ≤ hosts) × (hosts ≤ 16) × (writes ≤ 1000)
-IsInRange (asked.Explore seed steps hosts factor segment free save progress json) = IsSized steps hosts factor segment
-IsInRange (asked.Survey first last steps hosts factor segment free progress json) =
-    IsFew (first, last) × IsSized steps hosts factor segment
-IsInRange (asked.Until goal first last steps hosts factor segment free save progress json) =
-    IsFew (first, last) × IsSized steps hosts factor segment
+IsInRange (asked.Explore drawing save progress json) = IsSized 100000 drawing
+IsInRange (asked.Survey drawing last progress json) = IsFew (drawing.seed, last) × IsSized 100000 drawing
+IsInRange (asked.Until goal drawing last save progress json) = IsFew (drawing.seed, last) × IsSized 100000 drawing
 IsInRange _ = ⊤
 
 -- ---- the command, as `clap` reads the words
@@ -123,14 +121,23 @@ seeds_given rows = option_map_or (λ text. option_map Some (range_in text)) (fir
 abbrev pub has_option : Text → List Row → Bool
 has_option name rows = option_map_or (λ _. true) (first_of name rows) false
 
+-- what is drawn from this seed, with so many steps where none are given, and so many at most
+unfoldable pub drawing_in : ℕ → ℕ → ℕ → List Row → Option Drawing
+drawing_in seed usual most rows =
+    option_and_then (λ steps. option_and_then (λ hosts. option_and_then (λ factor. option_map (λ segment. record {
+      seed = seed;
+      steps = steps;
+      hosts = hosts;
+      factor = factor;
+      segment = segment;
+      free = has_flag (codes "free") rows;
+    }) (number_or 2 (codes "segment") 1 1024 rows)) (number_or 2 (codes "factor") 1 5 rows))
+    (number_or 5 (codes "hosts") 1 16 rows)) (number_or usual (codes "steps") 0 most rows)
+
 -- `stops` of the events that `explore` draws
 abbrev pub explored_in : List Row → Option Asked
-explored_in rows =
-    option_and_then (λ json. option_and_then (λ seed. option_and_then (λ steps. option_and_then (λ hosts.
-    option_and_then (λ factor. option_map
-    (λ segment. asked.StopsExplored seed steps hosts factor segment (has_flag (codes "free") rows) json)
-    (number_or 2 (codes "segment") 1 1024 rows)) (number_or 2 (codes "factor") 1 5 rows))
-    (number_or 5 (codes "hosts") 1 16 rows)) (number_or 300 (codes "steps") 0 1000 rows))
+explored_in rows = option_and_then (λ json. option_and_then (λ seed.
+    option_map (λ drawing. asked.StopsExplored drawing json) (drawing_in seed 300 1000 rows))
     (number_or 1 (codes "seed") 0 18446744073709551615 rows)) (json_given rows)
 
 -- hosts, replicas or segments were given
@@ -145,22 +152,15 @@ stops_in rows =
 
 -- `explore` of one seed
 abbrev pub single_in : Bool → List Row → Option Asked
-single_in json rows =
-    option_and_then (λ seed. option_and_then (λ steps. option_and_then (λ hosts. option_and_then (λ factor. option_map
-    (λ segment. asked.Explore seed steps hosts factor segment (has_flag (codes "free") rows)
-    (has_flag (codes "save") rows) (has_flag (codes "progress") rows) json)
-    (number_or 2 (codes "segment") 1 1024 rows)) (number_or 2 (codes "factor") 1 5 rows))
-    (number_or 5 (codes "hosts") 1 16 rows)) (number_or 2000 (codes "steps") 0 100000 rows))
-    (number_or 1 (codes "seed") 0 18446744073709551615 rows)
+single_in json rows = option_and_then (λ seed. option_map
+    (λ drawing. asked.Explore drawing (has_flag (codes "save") rows) (has_flag (codes "progress") rows) json)
+    (drawing_in seed 2000 100000 rows)) (number_or 1 (codes "seed") 0 18446744073709551615 rows)
 
 -- `explore` of these seeds, which goes with neither `--seed` nor `--save`
 abbrev pub survey_in : Bool → ℕ × ℕ → List Row → Option Asked
-survey_in json seeds rows = if has_option (codes "seed") rows || has_flag (codes "save") rows then None else
-    option_and_then (λ steps. option_and_then (λ hosts. option_and_then (λ factor. option_map
-    (λ segment. asked.Survey seeds.0 seeds.1 steps hosts factor segment (has_flag (codes "free") rows)
-    (has_flag (codes "progress") rows) json)
-    (number_or 2 (codes "segment") 1 1024 rows)) (number_or 2 (codes "factor") 1 5 rows))
-    (number_or 5 (codes "hosts") 1 16 rows)) (number_or 2000 (codes "steps") 0 100000 rows)
+survey_in json seeds rows = if has_option (codes "seed") rows || has_flag (codes "save") rows then None
+    else option_map (λ drawing. asked.Survey drawing seeds.1 (has_flag (codes "progress") rows) json)
+    (drawing_in seeds.0 2000 100000 rows)
 
 -- the seeds that are looked through where none were given
 abbrev pub first_seeds : ℕ × ℕ
@@ -171,12 +171,8 @@ seeds_or_first rows = option_map (λ seeds. unwrap_or seeds first_seeds) (seeds_
 
 -- the first of these seeds that reaches what is named
 abbrev pub sought_in : Bool → ℕ × ℕ → Text → List Row → Option Asked
-sought_in json seeds goal rows =
-    option_and_then (λ steps. option_and_then (λ hosts. option_and_then (λ factor. option_map
-    (λ segment. asked.Until goal seeds.0 seeds.1 steps hosts factor segment (has_flag (codes "free") rows)
-    (has_flag (codes "save") rows) (has_flag (codes "progress") rows) json)
-    (number_or 2 (codes "segment") 1 1024 rows)) (number_or 2 (codes "factor") 1 5 rows))
-    (number_or 5 (codes "hosts") 1 16 rows)) (number_or 2000 (codes "steps") 0 100000 rows)
+sought_in json seeds goal rows = option_map (λ drawing. asked.Until goal drawing seeds.1
+    (has_flag (codes "save") rows) (has_flag (codes "progress") rows) json) (drawing_in seeds.0 2000 100000 rows)
 
 -- `explore` until a seed reaches what is named, which does not go with `--seed`
 abbrev pub until_in : Text → List Row → Option Asked

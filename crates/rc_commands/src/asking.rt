@@ -1,7 +1,7 @@
 //! What the command line of `ramseg` asks for, read with `clap`.
 
 ghost use Rattle.std.specs.Prelude.{◌≡◌, ◌≢◌, ◌↔◌, Some, None, true, false, map, codes, string_bytes, IfOk};
-ghost use Rattle.std.specs.Prelude.{option_map, MatchResult, option_and_then, List, ℕ};
+ghost use Rattle.std.specs.Prelude.{option_map, MatchResult, option_and_then, List, ℕ, ◌≤◌};
 ghost use Rattle.clap.specs.Faults.{fault_of};
 ghost use Rattle.clap.specs.Words.{app_of, found_of, kind_of, rows_of, subcommand_rows_of};
 ghost use Rattle.rc_commands.specs.Asking.{IsInRange, Tells, as_command, asked_in, asks_for_text, audit_in};
@@ -9,7 +9,7 @@ ghost use Rattle.rc_commands.specs.Asking.{command_in, drawn_in, explain_in, exp
 ghost use Rattle.rc_commands.specs.Asking.{fuzz_line, heap_line, is_alone, is_plain, is_request, is_text, named_in};
 ghost use Rattle.rc_commands.specs.Asking.{option_zip_with, run_in, shrink_in, seeds_or_first, single_in};
 ghost use Rattle.rc_commands.specs.Asking.{sought_in, stops_in, stops_line, survey_in, threads_in, unread_in};
-ghost use Rattle.rc_commands.specs.Asking.{until_in, IsFew, explored_in, is_sized, plain_in};
+ghost use Rattle.rc_commands.specs.Asking.{until_in, IsFew, IsSized, drawing_in, explored_in, is_sized, plain_in};
 ghost use Rattle.rc_commands.specs.Numbers.{decimal_in};
 ghost use Rattle.rc_commands.specs.Commands.{ramseg};
 
@@ -19,6 +19,23 @@ use clap::error::ErrorKind;
 use clap::{ArgMatches, Error};
 use rc_types::Seq;
 use std::alloc::{AllocError, Global};
+
+/// What runs are drawn with so that much happens.
+#[derive(Clone, Copy)]
+pub struct Drawing {
+    /// From which the events are drawn: the only seed, or the first one.
+    pub seed: u64,
+    /// How many steps are drawn.
+    pub steps: u32,
+    /// How many hosts there are.
+    pub hosts: u8,
+    /// How many replicas each segment has.
+    pub factor: u8,
+    /// How many entries a segment takes.
+    pub segment: u16,
+    /// Whether masters free segments.
+    pub free: bool,
+}
 
 /// What a command line asks for. Where a command has `json`, that says whether a JSON document is wanted in place of
 /// the text.
@@ -54,12 +71,7 @@ pub enum Asked {
     },
     /// Draw events from a seed so that much happens, and cut the power after each of them.
     StopsExplored {
-        seed: u64,
-        steps: u32,
-        hosts: u8,
-        factor: u8,
-        segment: u16,
-        free: bool,
+        drawing: Drawing,
         json: bool,
     },
     /// Run nodes on threads: so many hosts, and so many writes.
@@ -69,39 +81,24 @@ pub enum Asked {
     },
     /// Run events that are drawn from a seed so that much happens; or print them, where `save` says so.
     Explore {
-        seed: u64,
-        steps: u32,
-        hosts: u8,
-        factor: u8,
-        segment: u16,
-        free: bool,
+        drawing: Drawing,
         save: bool,
         progress: bool,
         json: bool,
     },
-    /// Run events that are drawn so from each of these seeds, the first to the last, and sum up what was reached.
+    /// Run events that are drawn so from each seed up to the last, and sum up what was reached.
     Survey {
-        first: u64,
+        drawing: Drawing,
         last: u64,
-        steps: u32,
-        hosts: u8,
-        factor: u8,
-        segment: u16,
-        free: bool,
         progress: bool,
         json: bool,
     },
-    /// Look among these seeds for the first whose run reaches what is named so: a rule, or a kind of event or of
-    /// message; print how, or the events up to there, where `save` says so.
+    /// Look among the seeds up to the last for the first whose run reaches what is named so: a rule, or a kind of
+    /// event or of message; print how, or the events up to there, where `save` says so.
     Until {
         goal: Seq<u8>,
-        first: u64,
+        drawing: Drawing,
         last: u64,
-        steps: u32,
-        hosts: u8,
-        factor: u8,
-        segment: u16,
-        free: bool,
         save: bool,
         progress: bool,
         json: bool,
@@ -155,7 +152,8 @@ pub fn asked_for(alloc: Global, words: &[String]) -> Result<Asked, AllocError>
     ensures threads { IfOk result
         (λ a. is_alone (codes "threads") (map string_bytes words.now) ≡ true → a ≡ Asked.Threads 4 10) }
     ensures explore { IfOk result (λ a. is_alone (codes "explore") (map string_bytes words.now) ≡ true
-        → a ≡ Asked.Explore 1 2000 5 2 2 false false false false) }
+        → a ≡ Asked.Explore (record { seed = 1; steps = 2000; hosts = 5; factor = 2; segment = 2; free = false })
+        false false false) }
     ensures log { IfOk result
         (λ a. is_alone (codes "log") (map string_bytes words.now) ≡ true → a ≡ Asked.Log false) }
     ensures picture { IfOk result
@@ -360,19 +358,37 @@ fn explored_of<'a>(given: &ArgMatches<'a>) -> Result<Asked, BadWord<'a>>
 {
     let json = json_of(given)?;
     let seed = number_of(given, "seed", 0, u64::MAX)?.unwrap_or(1);
-    let steps = number_of(given, "steps", 0, 1_000)?.unwrap_or(300) as u32;
+    let drawing = drawing_of(given, seed, 300, 1_000)?;
+    Ok(Asked::StopsExplored { drawing, json })
+}
+
+/// What is drawn from this seed, with so many steps where none are given, and so many at most.
+#[tactic(auto, unfolding(crate::specs::Asking::drawing_in))]
+fn drawing_of<'a>(
+    given: &ArgMatches<'a>,
+    seed: u64,
+    usual: u64,
+    most: u64,
+) -> Result<Drawing, BadWord<'a>>
+    requires usual { usual ≤ most }
+    requires few { most ≤ 100000 }
+    ensures drawing { let drawing = drawing_in seed usual most (rows_of (found_of given.now)) in
+        MatchResult result (λ found. drawing ≡ Some found) (λ _. drawing ≡ None) }
+    ensures seed { IfOk result (λ found. found.seed ≡ seed) }
+    ensures ranges { IfOk result (IsSized most) }
+{
+    let steps = number_of(given, "steps", 0, most)?.unwrap_or(usual) as u32;
     let hosts = number_of(given, "hosts", 1, 16)?.unwrap_or(5) as u8;
     let factor = number_of(given, "factor", 1, 5)?.unwrap_or(2) as u8;
     let segment = number_of(given, "segment", 1, 1_024)?.unwrap_or(2) as u16;
     let free = has_flag(given, "free");
-    Ok(Asked::StopsExplored {
+    Ok(Drawing {
         seed,
         steps,
         hosts,
         factor,
         segment,
         free,
-        json,
     })
 }
 
@@ -468,20 +484,11 @@ fn survey_of<'a>(
         return Err(BadWord::NotTogether);
     }
     let (first, last) = seeds;
-    let steps = number_of(given, "steps", 0, 100_000)?.unwrap_or(2_000) as u32;
-    let hosts = number_of(given, "hosts", 1, 16)?.unwrap_or(5) as u8;
-    let factor = number_of(given, "factor", 1, 5)?.unwrap_or(2) as u8;
-    let segment = number_of(given, "segment", 1, 1_024)?.unwrap_or(2) as u16;
-    let free = has_flag(given, "free");
+    let drawing = drawing_of(given, first, 2_000, 100_000)?;
     let progress = has_flag(given, "progress");
     Ok(Asked::Survey {
-        first,
+        drawing,
         last,
-        steps,
-        hosts,
-        factor,
-        segment,
-        free,
         progress,
         json,
     })
@@ -495,20 +502,11 @@ fn single_of<'a>(given: &ArgMatches<'a>, json: bool) -> Result<Asked, BadWord<'a
     ensures ranges { IfOk result IsInRange }
 {
     let seed = number_of(given, "seed", 0, u64::MAX)?.unwrap_or(1);
-    let steps = number_of(given, "steps", 0, 100_000)?.unwrap_or(2_000) as u32;
-    let hosts = number_of(given, "hosts", 1, 16)?.unwrap_or(5) as u8;
-    let factor = number_of(given, "factor", 1, 5)?.unwrap_or(2) as u8;
-    let segment = number_of(given, "segment", 1, 1_024)?.unwrap_or(2) as u16;
-    let free = has_flag(given, "free");
+    let drawing = drawing_of(given, seed, 2_000, 100_000)?;
     let save = has_flag(given, "save");
     let progress = has_flag(given, "progress");
     Ok(Asked::Explore {
-        seed,
-        steps,
-        hosts,
-        factor,
-        segment,
-        free,
+        drawing,
         save,
         progress,
         json,
@@ -556,22 +554,13 @@ fn sought_of<'a>(
     ensures ranges { IfOk result IsInRange }
 {
     let (first, last) = seeds;
-    let steps = number_of(given, "steps", 0, 100_000)?.unwrap_or(2_000) as u32;
-    let hosts = number_of(given, "hosts", 1, 16)?.unwrap_or(5) as u8;
-    let factor = number_of(given, "factor", 1, 5)?.unwrap_or(2) as u8;
-    let segment = number_of(given, "segment", 1, 1_024)?.unwrap_or(2) as u16;
-    let free = has_flag(given, "free");
+    let drawing = drawing_of(given, first, 2_000, 100_000)?;
     let save = has_flag(given, "save");
     let progress = has_flag(given, "progress");
     Ok(Asked::Until {
         goal,
-        first,
+        drawing,
         last,
-        steps,
-        hosts,
-        factor,
-        segment,
-        free,
         save,
         progress,
         json,

@@ -5,4 +5,4 @@ mod asking;
 mod commands;
 mod numbers;
 
-pub use asking::{Asked, asked_for};
+pub use asking::{Asked, Drawing, asked_for};

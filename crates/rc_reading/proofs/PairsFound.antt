@@ -25,7 +25,8 @@ pub id_items_found : (ds : Items) →
     id_in (listed ds) ≡ found_by (both_in server_id) (taken_from (λ pair d. Some (id_item pair d)) (Some Nothing) ds)
 id_items_found ds = id_found (listed ds)
 
-name_found : (ds : List Data) → name_in ds ≡ option_and_then (both_in replica_name) (each (λ pair d. Some (name_item pair d)) Nothing ds)
+name_found : (ds : List Data) →
+    name_in ds ≡ option_and_then (both_in replica_name) (each (λ pair d. Some (name_item pair d)) Nothing ds)
 name_found [] = refl
 name_found (a ∷ []) = refl
 name_found (a ∷ b ∷ []) = refl

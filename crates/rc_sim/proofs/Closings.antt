@@ -1,5 +1,5 @@
 -- What came of a command.
-use Rattle.std.proofs.Common.{◌≡◌, ℕ, List, Option, Some, None, Result, Ok, Err, IfOk, refl}
+use Rattle.std.proofs.Common.{◌≡◌, ◌≢◌, ℕ, List, Option, Some, None, Result, Ok, Err, IfOk, refl, subst}
 use Rattle.std.specs.Option.{IfSome}
 use Rattle.std.specs.Io.KnownBytes.{Keeps}
 use Rattle.rc_sim.specs.declared.verdicts.Verdict.{Verdict}
@@ -15,19 +15,30 @@ keeps_same (Some bytes) = refl
 abbrev failing : SimFault → Result Verdict SimFault
 failing fault = Err fault
 
-failed_answer : (F : List ℕ → Verdict → List ℕ → Type 0) (fault : SimFault) (input old new : Option (List ℕ))
-    → ((count : ℕ) → failing fault ≡ Err (Write count) → IfSome input (λ bytes. IsBegun (F bytes) count old new))
-    → (failing fault ≡ Err Memory → Keeps old new) → (failing fault ≡ Err Read → Keeps old new)
-    → Answered F (Err fault) input old new
-failed_answer F Memory input old new cut memory unread = memory refl
-failed_answer F Read input old new cut memory unread = unread refl
-failed_answer F (Write count) input old new cut memory unread = cut count refl
+-- nothing is written where nothing could be read, or memory was refused
+pub unread : (F : List ℕ → Verdict → List ℕ → Type 0) {T : Type 0} (reading : Result T SimFault) (fault : SimFault)
+    (input known : Option (List ℕ)) → reading ≡ Err fault → ((count : ℕ) → reading ≢ Err (Write count))
+    → Answered F (failing fault) input known known
+unread F reading Memory input known is none = keeps_same known
+unread F reading Read input known is none = keeps_same known
+unread F reading (Write count) input known is none = absurd (none count is)
 
--- what came of a command that reads
-pub answered : (F : List ℕ → Verdict → List ℕ → Type 0) (outcome : Result Verdict SimFault) (input old new : Option (List ℕ))
-    → IfOk outcome (λ verdict. IfSome input (λ bytes. IsWritten (F bytes) verdict old new))
-    → ((count : ℕ) → outcome ≡ Err (Write count) → IfSome input (λ bytes. IsBegun (F bytes) count old new))
-    → (outcome ≡ Err Memory → Keeps old new) → (outcome ≡ Err Read → Keeps old new)
-    → Answered F outcome input old new
-answered F (Ok verdict) input old new ok cut memory unread = ok
-answered F (Err fault) input old new ok cut memory unread = failed_answer F fault input old new cut memory unread
+-- what an answer says of each outcome
+
+pub wholly : (F : List ℕ → Verdict → List ℕ → Type 0) (outcome : Result Verdict SimFault) (input old new : Option (List ℕ))
+    → Answered F outcome input old new → IfOk outcome (λ verdict. IfSome input (λ bytes. IsWritten (F bytes) verdict old new))
+wholly F (Ok verdict) input old new answered = answered
+wholly F (Err fault) input old new answered = tt
+
+pub partly : (F : List ℕ → Verdict → List ℕ → Type 0) (outcome : Result Verdict SimFault)
+    (input old new : Option (List ℕ)) (count : ℕ) → Answered F outcome input old new →
+    outcome ≡ Err (Write count) → IfSome input (λ bytes. IsBegun (F bytes) count old new)
+partly F outcome input old new count answered is = subst (λ o. Answered F o input old new) is answered
+
+pub without_memory : (F : List ℕ → Verdict → List ℕ → Type 0) (outcome : Result Verdict SimFault)
+    (input old new : Option (List ℕ)) → Answered F outcome input old new → outcome ≡ Err Memory → Keeps old new
+without_memory F outcome input old new answered is = subst (λ o. Answered F o input old new) is answered
+
+pub without_input : (F : List ℕ → Verdict → List ℕ → Type 0) (outcome : Result Verdict SimFault)
+    (input old new : Option (List ℕ)) → Answered F outcome input old new → outcome ≡ Err Read → Keeps old new
+without_input F outcome input old new answered is = subst (λ o. Answered F o input old new) is answered

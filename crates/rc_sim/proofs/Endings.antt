@@ -1,6 +1,7 @@
 -- What comes of a scenario's run, as it ended or stopped.
-use Rattle.std.proofs.Common.{◌≡◌, ◌⊎◌, inl, inr, ◌≤◌, ℕ, Bool, List, [], ◌++◌, length, Option, Some, None, Result, Ok, Err, IfOk, sym}
-use Rattle.std.proofs.Common.{ap, subst, ◌∙◌, ◌<◌, take, string_bytes}
+use Rattle.std.proofs.Common.{◌≡◌, ◌≢◌, ◌⊎◌, inl, inr, ◌≤◌, ℕ, Bool, List, [], ◌++◌, length, Option}
+use Rattle.std.proofs.Common.{Some, None, Result, Ok, Err, IfOk, sym}
+use Rattle.std.proofs.Common.{ap, subst, ◌∙◌, ◌<◌, take, string_bytes, refl}
 use Rattle.std.specs.Option.{IfSome}
 use Rattle.std.specs.Io.KnownBytes.{Appends}
 use Rattle.std.proofs.lemmas.List.{append-nil}
@@ -18,11 +19,13 @@ use Rattle.rc_draw.specs.Draw.{drawn_world}
 use Rattle.rc_sim.specs.declared.verdicts.Verdict.{Verdict}
 use Rattle.rc_sim.specs.declared.verdicts.Verdict.TheVariants.{Stopped}
 use Rattle.rc_sim.specs.declared.verdicts.SimFault.{SimFault}
+use Rattle.rc_sim.specs.declared.verdicts.SimFault.TheVariants.{Memory, Read, Write}
 use Rattle.rc_sim.specs.declared.verdicts.Output.{Output}
 use Rattle.rc_sim.specs.declared.verdicts.Output.TheVariants.{Report}
 use Rattle.rc_sim.specs.declared.answers.Answer.{Answer}
 use Rattle.rc_runs.specs.Steps.{RunsThrough, StopsAt}
 use Rattle.rc_sim.specs.Written.{IsWritten, IsBegun}
+use Rattle.rc_sim.specs.Statuses.{Answered}
 use Rattle.rc_sim.specs.Verdicts.{verdict_of, printed_of, last_line, ended_verdict, ended_output}
 use Rattle.rc_sim.specs.Verdicts.{found_verdict, Comes, Played, Storied, Narrated, Judged, Drawn, ShrunkOf, Shrunk}
 use Rattle.rc_sim.specs.Verdicts.{HealedOf, Healed}
@@ -97,7 +100,7 @@ stopped_answer output (Err e) scenario events start new world place why code sam
 -- What is written
 
 -- the whole text of an answer
-pub written_of : (remaining : Option (List ℕ)) (bytes slice : List ℕ) (F : List ℕ → Verdict → List ℕ → Type 0)
+written_of : (remaining : Option (List ℕ)) (bytes slice : List ℕ) (F : List ℕ → Verdict → List ℕ → Type 0)
     (result : Result Verdict SimFault) (verdict : Verdict) (text : List ℕ) (old new : Option (List ℕ))
     → IfSome remaining (λ all. value_in bytes ≡ value_in all) → slice ≡ bytes →
     ((one other : List ℕ) → value_in one ≡ value_in other → F one verdict text → F other verdict text)
@@ -109,7 +112,7 @@ written_of (Some all) bytes slice F (Ok v) verdict text old new same sliced goes
     rw told (text, goes slice all (ap value_in sliced ∙ same) comes, appends)
 
 -- a beginning of it
-pub begun_of : (remaining : Option (List ℕ)) (bytes slice : List ℕ) (F : List ℕ → Verdict → List ℕ → Type 0)
+begun_of : (remaining : Option (List ℕ)) (bytes slice : List ℕ) (F : List ℕ → Verdict → List ℕ → Type 0)
     (verdict : Verdict) (text : List ℕ) (count : ℕ) (old new : Option (List ℕ))
     → IfSome remaining (λ all. value_in bytes ≡ value_in all) → slice ≡ bytes →
     ((one other : List ℕ) → value_in one ≡ value_in other → F one verdict text → F other verdict text)
@@ -118,6 +121,21 @@ pub begun_of : (remaining : Option (List ℕ)) (bytes slice : List ℕ) (F : Lis
 begun_of None bytes slice F verdict text count old new same sliced goes comes begun = tt
 begun_of (Some all) bytes slice F verdict text count old new same sliced goes comes begun =
     (verdict, text, goes slice all (ap value_in sliced ∙ same) comes, begun.0, begun.1)
+
+-- what came of a command that reads, whose answer was written, or a beginning of it
+pub answered_of : (remaining : Option (List ℕ)) (bytes slice : List ℕ) (F : List ℕ → Verdict → List ℕ → Type 0)
+    (outcome : Result Verdict SimFault) (verdict : Verdict) (text : List ℕ) (old new : Option (List ℕ))
+    → IfSome remaining (λ all. value_in bytes ≡ value_in all) → slice ≡ bytes →
+    ((one other : List ℕ) → value_in one ≡ value_in other → F one verdict text → F other verdict text)
+    → F slice verdict text → IfOk outcome (λ v. v ≡ verdict) → IfOk outcome (λ _. Appends old new text)
+    → ((count : ℕ) → outcome ≡ Err (Write count) → (count < length text) × Appends old new (take count text))
+    → (outcome ≢ Err Memory) × (outcome ≢ Err Read) → Answered F outcome remaining old new
+answered_of remaining bytes slice F (Ok v) verdict text old new same sliced goes comes told appends cut fault =
+    written_of remaining bytes slice F (Ok v) verdict text old new same sliced goes comes told appends
+answered_of remaining bytes slice F (Err Memory) verdict text old new same sliced goes comes told appends cut fault = absurd (fault.0 refl)
+answered_of remaining bytes slice F (Err Read) verdict text old new same sliced goes comes told appends cut fault = absurd (fault.1 refl)
+answered_of remaining bytes slice F (Err (Write count)) verdict text old new same sliced goes comes told appends cut fault =
+    begun_of remaining bytes slice F verdict text count old new same sliced goes comes (cut count refl)
 
 -- bytes that are one value come to the same
 pub played_so : (output : Output) (verdict : Verdict) (text : List ℕ) (one other : List ℕ) →

@@ -56,14 +56,11 @@ ComesOf asked.History bytes verdict text = Narrated bytes verdict text
 ComesOf asked.Check bytes verdict text = Checked bytes verdict text
 ComesOf (asked.Fuzz seed steps free json) bytes verdict text = Drawn seed steps free verdict text
 ComesOf (asked.Stops seed steps json) bytes verdict text = PowerCut seed steps verdict text
-ComesOf (asked.StopsExplored seed steps hosts factor segment free json) bytes verdict text = PowersCut verdict text
+ComesOf (asked.StopsExplored drawing json) bytes verdict text = PowersCut verdict text
 ComesOf (asked.Threads hosts writes) bytes verdict text = Threaded hosts writes verdict text
-ComesOf (asked.Explore seed steps hosts factor segment free save progress json) bytes verdict text =
-    Explored save verdict text
-ComesOf (asked.Survey first last steps hosts factor segment free progress json) bytes verdict text =
-    Surveyed verdict text
-ComesOf (asked.Until goal first last steps hosts factor segment free save progress json) bytes verdict text =
-    Sought verdict text
+ComesOf (asked.Explore drawing save progress json) bytes verdict text = Explored save verdict text
+ComesOf (asked.Survey drawing last progress json) bytes verdict text = Surveyed verdict text
+ComesOf (asked.Until goal drawing last save progress json) bytes verdict text = Sought verdict text
 ComesOf (asked.Shrink keep) bytes verdict text = Shrunk bytes verdict text
 ComesOf (asked.Log json) bytes verdict text = Narrated bytes verdict text
 ComesOf (asked.Picture mermaid) bytes verdict text = Narrated bytes verdict text
@@ -78,10 +75,10 @@ wants_json (asked.Run heap json) = json
 wants_json (asked.Audit json) = json
 wants_json (asked.Fuzz seed steps free json) = json
 wants_json (asked.Stops seed steps json) = json
-wants_json (asked.StopsExplored seed steps hosts factor segment free json) = json
-wants_json (asked.Explore seed steps hosts factor segment free save progress json) = not save && json
-wants_json (asked.Survey first last steps hosts factor segment free progress json) = json
-wants_json (asked.Until goal first last steps hosts factor segment free save progress json) = not save && json
+wants_json (asked.StopsExplored drawing json) = json
+wants_json (asked.Explore drawing save progress json) = not save && json
+wants_json (asked.Survey drawing last progress json) = json
+wants_json (asked.Until goal drawing last save progress json) = not save && json
 wants_json _ = false
 
 -- what is told in place of a text in JSON: nothing is claimed of it but that its verdict is that of the text

@@ -1,18 +1,17 @@
 //! What is answered to the bytes of a scenario or of a trace.
 
-ghost use Rattle.std.specs.Prelude.{◌≡◌, ◌++◌, string_bytes, Ok, IfOk, IfErr};
+ghost use Rattle.std.specs.Prelude.{◌≡◌, ◌++◌, string_bytes, Ok, IfOk};
 ghost use Rattle.rc_model.specs.Breach.{breach};
 ghost use Rattle.rc_model.specs.Report.{report};
 ghost use Rattle.rc_world.specs.Happened.{sent_in};
 ghost use Rattle.rc_world.specs.HostView.{IsWithinLimits};
 ghost use Rattle.rc_report.specs.Ends.{error_line};
 ghost use Rattle.rc_reading.specs.Scenario.{reading};
-ghost use Rattle.rc_sim.specs.declared.verdicts.SimFault.TheVariants.{Memory};
 ghost use Rattle.rc_sim.specs.declared.verdicts.Verdict.TheVariants.{Bad, Stopped};
 ghost use Rattle.rc_sim.specs.Verdicts.{audited, verdict_of, printed_of, last_line, Comes, Judged};
 
 use crate::playing::Kept;
-use crate::verdicts::{Output, SimFault, Verdict};
+use crate::verdicts::{Output, Verdict};
 use rc_audit::audit;
 use rc_reading::{ReadFault, Scenario, read_scenario};
 use rc_report::{Finding, add_stopped, error_text, report_of};
@@ -21,7 +20,7 @@ use rc_telling::Factors;
 use rc_traces::write_trace;
 use rc_types::{Code, Message};
 use rc_world::World;
-use std::alloc::{Allocator, Global};
+use std::alloc::{AllocError, Allocator, Global};
 
 /// What is answered, and what is printed.
 #[derive(Drop)]
@@ -40,13 +39,12 @@ pub(crate) fn answer_to<A: Allocator + Clone>(
     tablets: A,
     output: Output,
     kept: &mut Kept,
-) -> Result<Answer, SimFault>
+) -> Result<Answer, AllocError>
     ensures ok { IfOk result (λ answer. Comes output (reading bytes.now) answer.verdict (string_bytes answer.text)) }
-    ensures fault { IfErr result (λ fault. fault ≡ Memory) }
 {
     match read_scenario(alloc, bytes) {
         Ok(scenario) => played(alloc, scenario, tablets, output, kept),
-        Err(ReadFault::OutOfMemory) => Err(SimFault::Memory),
+        Err(ReadFault::OutOfMemory) => Err(AllocError),
         Err(ReadFault::BadInput(place)) => bad(alloc, place),
     }
 }
@@ -58,10 +56,9 @@ fn played<A: Allocator + Clone>(
     tablets: A,
     output: Output,
     kept: &mut Kept,
-) -> Result<Answer, SimFault>
+) -> Result<Answer, AllocError>
     requires { IsWithinLimits scenario.setup }
     ensures ok { IfOk result (λ answer. Comes output (Ok scenario) answer.verdict (string_bytes answer.text)) }
-    ensures fault { IfErr result (λ fault. fault ≡ Memory) }
 {
     let Scenario { setup, events } = scenario;
     let factors = Factors::of(&setup);
@@ -81,10 +78,9 @@ pub(crate) fn ended<A: Allocator + Clone>(
     alloc: Global,
     world: &World<A>,
     output: Output,
-) -> Result<Answer, SimFault>
+) -> Result<Answer, AllocError>
     ensures verdict { IfOk result (λ answer. answer.verdict ≡ verdict_of output (sent_in world.now)) }
     ensures text { IfOk result (λ answer. string_bytes answer.text ≡ printed_of output (sent_in world.now)) }
-    ensures fault { IfErr result (λ fault. fault ≡ Memory) }
 {
     match output {
         Output::Report => reported(alloc, world.sent()),
@@ -93,13 +89,12 @@ pub(crate) fn ended<A: Allocator + Clone>(
 }
 
 /// The answer with a report of these messages.
-fn reported(alloc: Global, sent: &[Message]) -> Result<Answer, SimFault>
+fn reported(alloc: Global, sent: &[Message]) -> Result<Answer, AllocError>
     ensures verdict { IfOk result (λ answer. answer.verdict ≡ audited (breach sent.now)) }
     ensures text { IfOk result (λ answer. string_bytes answer.text ≡ report sent.now) }
-    ensures fault { IfErr result (λ fault. fault ≡ Memory) }
 {
-    let found = audit(alloc, sent).map_err(|_| SimFault::Memory)?;
-    let text = report_of(alloc, sent, found).map_err(|_| SimFault::Memory)?;
+    let found = audit(alloc, sent)?;
+    let text = report_of(alloc, sent, found)?;
     let verdict = match found {
         None => Verdict::Clean,
         Some(_) => Verdict::Breach,
@@ -113,10 +108,9 @@ fn reported(alloc: Global, sent: &[Message]) -> Result<Answer, SimFault>
 }
 
 /// The answer with a trace of these messages.
-fn traced(alloc: Global, sent: &[Message]) -> Result<Answer, SimFault>
+fn traced(alloc: Global, sent: &[Message]) -> Result<Answer, AllocError>
     ensures verdict { IfOk result (λ answer. answer.verdict ≡ verdict_of Output.Trace sent.now) }
     ensures text { IfOk result (λ answer. string_bytes answer.text ≡ printed_of Output.Trace sent.now) }
-    ensures fault { IfErr result (λ fault. fault ≡ Memory) }
 {
     let text = write_trace(alloc, sent)?;
     let verdict = Verdict::Clean;
@@ -135,11 +129,10 @@ pub(crate) fn stopped<A: Allocator + Clone>(
     output: Output,
     place: usize,
     code: Code,
-) -> Result<Answer, SimFault>
+) -> Result<Answer, AllocError>
     ensures verdict { IfOk result (λ answer. answer.verdict ≡ Stopped place code) }
     ensures text { IfOk result (λ answer. string_bytes answer.text
         ≡ printed_of output (sent_in world.now) ++ last_line output code place) }
-    ensures fault { IfErr result (λ fault. fault ≡ Memory) }
 {
     let Answer { mut text, sent, .. } = ended(alloc, world, output)?;
     add_last_line(alloc, &mut text, output, place, code)?;
@@ -158,23 +151,21 @@ fn add_last_line(
     output: Output,
     place: usize,
     code: Code,
-) -> Result<(), SimFault>
+) -> Result<(), AllocError>
     ensures ok { IfOk result (λ _. string_bytes text.new ≡ string_bytes text.old ++ last_line output code place) }
-    ensures fault { IfErr result (λ fault. fault ≡ Memory) }
 {
     match output {
-        Output::Report => { add_stopped(alloc, text, code, place).map_err(|_| SimFault::Memory) }
+        Output::Report => add_stopped(alloc, text, code, place),
         Output::Trace => Ok(()),
     }
 }
 
 /// The answer to a scenario that is wrong at this place.
-pub(crate) fn bad(alloc: Global, place: usize) -> Result<Answer, SimFault>
+pub(crate) fn bad(alloc: Global, place: usize) -> Result<Answer, AllocError>
     ensures verdict { IfOk result (λ answer. answer.verdict ≡ Bad place) }
     ensures text { IfOk result (λ answer. string_bytes answer.text ≡ error_line place) }
-    ensures fault { IfErr result (λ fault. fault ≡ Memory) }
 {
-    let text = error_text(alloc, place).map_err(|_| SimFault::Memory)?;
+    let text = error_text(alloc, place)?;
     let verdict = Verdict::Bad(place);
     Ok(Answer {
         verdict,
@@ -184,11 +175,10 @@ pub(crate) fn bad(alloc: Global, place: usize) -> Result<Answer, SimFault>
 }
 
 /// The answer to these bytes as a trace. It fails only where memory was refused.
-pub fn judgement_of(alloc: Global, bytes: &[u8]) -> Result<Answer, SimFault>
+pub fn judgement_of(alloc: Global, bytes: &[u8]) -> Result<Answer, AllocError>
     ensures ok { IfOk result (λ answer. Judged bytes.now answer.verdict (string_bytes answer.text)) }
-    ensures fault { IfErr result (λ fault. fault ≡ Memory) }
 {
-    let judged = rc_report::judge(alloc, bytes).map_err(|_| SimFault::Memory)?;
+    let judged = rc_report::judge(alloc, bytes)?;
     let verdict = match judged.finding {
         Finding::Clean => Verdict::Clean,
         Finding::Breach => Verdict::Breach,

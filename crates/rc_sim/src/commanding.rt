@@ -9,9 +9,8 @@ ghost use Rattle.rc_sim.specs.declared.verdicts.Output.TheVariants.{Report};
 ghost use Rattle.rc_sim.specs.declared.verdicts.SimFault.TheVariants.{Memory, Read as ReadFailed, Write as WriteFailed};
 ghost use Rattle.rc_sim.specs.declared.verdicts.Verdict.TheVariants.{Breach, Wrong};
 ghost use Rattle.rc_sim.specs.Failures.{OneFailed, failed_reads, failed_writes};
-ghost use Rattle.rc_sim.specs.Histories.{Checked};
 ghost use Rattle.rc_sim.specs.Statuses.{fault_status, outcome_status, Answered, ComesOf, Does, ShownOf};
-ghost use Rattle.rc_sim.specs.Verdicts.{Played, Narrated, Healed, Judged, Shrunk, Told};
+ghost use Rattle.rc_sim.specs.Verdicts.{Played, Told};
 ghost use Rattle.rc_sim.specs.Written.{IsWritten, IsBegun};
 
 use crate::counted::Counted;
@@ -24,17 +23,15 @@ use crate::healing::heal;
 use crate::histories::weigh_history;
 use crate::narrating::{Telling, narrate};
 use crate::outlets::write_all;
-use crate::playing::{Kept, play, weigh};
+use crate::playing::{play, weigh};
 use crate::seeking::{Search, seek};
 use crate::shrinking::shrink;
 use crate::staking::tell_stake_of_drawn;
 use crate::surveying::survey;
-use crate::telling::tell_why;
 use crate::threading::threads;
 use crate::verdicts::{Output, SimFault, Verdict};
 use linked_list_allocator::LocalHeap;
-use rc_commands::{Asked, asked_for};
-use rc_reasons::Dialect;
+use rc_commands::{Asked, Drawing, asked_for};
 use rc_study::Options;
 use std::alloc::{Allocator, Global};
 use std::io::{Read, Write};
@@ -48,8 +45,8 @@ use std::thread;
 ///
 /// `run` and `trace` run the scenario that the reader gives (see [`simulate`](crate::simulate)), `log` and `picture`
 /// tell its story, `history` what its clients saw, `heal` adds what brings its tablets back, `shrink` leaves out of it
-/// what it can, `audit` judges the trace that it gives ([`judge`](crate::judge)), `check` the history; `fuzz`, `stops`,
-/// `threads`, `explore` and `explain` read nothing. Where a JSON document is wanted, that is written in place of the
+/// what it can, `audit` judges the trace that it gives, `check` the history; `fuzz`, `stops`, `threads`, `explore` and
+/// `explain` read nothing. Where a JSON document is wanted, that is written in place of the
 /// text. Help and the version go to the writer. What is wrong with the
 /// command line, the line of a fault (`memory`, `read`, `write N`), and why a scenario or a trace was refused, go to
 /// `errors`; where that can not be written, the status alone tells. Only `threads` starts threads and waits.
@@ -136,10 +133,10 @@ fn done<H: thread::Threads + Wait + Sync, R: Read, W: Write, E: Write>(
 {
     match asked {
         Asked::Run { heap, .. } => run(alloc, heap, reader, writer, errors),
-        Asked::Trace => played(alloc, alloc, Output::Trace, reader, writer, errors),
-        Asked::Audit { .. } => audited(alloc, reader, writer, errors),
-        Asked::History => narrated(alloc, Telling::History, reader, writer, errors),
-        Asked::Check => checked(alloc, reader, writer, errors),
+        Asked::Trace => play(alloc, alloc, Output::Trace, reader, writer, errors),
+        Asked::Audit { .. } => weigh(alloc, reader, writer, errors),
+        Asked::History => narrate(alloc, Telling::History, reader, writer, errors),
+        Asked::Check => weigh_history(alloc, reader, writer, errors),
         Asked::Fuzz {
             seed,
             steps,
@@ -150,89 +147,38 @@ fn done<H: thread::Threads + Wait + Sync, R: Read, W: Write, E: Write>(
             tell_stake_of_drawn(alloc, seed, steps as usize, errors);
             cut_powers(alloc, seed, steps as usize, writer)
         }
-        Asked::StopsExplored {
-            seed,
-            steps,
-            hosts,
-            factor,
-            segment,
-            free,
-            ..
-        } => {
-            let options = Options {
-                seed,
-                steps: steps as usize,
-                hosts,
-                factor,
-                segment,
-                free,
-            };
+        Asked::StopsExplored { drawing, .. } => {
+            let options = options_of(&drawing);
             cut_explored(alloc, &options, writer, errors)
         }
         Asked::Threads { hosts, writes } => threads(rt, alloc, hosts, writes, writer, errors),
         Asked::Explore {
-            seed,
-            steps,
-            hosts,
-            factor,
-            segment,
-            free,
+            drawing,
             save,
             progress,
             ..
         } => {
-            let options = Options {
-                seed,
-                steps: steps as usize,
-                hosts,
-                factor,
-                segment,
-                free,
-            };
+            let options = options_of(&drawing);
             explore(alloc, &options, save, progress, writer, errors)
         }
         Asked::Survey {
-            first,
+            drawing,
             last,
-            steps,
-            hosts,
-            factor,
-            segment,
-            free,
             progress,
             ..
         } => {
-            let options = Options {
-                seed: first,
-                steps: steps as usize,
-                hosts,
-                factor,
-                segment,
-                free,
-            };
+            let options = options_of(&drawing);
             survey(alloc, &options, last, progress, writer, errors)
         }
         Asked::Until {
             goal,
-            first,
+            drawing,
             last,
-            steps,
-            hosts,
-            factor,
-            segment,
-            free,
             save,
             progress,
             ..
         } => {
-            let options = Options {
-                seed: first,
-                steps: steps as usize,
-                hosts,
-                factor,
-                segment,
-                free,
-            };
+            let options = options_of(&drawing);
             let search = Search {
                 goal,
                 last,
@@ -241,15 +187,31 @@ fn done<H: thread::Threads + Wait + Sync, R: Read, W: Write, E: Write>(
             };
             seek(alloc, &options, &search, writer, errors)
         }
-        Asked::Shrink { keep } => shrunk(alloc, keep.as_slice(), reader, writer, errors),
-        Asked::Log { json } => narrated(alloc, Telling::of_log(json), reader, writer, errors),
+        Asked::Shrink { keep } => shrink(alloc, keep.as_slice(), reader, writer, errors),
+        Asked::Log { json } => narrate(alloc, Telling::of_log(json), reader, writer, errors),
         Asked::Picture { mermaid } => {
-            narrated(alloc, Telling::of_picture(mermaid), reader, writer, errors)
+            narrate(alloc, Telling::of_picture(mermaid), reader, writer, errors)
         }
-        Asked::Heal { power_cycle } => healed(alloc, power_cycle, reader, writer, errors),
+        Asked::Heal { power_cycle } => heal(alloc, power_cycle, reader, writer, errors),
         Asked::Explain { word, json } => explained(alloc, word, json, writer, errors),
         Asked::Tell(text) => tell(text.as_str(), writer),
         Asked::Wrong(text) => Ok(refused(text.as_str(), errors)),
+    }
+}
+
+/// What a run is drawn with, as it was asked for.
+fn options_of(drawing: &Drawing) -> Options
+    ensures same { (result.seed ≡ drawing.now.seed) × (result.steps ≡ drawing.now.steps)
+        × (result.hosts ≡ drawing.now.hosts) × (result.factor ≡ drawing.now.factor)
+        × (result.segment ≡ drawing.now.segment) × (result.free ≡ drawing.now.free) }
+{
+    Options {
+        seed: drawing.seed,
+        steps: drawing.steps as usize,
+        hosts: drawing.hosts,
+        factor: drawing.factor,
+        segment: drawing.segment,
+        free: drawing.free,
     }
 }
 
@@ -269,127 +231,12 @@ fn run<R: Read, W: Write, E: Write>(
     ensures no_breach { result ≢ Ok Breach }
 {
     let Some(bytes) = heap else {
-        return played(alloc, alloc, Output::Report, reader, writer, errors);
+        return play(alloc, alloc, Output::Report, reader, writer, errors);
     };
     match LocalHeap::new(alloc, bytes) {
-        Ok(heap) => played(alloc, &heap, Output::Report, reader, writer, errors),
+        Ok(heap) => play(alloc, &heap, Output::Report, reader, writer, errors),
         Err(_) => Err(SimFault::Memory),
     }
-}
-
-/// Plays the scenario that the reader gives, and tells what is wrong with it.
-fn played<R: Read, W: Write, E: Write, A: Allocator + Clone>(
-    alloc: Global,
-    tablets: A,
-    output: Output,
-    reader: &mut Counted<R>,
-    writer: &mut Counted<W>,
-    errors: &mut Counted<E>,
-) -> Result<Verdict, SimFault>
-    ensures answered { Answered (Played output) result (R.remaining reader.old.inner) (W.contents writer.old.inner)
-        (W.contents writer.new.inner) }
-    ensures reads { reader.new.failures ≡ failed_reads result reader.old.failures }
-    ensures writes { writer.new.failures ≡ failed_writes result writer.old.failures }
-    ensures no_breach { result ≢ Ok Breach }
-{
-    let mut kept = Kept::new(alloc);
-    let outcome = play(alloc, reader, writer, tablets, output, &mut kept);
-    tell_why(alloc, Dialect::Scenario, &outcome, &kept, errors);
-    outcome
-}
-
-/// Judges the trace that the reader gives, and tells what is wrong with it.
-fn audited<R: Read, W: Write, E: Write>(
-    alloc: Global,
-    reader: &mut Counted<R>,
-    writer: &mut Counted<W>,
-    errors: &mut Counted<E>,
-) -> Result<Verdict, SimFault>
-    ensures answered { Answered Judged result (R.remaining reader.old.inner) (W.contents writer.old.inner)
-        (W.contents writer.new.inner) }
-    ensures reads { reader.new.failures ≡ failed_reads result reader.old.failures }
-    ensures writes { writer.new.failures ≡ failed_writes result writer.old.failures }
-{
-    let mut kept = Kept::new(alloc);
-    let outcome = weigh(alloc, reader, writer, &mut kept);
-    tell_why(alloc, Dialect::Trace, &outcome, &kept, errors);
-    outcome
-}
-
-/// Judges the history that the reader gives, and tells what is wrong with it.
-fn checked<R: Read, W: Write, E: Write>(
-    alloc: Global,
-    reader: &mut Counted<R>,
-    writer: &mut Counted<W>,
-    errors: &mut Counted<E>,
-) -> Result<Verdict, SimFault>
-    ensures answered { Answered Checked result (R.remaining reader.old.inner) (W.contents writer.old.inner)
-        (W.contents writer.new.inner) }
-    ensures reads { reader.new.failures ≡ failed_reads result reader.old.failures }
-    ensures writes { writer.new.failures ≡ failed_writes result writer.old.failures }
-{
-    weigh_history(alloc, reader, writer, errors)
-}
-
-/// Tells the story of the scenario that the reader gives, and what is wrong with it.
-fn narrated<R: Read, W: Write, E: Write>(
-    alloc: Global,
-    telling: Telling,
-    reader: &mut Counted<R>,
-    writer: &mut Counted<W>,
-    errors: &mut Counted<E>,
-) -> Result<Verdict, SimFault>
-    ensures answered { Answered Narrated result (R.remaining reader.old.inner) (W.contents writer.old.inner)
-        (W.contents writer.new.inner) }
-    ensures reads { reader.new.failures ≡ failed_reads result reader.old.failures }
-    ensures writes { writer.new.failures ≡ failed_writes result writer.old.failures }
-    ensures no_breach { result ≢ Ok Breach }
-{
-    let mut kept = Kept::new(alloc);
-    let outcome = narrate(alloc, reader, writer, telling, &mut kept);
-    tell_why(alloc, Dialect::Scenario, &outcome, &kept, errors);
-    outcome
-}
-
-/// Shrinks the scenario that the reader gives, and tells what is wrong with it.
-fn shrunk<R: Read, W: Write, E: Write>(
-    alloc: Global,
-    keep: &[u8],
-    reader: &mut Counted<R>,
-    writer: &mut Counted<W>,
-    errors: &mut Counted<E>,
-) -> Result<Verdict, SimFault>
-    ensures answered { Answered Shrunk result (R.remaining reader.old.inner) (W.contents writer.old.inner)
-        (W.contents writer.new.inner) }
-    ensures reads { reader.new.failures ≡ failed_reads result reader.old.failures }
-    ensures writes { writer.new.failures ≡ failed_writes result writer.old.failures }
-    ensures no_breach { result ≢ Ok Breach }
-{
-    let mut kept = Kept::new(alloc);
-    let keep = str::from_utf8(keep).unwrap_or("");
-    let outcome = shrink(alloc, reader, writer, keep, &mut kept);
-    tell_why(alloc, Dialect::Scenario, &outcome, &kept, errors);
-    outcome
-}
-
-/// Heals the scenario that the reader gives, and tells what it did, or what is wrong with it.
-fn healed<R: Read, W: Write, E: Write>(
-    alloc: Global,
-    power_cycle: bool,
-    reader: &mut Counted<R>,
-    writer: &mut Counted<W>,
-    errors: &mut Counted<E>,
-) -> Result<Verdict, SimFault>
-    ensures answered { Answered Healed result (R.remaining reader.old.inner) (W.contents writer.old.inner)
-        (W.contents writer.new.inner) }
-    ensures reads { reader.new.failures ≡ failed_reads result reader.old.failures }
-    ensures writes { writer.new.failures ≡ failed_writes result writer.old.failures }
-    ensures no_breach { result ≢ Ok Breach }
-{
-    let mut kept = Kept::new(alloc);
-    let outcome = heal(alloc, power_cycle, reader, writer, errors, &mut kept);
-    tell_why(alloc, Dialect::Scenario, &outcome, &kept, errors);
-    outcome
 }
 
 /// Writes a text: help, or the version.

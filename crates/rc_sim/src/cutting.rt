@@ -1,6 +1,6 @@
 //! From a seed to bytes: the power is cut after each event of a run that is drawn to reach much.
 
-ghost use Rattle.std.specs.Prelude.{◌≡◌, ◌≢◌, ◌≤◌, ℕ, length, string_bytes, IfOk, IfErr, Ok, Err};
+ghost use Rattle.std.specs.Prelude.{◌≡◌, ◌≢◌, ◌≤◌, ℕ, length, string_bytes, IfOk, Ok, Err};
 ghost use Rattle.std.specs.Io.KnownBytes.{Keeps};
 ghost use Rattle.rc_types.specs.declared.limits.TheConstants.{MAX_EVENTS};
 ghost use Rattle.rc_world.specs.HostView.{IsWithinLimits};
@@ -19,7 +19,7 @@ use crate::surveying::drawn;
 use crate::verdicts::{SimFault, Verdict};
 use rc_study::Options;
 use rc_types::{Event, Setup};
-use std::alloc::Global;
+use std::alloc::{AllocError, Global};
 use std::io::Write;
 
 /// Draws events so that much happens, cuts the power after each of them, in three ways, and writes how often that was
@@ -51,9 +51,8 @@ fn explored_answer<E: Write>(
     alloc: Global,
     options: &Options,
     errors: &mut Counted<E>,
-) -> Result<Answer, SimFault>
+) -> Result<Answer, AllocError>
     ensures ok { IfOk result (λ answer. PowersCut answer.verdict (string_bytes answer.text)) }
-    ensures fault { IfErr result (λ fault. fault ≡ Memory) }
 {
     let run = drawn(alloc, options)?;
     tell_stake_of_explored(alloc, run.world().sent(), errors);
@@ -67,14 +66,13 @@ fn events_answer(
     setup: &Setup,
     hosts: u8,
     events: &[Event],
-) -> Result<Answer, SimFault>
+) -> Result<Answer, AllocError>
     requires within { IsWithinLimits setup.now }
     requires few { length events.now ≤ MAX_EVENTS }
     ensures ok { IfOk result (λ answer. CutEach (length events.now) answer.verdict (string_bytes answer.text)) }
-    ensures fault { IfErr result (λ fault. fault ≡ Memory) }
 {
     match rc_draw::cut_each(alloc, setup, hosts, events) {
         Ok(breaches) => cuts_answer(alloc, 3 * events.len(), breaches),
-        Err(_) => Err(SimFault::Memory),
+        Err(_) => Err(AllocError),
     }
 }

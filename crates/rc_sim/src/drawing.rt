@@ -1,6 +1,6 @@
 //! From a seed to bytes: drawn events are run and reported, or the power is cut after each of them.
 
-ghost use Rattle.std.specs.Prelude.{◌≡◌, ◌≢◌, ℕ, string_bytes, IfOk, IfErr, Ok, Err};
+ghost use Rattle.std.specs.Prelude.{◌≡◌, ◌≢◌, ℕ, string_bytes, IfOk, Ok, Err};
 ghost use Rattle.std.specs.Io.KnownBytes.{Keeps};
 ghost use Rattle.rc_sim.specs.declared.verdicts.SimFault.TheVariants.{Memory, Read as ReadFailed, Write as WriteFailed};
 ghost use Rattle.rc_sim.specs.declared.verdicts.Verdict.TheVariants.{Breach, Clean};
@@ -53,10 +53,9 @@ fn drawn_answer<E: Write>(
     steps: usize,
     free: bool,
     errors: &mut Counted<E>,
-) -> Result<Answer, SimFault>
+) -> Result<Answer, AllocError>
     ensures ok { IfOk result (λ answer. Drawn seed steps free answer.verdict (string_bytes answer.text)) }
     ensures no_breach { IfOk result (λ answer. answer.verdict ≢ Breach) }
-    ensures fault { IfErr result (λ fault. fault ≡ Memory) }
 {
     match drawn_run(alloc, seed, steps, free) {
         Ok(run) => {
@@ -64,7 +63,7 @@ fn drawn_answer<E: Write>(
             tell_codes(alloc, world.sent(), errors);
             ended(alloc, world, Output::Report)
         }
-        Err(_) => Err(SimFault::Memory),
+        Err(_) => Err(AllocError),
     }
 }
 
@@ -93,21 +92,19 @@ pub fn cut_powers<W: Write>(
 }
 
 /// What is printed of power failures.
-fn stops_answer(alloc: Global, seed: u64, steps: usize) -> Result<Answer, SimFault>
+fn stops_answer(alloc: Global, seed: u64, steps: usize) -> Result<Answer, AllocError>
     ensures ok { IfOk result (λ answer. PowerCut seed steps answer.verdict (string_bytes answer.text)) }
-    ensures fault { IfErr result (λ fault. fault ≡ Memory) }
 {
     match rc_draw::stops(alloc, seed, steps) {
         Ok((cuts, breaches)) => cuts_answer(alloc, cuts, breaches),
-        Err(_) => Err(SimFault::Memory),
+        Err(_) => Err(AllocError),
     }
 }
 
 /// What is printed of so many power failures, in so many of which there is a breach.
-pub(crate) fn cuts_answer(alloc: Global, cuts: usize, breaches: usize) -> Result<Answer, SimFault>
+pub(crate) fn cuts_answer(alloc: Global, cuts: usize, breaches: usize) -> Result<Answer, AllocError>
     ensures text { IfOk result (λ answer. string_bytes answer.text ≡ cuts_text cuts breaches) }
     ensures clean { breaches ≡ 0 → IfOk result (λ answer. answer.verdict ≡ Clean) }
-    ensures fault { IfErr result (λ fault. fault ≡ Memory) }
 {
     let text = cuts_text(alloc, cuts, breaches)?;
     let verdict = if breaches == 0 {

@@ -1,6 +1,6 @@
 //! What a word of the command line means.
 
-ghost use Rattle.std.specs.Prelude.{◌≡◌, ◌≢◌, ℕ, string_bytes, IfOk, IfErr, Ok, Err};
+ghost use Rattle.std.specs.Prelude.{◌≡◌, ◌≢◌, ℕ, string_bytes, IfOk, Ok, Err};
 ghost use Rattle.std.specs.Io.KnownBytes.{Keeps};
 ghost use Rattle.rc_sim.specs.declared.verdicts.SimFault.TheVariants.{Memory, Read as ReadFailed, Write as WriteFailed};
 ghost use Rattle.rc_sim.specs.declared.verdicts.Verdict.TheVariants.{Breach};
@@ -15,7 +15,7 @@ use crate::simulating::write_answer;
 use crate::verdicts::{SimFault, Verdict};
 use rc_types::Seq;
 use rc_words::{explain, explain_json};
-use std::alloc::Global;
+use std::alloc::{AllocError, Global};
 use std::io::Write;
 
 /// Writes what a word means, or which words there are; with `json` as a JSON document. Of one that names nothing
@@ -47,10 +47,9 @@ fn meaning_of<E: Write>(
     word: Option<Seq<u8>>,
     json: bool,
     errors: &mut Counted<E>,
-) -> Result<Answer, SimFault>
+) -> Result<Answer, AllocError>
     ensures ok { IfOk result (λ answer. Worded answer.verdict (string_bytes answer.text)) }
     ensures no_breach { IfOk result (λ answer. answer.verdict ≢ Breach) }
-    ensures fault { IfErr result (λ fault. fault ≡ Memory) }
 {
     let word = match &word {
         Some(letters) => Some(str::from_utf8(letters.as_slice()).unwrap_or("")),

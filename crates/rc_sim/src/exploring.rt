@@ -1,6 +1,6 @@
 //! From a seed to bytes: a run that is drawn to reach much, and what it has reached; or that run as a scenario.
 
-ghost use Rattle.std.specs.Prelude.{◌≡◌, ◌≢◌, ℕ, true, false, string_bytes, IfOk, IfErr, Ok, Err};
+ghost use Rattle.std.specs.Prelude.{◌≡◌, ◌≢◌, ℕ, true, false, string_bytes, IfOk, Ok, Err};
 ghost use Rattle.std.specs.Io.KnownBytes.{Keeps};
 ghost use Rattle.rc_sim.specs.declared.verdicts.SimFault.TheVariants.{Memory, Read as ReadFailed, Write as WriteFailed};
 ghost use Rattle.rc_sim.specs.declared.verdicts.Verdict.TheVariants.{Breach};
@@ -56,15 +56,13 @@ fn explored<E: Write>(
     options: &Options,
     progress: bool,
     errors: &mut Counted<E>,
-) -> Result<Exploration, SimFault>
-    ensures fault { IfErr result (λ fault. fault ≡ Memory) }
-{
+) -> Result<Exploration, AllocError> {
     let Ok(mut run) = Exploration::begin(alloc, options) else {
-        return Err(SimFault::Memory);
+        return Err(AllocError);
     };
     for _ in 0..options.steps.saturating_add(CHUNK - 1) / CHUNK {
         if run.go_on(alloc, CHUNK).is_err() {
-            return Err(SimFault::Memory);
+            return Err(AllocError);
         }
         if progress {
             tell_steps(&run, options, errors);
@@ -84,9 +82,8 @@ fn explored_answer(
     options: &Options,
     save: bool,
     run: &Exploration,
-) -> Result<Answer, SimFault>
+) -> Result<Answer, AllocError>
     ensures ok { IfOk result (λ answer. Explored save answer.verdict (string_bytes answer.text)) }
-    ensures fault { IfErr result (λ fault. fault ≡ Memory) }
 {
     if save {
         saved(alloc, options, run)
@@ -96,9 +93,8 @@ fn explored_answer(
 }
 
 /// The world as a scenario.
-fn saved(alloc: Global, options: &Options, run: &Exploration) -> Result<Answer, SimFault>
+fn saved(alloc: Global, options: &Options, run: &Exploration) -> Result<Answer, AllocError>
     ensures ok { IfOk result (λ answer. Explored true answer.verdict (string_bytes answer.text)) }
-    ensures fault { IfErr result (λ fault. fault ≡ Memory) }
 {
     let setup = options.setup(alloc);
     let text = saved_events(alloc, &setup, run.world().events())?;
@@ -110,9 +106,8 @@ fn saved(alloc: Global, options: &Options, run: &Exploration) -> Result<Answer, 
 }
 
 /// The report of the world, and what the run has reached.
-fn reported(alloc: Global, options: &Options, run: &Exploration) -> Result<Answer, SimFault>
+fn reported(alloc: Global, options: &Options, run: &Exploration) -> Result<Answer, AllocError>
     ensures ok { IfOk result (λ answer. Explored false answer.verdict (string_bytes answer.text)) }
-    ensures fault { IfErr result (λ fault. fault ≡ Memory) }
 {
     let lines = lines_of(alloc, options, run)?;
     let Answer {

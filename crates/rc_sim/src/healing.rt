@@ -1,22 +1,20 @@
 //! From the bytes of a scenario to those of one in which its tablets have come back.
 
-ghost use Rattle.std.specs.Prelude.{◌≡◌, ◌≢◌, ℕ, [], string_bytes, IfOk, IfErr, IfSome, Ok, Err};
-ghost use Rattle.std.specs.Io.KnownBytes.{Keeps};
+ghost use Rattle.std.specs.Prelude.{◌≡◌, ◌≢◌, [], string_bytes, IfOk, Ok};
 ghost use Rattle.rc_world.specs.HostView.{IsWithinLimits};
-ghost use Rattle.rc_sim.specs.declared.verdicts.SimFault.TheVariants.{Memory, Read as ReadFailed, Write as WriteFailed};
 ghost use Rattle.rc_sim.specs.declared.verdicts.Verdict.TheVariants.{Breach};
 ghost use Rattle.rc_sim.specs.Failures.{failed_reads, failed_writes};
+ghost use Rattle.rc_sim.specs.Statuses.{Answered};
 ghost use Rattle.rc_sim.specs.Verdicts.{IsHealed, Healed as HealedText};
-ghost use Rattle.rc_sim.specs.Written.{IsWritten, IsBegun};
 
 use crate::answers::{Answer, bad};
 use crate::counted::Counted;
 use crate::outlets::read_all;
-use crate::playing::Kept;
-use crate::simulating::write_answer;
+use crate::playing::{Kept, finish};
 use crate::verdicts::{SimFault, Verdict};
 use rc_healing::{Deed, Gone, Healed, Served, Why};
 use rc_reading::{ReadFault, Scenario, ScenarioEvent, read_scenario};
+use rc_reasons::Dialect;
 use rc_runs::Run;
 use rc_study::{Left, saved_scenario};
 use rc_types::{Event, Fault, Setup, Tablet, TryClone};
@@ -26,7 +24,7 @@ use std::slice;
 
 /// Reads a scenario, and writes it with the events that bring its tablets back, or the one line of a scenario that is
 /// wrong. Each thing that was done is told to `errors`, with its reason, and what came of each tablet. Where the run
-/// stops, or the events that a world takes do not suffice, nothing is written. The bytes are kept once that is there.
+/// stops, or the events that a world takes do not suffice, nothing is written.
 ///
 /// It fails as [`simulate`](crate::simulate) does.
 pub(crate) fn heal<R: Read, W: Write, E: Write>(
@@ -35,24 +33,17 @@ pub(crate) fn heal<R: Read, W: Write, E: Write>(
     reader: &mut Counted<R>,
     writer: &mut Counted<W>,
     errors: &mut Counted<E>,
-    kept: &mut Kept,
 ) -> Result<Verdict, SimFault>
-    ensures ok { IfOk result (λ verdict. IfSome (R.remaining reader.old.inner)
-        (λ bytes. IsWritten (HealedText bytes) verdict (W.contents writer.old.inner) (W.contents writer.new.inner))) }
-    ensures cut_short { (count : ℕ) → result ≡ Err (WriteFailed count) → IfSome (R.remaining reader.old.inner)
-        (λ bytes. IsBegun (HealedText bytes) count (W.contents writer.old.inner) (W.contents writer.new.inner)) }
-    ensures nothing_without_memory { result ≡ Err Memory →
-        Keeps (W.contents writer.old.inner) (W.contents writer.new.inner) }
-    ensures nothing_unread { result ≡ Err ReadFailed →
-        Keeps (W.contents writer.old.inner) (W.contents writer.new.inner) }
+    ensures answered { Answered HealedText result (R.remaining reader.old.inner) (W.contents writer.old.inner)
+        (W.contents writer.new.inner) }
     ensures reads { reader.new.failures ≡ failed_reads result reader.old.failures }
     ensures writes { writer.new.failures ≡ failed_writes result writer.old.failures }
     ensures no_breach { result ≢ Ok Breach }
 {
     let bytes = read_all(alloc, reader)?;
     let answer = healed_of(alloc, bytes.as_slice(), power_cycle, errors)?;
-    kept.note(bytes, &answer);
-    write_answer(writer, &answer)
+    let kept = Kept::new(alloc).with(bytes, &answer);
+    finish(alloc, Dialect::Scenario, &kept, &answer, writer, errors)
 }
 
 /// What is written of these bytes as a scenario.
@@ -61,13 +52,12 @@ fn healed_of<E: Write>(
     bytes: &[u8],
     power_cycle: bool,
     errors: &mut Counted<E>,
-) -> Result<Answer, SimFault>
+) -> Result<Answer, AllocError>
     ensures ok { IfOk result (λ answer. HealedText bytes.now answer.verdict (string_bytes answer.text)) }
-    ensures fault { IfErr result (λ fault. fault ≡ Memory) }
 {
     match read_scenario(alloc, bytes) {
         Ok(scenario) => answer_of(alloc, scenario, power_cycle, errors),
-        Err(ReadFault::OutOfMemory) => Err(SimFault::Memory),
+        Err(ReadFault::OutOfMemory) => Err(AllocError),
         Err(ReadFault::BadInput(place)) => bad(alloc, place),
     }
 }
@@ -78,15 +68,12 @@ fn answer_of<E: Write>(
     scenario: Scenario,
     power_cycle: bool,
     errors: &mut Counted<E>,
-) -> Result<Answer, SimFault>
+) -> Result<Answer, AllocError>
     requires { IsWithinLimits scenario.setup }
     ensures ok { IfOk result (λ answer. IsHealed answer.verdict (string_bytes answer.text)) }
-    ensures fault { IfErr result (λ fault. fault ≡ Memory) }
 {
     let Scenario { setup, events } = scenario;
-    let Ok(copy) = setup.try_clone(alloc) else {
-        return Err(SimFault::Memory);
-    };
+    let copy = setup.try_clone(alloc)?;
     let mut run = Run::new(alloc, copy, alloc);
     let mut places = Vec::new(alloc);
     for (place, event) in events.as_slice().iter().enumerate() {
@@ -109,7 +96,7 @@ fn answer_of<E: Write>(
             &healed,
             errors,
         ),
-        Err(Fault::OutOfMemory) => Err(SimFault::Memory),
+        Err(Fault::OutOfMemory) => Err(AllocError),
         Err(_) => {
             let _ = writeln!(
                 errors.inner,
@@ -148,9 +135,8 @@ fn told<E: Write>(
     places: &[usize],
     healed: &Healed,
     errors: &mut Counted<E>,
-) -> Result<Answer, SimFault>
+) -> Result<Answer, AllocError>
     ensures verdict { IfOk result (λ answer. IsHealed answer.verdict (string_bytes answer.text)) }
-    ensures fault { IfErr result (λ fault. fault ≡ Memory) }
 {
     let places = Places {
         places,
@@ -158,9 +144,7 @@ fn told<E: Write>(
     };
     tell(&places, healed, errors);
     for event in &healed.events {
-        let Ok(copy) = event.try_clone(alloc) else {
-            return Err(SimFault::Memory);
-        };
+        let copy = event.try_clone(alloc)?;
         events.push(ScenarioEvent::Core(copy))?;
     }
     let mut left = Vec::new(alloc);

@@ -1,11 +1,9 @@
 //! What clients saw: the history of a run is written, and one that is given is judged.
 
-ghost use Rattle.std.specs.Prelude.{◌≡◌, ◌≢◌, ℕ, List, string_bytes, IfOk, IfErr, IfSome, Ok, Err};
-ghost use Rattle.std.specs.Io.KnownBytes.{Keeps};
-ghost use Rattle.rc_sim.specs.declared.verdicts.SimFault.TheVariants.{Memory, Read as ReadFailed, Write as WriteFailed};
+ghost use Rattle.std.specs.Prelude.{◌≡◌, ℕ, List, string_bytes, IfOk};
 ghost use Rattle.rc_sim.specs.Failures.{failed_reads, failed_writes};
 ghost use Rattle.rc_sim.specs.Histories.{Checked, weighed};
-ghost use Rattle.rc_sim.specs.Written.{IsWritten, IsBegun};
+ghost use Rattle.rc_sim.specs.Statuses.{Answered};
 
 use crate::answers::{Answer, bad};
 use crate::counted::Counted;
@@ -37,14 +35,8 @@ pub(crate) fn weigh_history<R: Read, W: Write, E: Write>(
     writer: &mut Counted<W>,
     errors: &mut Counted<E>,
 ) -> Result<Verdict, SimFault>
-    ensures ok { IfOk result (λ verdict. IfSome (R.remaining reader.old.inner)
-        (λ bytes. IsWritten (Checked bytes) verdict (W.contents writer.old.inner) (W.contents writer.new.inner))) }
-    ensures cut_short { (count : ℕ) → result ≡ Err (WriteFailed count) → IfSome (R.remaining reader.old.inner)
-        (λ bytes. IsBegun (Checked bytes) count (W.contents writer.old.inner) (W.contents writer.new.inner)) }
-    ensures nothing_without_memory { result ≡ Err Memory →
-        Keeps (W.contents writer.old.inner) (W.contents writer.new.inner) }
-    ensures nothing_unread { result ≡ Err ReadFailed →
-        Keeps (W.contents writer.old.inner) (W.contents writer.new.inner) }
+    ensures answered { Answered Checked result (R.remaining reader.old.inner) (W.contents writer.old.inner)
+        (W.contents writer.new.inner) }
     ensures reads { reader.new.failures ≡ failed_reads result reader.old.failures }
     ensures writes { writer.new.failures ≡ failed_writes result writer.old.failures }
 {
@@ -58,9 +50,8 @@ fn judged<E: Write>(
     alloc: Global,
     bytes: &[u8],
     errors: &mut Counted<E>,
-) -> Result<Answer, SimFault>
+) -> Result<Answer, AllocError>
     ensures ok { IfOk result (λ answer. Checked bytes.now answer.verdict (string_bytes answer.text)) }
-    ensures fault { IfErr result (λ fault. fault ≡ Memory) }
 {
     if bytes.len() > MOST_BYTES {
         let _ = write_all(errors, b"the history is too long\n");
@@ -68,7 +59,7 @@ fn judged<E: Write>(
     }
     match read_history(alloc, bytes) {
         Ok(history) => weighed_answer(alloc, &history),
-        Err(HistoryFault::OutOfMemory) => Err(SimFault::Memory),
+        Err(HistoryFault::OutOfMemory) => Err(AllocError),
         Err(HistoryFault::BadLine(line, fault)) => {
             tell_line(line, fault, errors);
             bad(alloc, line)
@@ -82,9 +73,8 @@ fn tell_line<E: Write>(line: usize, fault: LineFault, errors: &mut Counted<E>) {
 }
 
 /// What the judge says of a history.
-fn weighed_answer(alloc: Global, history: &ReadHistory) -> Result<Answer, SimFault>
+fn weighed_answer(alloc: Global, history: &ReadHistory) -> Result<Answer, AllocError>
     ensures ok { IfOk result (λ answer. (bytes : List ℕ) → Checked bytes answer.verdict (string_bytes answer.text)) }
-    ensures fault { IfErr result (λ fault. fault ≡ Memory) }
 {
     let found = check(alloc, history.events.as_slice())?;
     let text = judgement_text(alloc, history, found)?;

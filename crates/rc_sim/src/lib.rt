@@ -32,7 +32,7 @@ pub use exploring::explore;
 pub use narrating::Telling;
 pub use rc_draw::{draw, stops};
 pub use seeking::{Search, seek};
-pub use simulating::{judge, simulate, trace};
+pub use simulating::simulate;
 pub use surveying::survey;
 pub use threading::threads;
 pub use verdicts::{Output, SimFault, Verdict};

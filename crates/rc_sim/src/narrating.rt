@@ -1,27 +1,25 @@
 //! From the bytes of a scenario to the story of its run.
 
-ghost use Rattle.std.specs.Prelude.{◌≡◌, ◌≢◌, ℕ, string_bytes, IfOk, IfErr, IfSome, Ok, Err};
-ghost use Rattle.std.specs.Io.KnownBytes.{Keeps};
+ghost use Rattle.std.specs.Prelude.{◌≡◌, ◌≢◌, string_bytes, IfOk, Ok};
 ghost use Rattle.rc_reading.specs.Scenario.{reading};
 ghost use Rattle.rc_world.specs.HostView.{IsWithinLimits};
-ghost use Rattle.rc_sim.specs.declared.verdicts.SimFault.TheVariants.{Memory, Read as ReadFailed, Write as WriteFailed};
 ghost use Rattle.rc_sim.specs.declared.verdicts.Verdict.TheVariants.{Breach};
 ghost use Rattle.rc_sim.specs.Failures.{failed_reads, failed_writes};
+ghost use Rattle.rc_sim.specs.Statuses.{Answered};
 ghost use Rattle.rc_sim.specs.Verdicts.{Narrated};
-ghost use Rattle.rc_sim.specs.Written.{IsWritten, IsBegun};
 
 use crate::answers::{Answer, bad};
 use crate::counted::Counted;
 use crate::histories::history_lines;
 use crate::outlets::read_all;
-use crate::playing::Kept;
-use crate::simulating::write_answer;
+use crate::playing::{Kept, finish};
 use crate::verdicts::{SimFault, Verdict};
 use rc_reading::{ReadFault, Scenario, read_scenario};
+use rc_reasons::Dialect;
 use rc_study::Played;
 use rc_telling::{Factors, Story, log, log_json, mermaid, page};
 use rc_types::Code;
-use std::alloc::Global;
+use std::alloc::{AllocError, Global};
 use std::io::{Read, Write};
 
 /// How the story of a run is told.
@@ -56,32 +54,27 @@ impl Telling {
 }
 
 /// Reads a scenario, runs it, and writes the story of the run, or the one line of a scenario that is wrong. Nothing is
-/// claimed of the story. The bytes are kept once it is there.
+/// claimed of the story.
 ///
 /// It fails as [`simulate`](crate::simulate) does.
-pub(crate) fn narrate<R: Read, W: Write>(
+pub(crate) fn narrate<R: Read, W: Write, E: Write>(
     alloc: Global,
+    telling: Telling,
     reader: &mut Counted<R>,
     writer: &mut Counted<W>,
-    telling: Telling,
-    kept: &mut Kept,
+    errors: &mut Counted<E>,
 ) -> Result<Verdict, SimFault>
-    ensures ok { IfOk result (λ verdict. IfSome (R.remaining reader.old.inner)
-        (λ bytes. IsWritten (Narrated bytes) verdict (W.contents writer.old.inner) (W.contents writer.new.inner))) }
-    ensures cut_short { (count : ℕ) → result ≡ Err (WriteFailed count) → IfSome (R.remaining reader.old.inner)
-        (λ bytes. IsBegun (Narrated bytes) count (W.contents writer.old.inner) (W.contents writer.new.inner)) }
-    ensures nothing_without_memory { result ≡ Err Memory →
-        Keeps (W.contents writer.old.inner) (W.contents writer.new.inner) }
-    ensures nothing_unread { result ≡ Err ReadFailed →
-        Keeps (W.contents writer.old.inner) (W.contents writer.new.inner) }
+    ensures answered { Answered Narrated result (R.remaining reader.old.inner) (W.contents writer.old.inner)
+        (W.contents writer.new.inner) }
     ensures reads { reader.new.failures ≡ failed_reads result reader.old.failures }
     ensures writes { writer.new.failures ≡ failed_writes result writer.old.failures }
     ensures no_breach { result ≢ Ok Breach }
 {
+    let mut kept = Kept::new(alloc);
     let bytes = read_all(alloc, reader)?;
-    let answer = story_of(alloc, bytes.as_slice(), telling, kept)?;
-    kept.note(bytes, &answer);
-    write_answer(writer, &answer)
+    let answer = story_of(alloc, bytes.as_slice(), telling, &mut kept)?;
+    let kept = kept.with(bytes, &answer);
+    finish(alloc, Dialect::Scenario, &kept, &answer, writer, errors)
 }
 
 /// What is told of these bytes as a scenario. What may not have been meant in the run is kept.
@@ -90,13 +83,12 @@ fn story_of(
     bytes: &[u8],
     telling: Telling,
     kept: &mut Kept,
-) -> Result<Answer, SimFault>
+) -> Result<Answer, AllocError>
     ensures ok { IfOk result (λ answer. Narrated bytes.now answer.verdict (string_bytes answer.text)) }
-    ensures fault { IfErr result (λ fault. fault ≡ Memory) }
 {
     match read_scenario(alloc, bytes) {
         Ok(scenario) => told(alloc, &scenario, telling, kept),
-        Err(ReadFault::OutOfMemory) => Err(SimFault::Memory),
+        Err(ReadFault::OutOfMemory) => Err(AllocError),
         Err(ReadFault::BadInput(place)) => bad(alloc, place),
     }
 }
@@ -107,10 +99,9 @@ fn told(
     scenario: &Scenario,
     telling: Telling,
     kept: &mut Kept,
-) -> Result<Answer, SimFault>
+) -> Result<Answer, AllocError>
     requires { IsWithinLimits scenario.now.setup }
     ensures no_breach { IfOk result (λ answer. answer.verdict ≢ Breach) }
-    ensures fault { IfErr result (λ fault. fault ≡ Memory) }
 {
     match Played::of(alloc, &scenario.setup, scenario.events.as_slice()) {
         Ok(played) => {
@@ -119,14 +110,13 @@ fn told(
             kept.hint_at(alloc, factors, story.events, story.messages);
             answer_of(alloc, &played, telling)
         }
-        Err(_) => Err(SimFault::Memory),
+        Err(_) => Err(AllocError),
     }
 }
 
 /// What is told of a run.
-fn answer_of(alloc: Global, played: &Played, telling: Telling) -> Result<Answer, SimFault>
+fn answer_of(alloc: Global, played: &Played, telling: Telling) -> Result<Answer, AllocError>
     ensures no_breach { IfOk result (λ answer. answer.verdict ≢ Breach) }
-    ensures fault { IfErr result (λ fault. fault ≡ Memory) }
 {
     match text_of(alloc, &played.story(), telling) {
         Ok(text) => Ok(Answer {
@@ -134,7 +124,7 @@ fn answer_of(alloc: Global, played: &Played, telling: Telling) -> Result<Answer,
             text,
             sent: played.sent(),
         }),
-        Err(_) => Err(SimFault::Memory),
+        Err(_) => Err(AllocError),
     }
 }
 
@@ -149,15 +139,12 @@ fn verdict_of(stopped: Option<(usize, Code)>) -> Verdict
 }
 
 /// The story as it is to be told.
-fn text_of(alloc: Global, story: &Story<'_>, telling: Telling) -> Result<String, SimFault>
-    ensures fault { IfErr result (λ fault. fault ≡ Memory) }
-{
-    let text = match telling {
+fn text_of(alloc: Global, story: &Story<'_>, telling: Telling) -> Result<String, AllocError> {
+    match telling {
         Telling::Log => log(alloc, story),
         Telling::Json => log_json(alloc, story),
         Telling::Page => page(alloc, story),
         Telling::Mermaid => mermaid(alloc, story),
         Telling::History => history_lines(alloc, story.messages),
-    };
-    text.map_err(|_| SimFault::Memory)
+    }
 }

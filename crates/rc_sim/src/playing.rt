@@ -1,18 +1,20 @@
 //! A scenario is read and run, or a trace is read and judged, and what came of it is written; what it was is kept.
 
-ghost use Rattle.std.specs.Prelude.{◌≡◌, ◌≢◌, ℕ, IfOk, IfSome, Ok, Err};
-ghost use Rattle.std.specs.Io.KnownBytes.{Keeps};
+ghost use Rattle.std.specs.Prelude.{◌≡◌, ◌≢◌, ◌<◌, ℕ, length, take, string_bytes, IfOk, Ok, Err};
+ghost use Rattle.std.specs.Io.KnownBytes.{Appends};
 ghost use Rattle.rc_sim.specs.declared.verdicts.SimFault.TheVariants.{Memory, Read as ReadFailed, Write as WriteFailed};
 ghost use Rattle.rc_sim.specs.declared.verdicts.Verdict.TheVariants.{Breach};
 ghost use Rattle.rc_sim.specs.Failures.{failed_reads, failed_writes};
+ghost use Rattle.rc_sim.specs.Statuses.{Answered};
 ghost use Rattle.rc_sim.specs.Verdicts.{Played, Judged};
-ghost use Rattle.rc_sim.specs.Written.{IsWritten, IsBegun};
 
 use crate::answers::{Answer, answer_to, judgement_of};
 use crate::counted::Counted;
 use crate::outlets::read_all;
 use crate::simulating::write_answer;
+use crate::telling::tell_why;
 use crate::verdicts::{Output, SimFault, Verdict};
+use rc_reasons::Dialect;
 use rc_telling::{Factors, hints};
 use rc_types::{Event, Message};
 use rc_words::names_of_codes;
@@ -71,62 +73,74 @@ impl Kept {
     }
 
     /// Keeps what was read, and what is told of what was answered.
-    pub(crate) fn note(&mut self, bytes: Vec<u8>, answer: &Answer) {
+    pub(crate) fn with(mut self, bytes: Vec<u8>, answer: &Answer) -> Kept {
         self.bytes = bytes;
         self.sent = answer.sent;
+        self
     }
 }
 
-/// Reads a scenario, runs it, and writes what the output asks for; `simulate` says how it fails. The bytes are kept
-/// once an answer is there.
-pub(crate) fn play<R: Read, W: Write, A: Allocator + Clone>(
+/// Reads a scenario, runs it, and writes what the output asks for; `simulate` says how it fails. `errors` is told what
+/// is wrong with it.
+pub(crate) fn play<R: Read, W: Write, E: Write, A: Allocator + Clone>(
     alloc: Global,
-    reader: &mut Counted<R>,
-    writer: &mut Counted<W>,
     tablets: A,
     output: Output,
-    kept: &mut Kept,
+    reader: &mut Counted<R>,
+    writer: &mut Counted<W>,
+    errors: &mut Counted<E>,
 ) -> Result<Verdict, SimFault>
-    ensures ok { IfOk result (λ verdict. IfSome (R.remaining reader.old.inner)
-        (λ bytes. IsWritten (Played output bytes) verdict (W.contents writer.old.inner)
-        (W.contents writer.new.inner))) }
-    ensures cut_short { (count : ℕ) → result ≡ Err (WriteFailed count) → IfSome (R.remaining reader.old.inner)
-        (λ bytes. IsBegun (Played output bytes) count (W.contents writer.old.inner) (W.contents writer.new.inner)) }
-    ensures nothing_without_memory { result ≡ Err Memory →
-        Keeps (W.contents writer.old.inner) (W.contents writer.new.inner) }
-    ensures nothing_unread { result ≡ Err ReadFailed →
-        Keeps (W.contents writer.old.inner) (W.contents writer.new.inner) }
+    ensures answered { Answered (Played output) result (R.remaining reader.old.inner) (W.contents writer.old.inner)
+        (W.contents writer.new.inner) }
     ensures reads { reader.new.failures ≡ failed_reads result reader.old.failures }
     ensures writes { writer.new.failures ≡ failed_writes result writer.old.failures }
     ensures no_breach { result ≢ Ok Breach }
 {
+    let mut kept = Kept::new(alloc);
     let bytes = read_all(alloc, reader)?;
-    let answer = answer_to(alloc, bytes.as_slice(), tablets, output, kept)?;
-    kept.note(bytes, &answer);
-    write_answer(writer, &answer)
+    let answer = answer_to(alloc, bytes.as_slice(), tablets, output, &mut kept)?;
+    let kept = kept.with(bytes, &answer);
+    finish(alloc, Dialect::Scenario, &kept, &answer, writer, errors)
 }
 
-/// Reads a trace, judges it, and writes what came of it; `simulate` says how it fails. The bytes are kept once an
-/// answer is there.
-pub(crate) fn weigh<R: Read, W: Write>(
+/// Reads a trace, judges it, and writes what came of it; `simulate` says how it fails. `errors` is told what is wrong
+/// with it.
+pub(crate) fn weigh<R: Read, W: Write, E: Write>(
     alloc: Global,
     reader: &mut Counted<R>,
     writer: &mut Counted<W>,
-    kept: &mut Kept,
+    errors: &mut Counted<E>,
 ) -> Result<Verdict, SimFault>
-    ensures ok { IfOk result (λ verdict. IfSome (R.remaining reader.old.inner)
-        (λ bytes. IsWritten (Judged bytes) verdict (W.contents writer.old.inner) (W.contents writer.new.inner))) }
-    ensures cut_short { (count : ℕ) → result ≡ Err (WriteFailed count) → IfSome (R.remaining reader.old.inner)
-        (λ bytes. IsBegun (Judged bytes) count (W.contents writer.old.inner) (W.contents writer.new.inner)) }
-    ensures nothing_without_memory { result ≡ Err Memory →
-        Keeps (W.contents writer.old.inner) (W.contents writer.new.inner) }
-    ensures nothing_unread { result ≡ Err ReadFailed →
-        Keeps (W.contents writer.old.inner) (W.contents writer.new.inner) }
+    ensures answered { Answered Judged result (R.remaining reader.old.inner) (W.contents writer.old.inner)
+        (W.contents writer.new.inner) }
     ensures reads { reader.new.failures ≡ failed_reads result reader.old.failures }
     ensures writes { writer.new.failures ≡ failed_writes result writer.old.failures }
 {
     let bytes = read_all(alloc, reader)?;
     let answer = judgement_of(alloc, bytes.as_slice())?;
-    kept.note(bytes, &answer);
-    write_answer(writer, &answer)
+    let kept = Kept::new(alloc).with(bytes, &answer);
+    finish(alloc, Dialect::Trace, &kept, &answer, writer, errors)
+}
+
+/// Writes the answer to what was read, and tells `errors` why it is no more, or what may not have been meant.
+pub(crate) fn finish<W: Write, E: Write>(
+    alloc: Global,
+    dialect: Dialect,
+    kept: &Kept,
+    answer: &Answer,
+    writer: &mut Counted<W>,
+    errors: &mut Counted<E>,
+) -> Result<Verdict, SimFault>
+    ensures verdict { IfOk result (λ verdict. verdict ≡ answer.now.verdict) }
+    ensures ok { IfOk result (λ _. Appends (W.contents writer.old.inner) (W.contents writer.new.inner)
+        (string_bytes answer.now.text)) }
+    ensures cut_short { (count : ℕ) → result ≡ Err (WriteFailed count) → (count < length (string_bytes answer.now.text))
+        × Appends (W.contents writer.old.inner) (W.contents writer.new.inner)
+        (take count (string_bytes answer.now.text)) }
+    ensures writes { writer.new.failures ≡ failed_writes result writer.old.failures }
+    ensures fault { (result ≢ Err Memory) × (result ≢ Err ReadFailed) }
+{
+    let outcome = write_answer(writer, answer);
+    tell_why(alloc, dialect, &outcome, kept, errors);
+    outcome
 }

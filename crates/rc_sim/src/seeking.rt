@@ -1,6 +1,6 @@
 //! From several seeds to bytes: the first of them whose run reaches a rule, a kind of event or a kind of message.
 
-ghost use Rattle.std.specs.Prelude.{◌≡◌, ◌≢◌, ℕ, string_bytes, IfOk, IfErr, Ok, Err, []};
+ghost use Rattle.std.specs.Prelude.{◌≡◌, ◌≢◌, ℕ, string_bytes, IfOk, Ok, Err, []};
 ghost use Rattle.std.specs.Io.KnownBytes.{Keeps};
 ghost use Rattle.rc_sim.specs.declared.verdicts.SimFault.TheVariants.{Memory, Read as ReadFailed, Write as WriteFailed};
 ghost use Rattle.rc_sim.specs.declared.verdicts.Verdict.TheVariants.{Breach};
@@ -67,10 +67,9 @@ fn sought<E: Write>(
     options: &Options,
     search: &Search,
     errors: &mut Counted<E>,
-) -> Result<Answer, SimFault>
+) -> Result<Answer, AllocError>
     ensures ok { IfOk result (λ answer. Sought answer.verdict (string_bytes answer.text)) }
     ensures no_breach { IfOk result (λ answer. answer.verdict ≢ Breach) }
-    ensures fault { IfErr result (λ fault. fault ≡ Memory) }
 {
     let word = str::from_utf8(search.goal.as_slice()).unwrap_or("");
     let Some(goal) = Goal::of(word) else {
@@ -116,9 +115,7 @@ fn first_of<E: Write>(
     search: &Search,
     goal: Goal,
     errors: &mut Counted<E>,
-) -> Result<Option<String>, SimFault>
-    ensures fault { IfErr result (λ fault. fault ≡ Memory) }
-{
+) -> Result<Option<String>, AllocError> {
     let count = search.last.saturating_sub(options.seed).saturating_add(1);
     for number in 0..count {
         let mut options = *options;
@@ -139,14 +136,12 @@ fn found_in(
     options: &Options,
     save: bool,
     goal: Goal,
-) -> Result<Option<String>, SimFault>
-    ensures fault { IfErr result (λ fault. fault ≡ Memory) }
-{
+) -> Result<Option<String>, AllocError> {
     let Ok(mut run) = Exploration::toward(alloc, options, Some(goal)) else {
-        return Err(SimFault::Memory);
+        return Err(AllocError);
     };
     if run.go_until(alloc).is_err() {
-        return Err(SimFault::Memory);
+        return Err(AllocError);
     }
     let Some(number) = run.found() else {
         return Ok(None);

@@ -1,18 +1,18 @@
-//! From bytes to bytes: a scenario to its report or its trace, a trace to its judgement.
+//! From bytes to bytes: a scenario to its report.
 
 ghost use Rattle.std.specs.Prelude.{◌≡◌, ◌≢◌, ◌<◌, ℕ, length, take, string_bytes, IfOk, IfSome, Ok, Err};
 ghost use Rattle.std.specs.Io.KnownBytes.{Appends, Keeps};
-ghost use Rattle.rc_sim.specs.declared.verdicts.Output.TheVariants.{Report, Trace};
+ghost use Rattle.rc_sim.specs.declared.verdicts.Output.TheVariants.{Report};
 ghost use Rattle.rc_sim.specs.declared.verdicts.SimFault.TheVariants.{Memory, Read as ReadFailed, Write as WriteFailed};
 ghost use Rattle.rc_sim.specs.declared.verdicts.Verdict.TheVariants.{Breach};
 ghost use Rattle.rc_sim.specs.Failures.{failed_reads, failed_writes};
-ghost use Rattle.rc_sim.specs.Verdicts.{Played, Judged};
+ghost use Rattle.rc_sim.specs.Verdicts.{Played};
 ghost use Rattle.rc_sim.specs.Written.{IsWritten, IsBegun};
 
 use crate::answers::Answer;
 use crate::counted::Counted;
 use crate::outlets::write_all;
-use crate::playing::{Kept, play, weigh};
+use crate::playing::play;
 use crate::verdicts::{Output, SimFault, Verdict};
 use std::alloc::{Allocator, Global};
 use std::io::{Read, Write};
@@ -49,57 +49,8 @@ pub fn simulate<R: Read, W: Write, A: Allocator + Clone>(
     // the headline, as the program tells it: no audit finds a breach
     ensures no_breach { result ≢ Ok Breach }
 {
-    let mut kept = Kept::new(alloc);
-    play(alloc, reader, writer, tablets, Output::Report, &mut kept)
-}
-
-/// Reads a scenario, runs it as `simulate` does, and writes the trace of what was sent, or the one line
-/// of a scenario that is wrong. The trace is not judged, and no line tells where the run stopped.
-///
-/// It fails as `simulate` does.
-pub fn trace<R: Read, W: Write>(
-    alloc: Global,
-    reader: &mut Counted<R>,
-    writer: &mut Counted<W>,
-) -> Result<Verdict, SimFault>
-    ensures ok { IfOk result (λ verdict. IfSome (R.remaining reader.old.inner)
-        (λ bytes. IsWritten (Played Trace bytes) verdict (W.contents writer.old.inner) (W.contents writer.new.inner))) }
-    ensures cut_short { (count : ℕ) → result ≡ Err (WriteFailed count) → IfSome (R.remaining reader.old.inner)
-        (λ bytes. IsBegun (Played Trace bytes) count (W.contents writer.old.inner) (W.contents writer.new.inner)) }
-    ensures nothing_without_memory { result ≡ Err Memory →
-        Keeps (W.contents writer.old.inner) (W.contents writer.new.inner) }
-    ensures nothing_unread { result ≡ Err ReadFailed →
-        Keeps (W.contents writer.old.inner) (W.contents writer.new.inner) }
-    ensures reads { reader.new.failures ≡ failed_reads result reader.old.failures }
-    ensures writes { writer.new.failures ≡ failed_writes result writer.old.failures }
-    ensures no_breach { result ≢ Ok Breach }
-{
-    let mut kept = Kept::new(alloc);
-    play(alloc, reader, writer, alloc, Output::Trace, &mut kept)
-}
-
-/// Reads a trace, judges it, and writes how many messages it has and what the audit found; or the one
-/// line of a trace that is wrong.
-///
-/// It fails as `simulate` does.
-pub fn judge<R: Read, W: Write>(
-    alloc: Global,
-    reader: &mut Counted<R>,
-    writer: &mut Counted<W>,
-) -> Result<Verdict, SimFault>
-    ensures ok { IfOk result (λ verdict. IfSome (R.remaining reader.old.inner)
-        (λ bytes. IsWritten (Judged bytes) verdict (W.contents writer.old.inner) (W.contents writer.new.inner))) }
-    ensures cut_short { (count : ℕ) → result ≡ Err (WriteFailed count) → IfSome (R.remaining reader.old.inner)
-        (λ bytes. IsBegun (Judged bytes) count (W.contents writer.old.inner) (W.contents writer.new.inner)) }
-    ensures nothing_without_memory { result ≡ Err Memory →
-        Keeps (W.contents writer.old.inner) (W.contents writer.new.inner) }
-    ensures nothing_unread { result ≡ Err ReadFailed →
-        Keeps (W.contents writer.old.inner) (W.contents writer.new.inner) }
-    ensures reads { reader.new.failures ≡ failed_reads result reader.old.failures }
-    ensures writes { writer.new.failures ≡ failed_writes result writer.old.failures }
-{
-    let mut kept = Kept::new(alloc);
-    weigh(alloc, reader, writer, &mut kept)
+    let mut untold = Counted::new(Vec::new(alloc));
+    play(alloc, tablets, Output::Report, reader, writer, &mut untold)
 }
 
 /// Writes the text of an answer, and gives its verdict.

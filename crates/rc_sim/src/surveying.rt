@@ -1,6 +1,6 @@
 //! From several seeds to bytes: runs that are drawn to reach much, and what they have reached together.
 
-ghost use Rattle.std.specs.Prelude.{◌≡◌, ◌≢◌, ℕ, false, string_bytes, IfOk, IfErr, Ok, Err};
+ghost use Rattle.std.specs.Prelude.{◌≡◌, ◌≢◌, ℕ, false, string_bytes, IfOk, Ok, Err};
 ghost use Rattle.std.specs.Io.KnownBytes.{Keeps};
 ghost use Rattle.rc_sim.specs.declared.verdicts.SimFault.TheVariants.{Memory, Read as ReadFailed, Write as WriteFailed};
 ghost use Rattle.rc_sim.specs.declared.verdicts.Verdict.TheVariants.{Breach};
@@ -54,9 +54,8 @@ fn surveyed<E: Write>(
     last: u64,
     progress: bool,
     errors: &mut Counted<E>,
-) -> Result<Answer, SimFault>
+) -> Result<Answer, AllocError>
     ensures ok { IfOk result (λ answer. Surveyed answer.verdict (string_bytes answer.text)) }
-    ensures fault { IfErr result (λ fault. fault ≡ Memory) }
 {
     let mut text = heading(alloc, options, last)?;
     let mut sum = Sum::new();
@@ -97,9 +96,8 @@ fn run_all<E: Write>(
     sum: &mut Sum,
     text: &mut String,
     errors: &mut Counted<E>,
-) -> Result<bool, SimFault>
+) -> Result<bool, AllocError>
     ensures ok { IfOk result (λ found. found ≡ false) }
-    ensures fault { IfErr result (λ fault. fault ≡ Memory) }
 {
     let mut found = false;
     for number in 0..count {
@@ -126,9 +124,8 @@ fn run_one(
     options: &Options,
     sum: &mut Sum,
     text: &mut String,
-) -> Result<bool, SimFault>
+) -> Result<bool, AllocError>
     ensures ok { IfOk result (λ found. found ≡ false) }
-    ensures fault { IfErr result (λ fault. fault ≡ Memory) }
 {
     let run = drawn(alloc, options)?;
     let breach = has_breach(alloc, run.world())?;
@@ -138,25 +135,20 @@ fn run_one(
 }
 
 /// Whether an audit of what was sent in the world finds a breach.
-fn has_breach(alloc: Global, world: &World<Global>) -> Result<bool, SimFault>
+fn has_breach(alloc: Global, world: &World<Global>) -> Result<bool, AllocError>
     ensures ok { IfOk result (λ found. found ≡ false) }
-    ensures fault { IfErr result (λ fault. fault ≡ Memory) }
 {
-    match audit(alloc, world.sent()) {
-        Ok(found) => Ok(found.is_some()),
-        Err(_) => Err(SimFault::Memory),
-    }
+    let found = audit(alloc, world.sent())?;
+    Ok(found.is_some())
 }
 
 /// The run to its end.
-pub(crate) fn drawn(alloc: Global, options: &Options) -> Result<Exploration, SimFault>
-    ensures fault { IfErr result (λ fault. fault ≡ Memory) }
-{
+pub(crate) fn drawn(alloc: Global, options: &Options) -> Result<Exploration, AllocError> {
     let Ok(mut run) = Exploration::begin(alloc, options) else {
-        return Err(SimFault::Memory);
+        return Err(AllocError);
     };
     if run.go_on(alloc, options.steps).is_err() {
-        return Err(SimFault::Memory);
+        return Err(AllocError);
     }
     Ok(run)
 }

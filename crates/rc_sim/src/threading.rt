@@ -1,6 +1,6 @@
 //! From nodes on threads to bytes: what they did together is reported.
 
-ghost use Rattle.std.specs.Prelude.{◌≡◌, ◌≢◌, ◌≤◌, ℕ, string_bytes, IfOk, IfErr, Ok, Err};
+ghost use Rattle.std.specs.Prelude.{◌≡◌, ◌≢◌, ◌≤◌, ℕ, string_bytes, IfOk, Ok, Err};
 ghost use Rattle.std.specs.Io.KnownBytes.{Keeps};
 ghost use Rattle.rc_types.specs.declared.limits.TheConstants.{MAX_HOSTS};
 ghost use Rattle.rc_sim.specs.declared.verdicts.SimFault.TheVariants.{Memory, Read as ReadFailed, Write as WriteFailed};
@@ -16,7 +16,7 @@ use crate::telling::tell_codes;
 use crate::verdicts::{Output, SimFault, Verdict};
 use rc_types::Code;
 use rc_wire::world_of_threads;
-use std::alloc::Global;
+use std::alloc::{AllocError, Global};
 use std::io::Write;
 use std::sync::Wait;
 use std::thread;
@@ -56,10 +56,9 @@ fn threaded_answer<R: thread::Threads + Wait + Sync, E: Write>(
     hosts: u8,
     writes: u32,
     errors: &mut Counted<E>,
-) -> Result<Answer, SimFault>
+) -> Result<Answer, AllocError>
     requires { hosts ≤ MAX_HOSTS }
     ensures ok { IfOk result (λ answer. Threaded hosts writes answer.verdict (string_bytes answer.text)) }
-    ensures fault { IfErr result (λ fault. fault ≡ Memory) }
 {
     match world_of_threads(rt, alloc, hosts, writes) {
         Ok((world, true)) => {
@@ -70,6 +69,6 @@ fn threaded_answer<R: thread::Threads + Wait + Sync, E: Write>(
             let place = world.events().len();
             stopped(alloc, &world, Output::Report, place, Code::BadEvent)
         }
-        Err(_) => Err(SimFault::Memory),
+        Err(_) => Err(AllocError),
     }
 }

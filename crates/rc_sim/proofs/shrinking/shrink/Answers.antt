@@ -1,28 +1,22 @@
 use Rattle.std.proofs.Common.{string_bytes}
 use Rattle.rc_reading.specs.Scenario.{reading}
 use Rattle.rc_sim.specs.Verdicts.{Shrunk}
-use Rattle.rc_sim.proofs.Endings.{written_of, begun_of, shrunk_so}
+use Rattle.rc_sim.proofs.Endings.{answered_of, shrunk_so}
 use Rattle.rc_sim.proofs.NoBreaches.{no_breach_of, shrunk_is_none}
 use Rattle.rc_sim.proofs.shrinking.shrink.Goals as goal
 
-pub returns-clause-ok : goal.returns-clause-ok
-returns-clause-ok g c =
+pub returns-clause-answered : goal.returns-clause-answered
+returns-clause-answered g c =
     let answer = c.in_ok-answer.answer in
-    written_of (g.R.Read.remaining c.args.reader.now.inner) c.in_ok-bytes.bytes.items c.as_slice.result.now (Shrunk)
-    c.write_answer.result answer.verdict
-    (string_bytes answer.text) _ _ c.in_ok-bytes.ensures.ok c.as_slice.ensures.value (shrunk_so answer.verdict (string_bytes answer.text))
-    c.in_ok-answer.ensures.ok c.write_answer.ensures.verdict c.write_answer.ensures.ok
-
-pub returns-clause-cut_short : goal.returns-clause-cut_short
-returns-clause-cut_short g c count same =
-    let answer = c.in_ok-answer.answer in
-    begun_of (g.R.Read.remaining c.args.reader.now.inner) c.in_ok-bytes.bytes.items c.as_slice.result.now (Shrunk) answer.verdict
-    (string_bytes answer.text) count _ _ c.in_ok-bytes.ensures.ok c.as_slice.ensures.value
-    (shrunk_so answer.verdict (string_bytes answer.text))
-    c.in_ok-answer.ensures.ok (c.write_answer.ensures.cut_short count same)
+    let done = c.finish in
+    answered_of (g.R.Read.remaining c.args.reader.now.inner) c.in_ok-bytes.bytes.items c.as_slice.result.now Shrunk
+    done.result answer.verdict (string_bytes answer.text) (g.W.Write.contents c.args.writer.now.inner)
+    (g.W.Write.contents done.new.writer.inner) c.in_ok-bytes.ensures.ok c.as_slice.ensures.value
+    (shrunk_so answer.verdict (string_bytes answer.text)) c.in_ok-answer.ensures.ok
+    done.ensures.verdict done.ensures.ok done.ensures.cut_short done.ensures.fault
 
 pub returns-clause-no_breach : goal.returns-clause-no_breach
 returns-clause-no_breach g c =
     let answer = c.in_ok-answer.answer in
-    no_breach_of c.write_answer.result answer.verdict c.write_answer.ensures.verdict
+    no_breach_of c.finish.result answer.verdict c.finish.ensures.verdict
     (shrunk_is_none (reading c.as_slice.result.now) answer.verdict (string_bytes answer.text) c.in_ok-answer.ensures.ok)
