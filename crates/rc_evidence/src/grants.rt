@@ -66,14 +66,14 @@ fn grant_in(message: &Message) -> Option<Grant>
     }
 }
 
-/// Notes one more grant.
+/// Notes one more grant. A term mostly has one alone, so its list begins with room for one.
 fn note_grant(alloc: Global, grants: &mut Grants, grant: Grant) -> Result<(), AllocError>
     ensures { OnOk result (NotesGrant grants.old grants.new grant) }
 {
     let mut of_term = match grants.remove(&grant.term) {
         Some(of_term) => of_term,
         None => TermGrants {
-            grants: Vec::new(alloc),
+            grants: Vec::with_capacity(alloc, 1)?,
         },
     };
     of_term.grants.push(grant)?;
