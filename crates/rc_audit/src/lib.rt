@@ -71,8 +71,8 @@ fn lost_or_invented(alloc: Global, messages: &[Message]) -> Result<Option<Breach
     invented_place(alloc, &evidence, &runs)
 }
 
-/// Whether a recovery was accepted.
-fn has_recovery(messages: &[Message]) -> bool
+/// Whether a recovery was accepted. Where none was, only a falling version can be a breach.
+pub fn has_recovery(messages: &[Message]) -> bool
     ensures { result ≡ false → accepted messages.now ≡ [] }
 {
     for message in messages {
