@@ -1,6 +1,7 @@
 //! From a trace's bytes to what is printed of it.
 
-ghost use Rattle.std.specs.Prelude.{◌≡◌, Err, string_bytes, IfOk};
+ghost use Rattle.std.specs.Prelude.{◌≡◌, ℕ, Ok, Err, string_bytes, IfOk};
+ghost use Rattle.rc_reading.specs.declared.faults.ReadFault.TheVariants.{BadInput};
 ghost use Rattle.rc_model.specs.Breach.{breach};
 ghost use Rattle.rc_traces.specs.Trace.{reading};
 ghost use Rattle.rc_report.specs.Ends.{judgement, error_line};
@@ -8,11 +9,14 @@ ghost use Rattle.rc_report.specs.Judged.{finding_of, finding_in, text_of};
 
 use crate::ends::error_text;
 use crate::reports::judgement_of;
-use rc_audit::audit;
+use rc_audit::{audit, has_recovery};
 use rc_reading::ReadFault;
-use rc_traces::read_trace;
+use rc_traces::{read_outline, read_trace};
 use rc_types::{Breach, Message};
 use std::alloc::{AllocError, Global};
+
+/// The name of a plan in a trace.
+const PLAN: &[u8] = b"\"plan\"";
 
 /// What comes of a trace.
 #[derive(Clone, Copy)]
@@ -35,20 +39,45 @@ pub struct Judgement {
 }
 
 /// Judges the trace that these bytes are: prints how many messages it has, and what the audit finds in them; or
-/// the one line of a trace that is wrong.
+/// the one line of a trace that is wrong. The bytes are let go of before the audit; those of a trace that is wrong stay.
 ///
 /// # Errors
 ///
 /// `OutOfMemory` (F1): memory was refused.
-pub fn judge(alloc: Global, bytes: &[u8]) -> Result<Judgement, AllocError>
-    ensures finding { IfOk result (λ judged. judged.finding ≡ finding_of (reading bytes.now)) }
-    ensures text { IfOk result (λ judged. string_bytes judged.text ≡ text_of (reading bytes.now)) }
+pub fn judge(alloc: Global, bytes: &mut Vec<u8>) -> Result<Judgement, AllocError>
+    ensures finding { IfOk result (λ judged. judged.finding ≡ finding_of (reading bytes.old.items)) }
+    ensures text { IfOk result (λ judged. string_bytes judged.text ≡ text_of (reading bytes.old.items)) }
 {
-    match read_trace(alloc, bytes) {
-        Ok(messages) => judge_messages(alloc, messages.as_slice()),
+    match messages_to_judge(alloc, bytes.as_slice()) {
+        Ok(messages) => {
+            *bytes = Vec::new(alloc);
+            judge_messages(alloc, messages.as_slice())
+        }
         Err(ReadFault::BadInput(place)) => bad(alloc, place),
         Err(ReadFault::OutOfMemory) => Err(AllocError),
     }
+}
+
+/// Messages that are judged as those that the bytes say. Where no recovery was accepted nobody asks for entries, so
+/// none is kept.
+fn messages_to_judge(alloc: Global, bytes: &[u8]) -> Result<Vec<Message>, ReadFault>
+    ensures finding { IfOk result (λ messages. finding_in (breach messages.items) ≡ finding_of (reading bytes.now)) }
+    ensures text { IfOk result (λ messages. judgement messages.items ≡ text_of (reading bytes.now)) }
+    ensures bad { (place : ℕ) → result ≡ Err (BadInput place) → reading bytes.now ≡ Err place }
+{
+    if !names_a_plan(bytes) {
+        let messages = read_outline(alloc, bytes)?;
+        if !has_recovery(messages.as_slice()) {
+            return Ok(messages);
+        }
+    }
+    read_trace(alloc, bytes)
+}
+
+/// Whether the name of a plan stands in these bytes, as it is mostly written: then a recovery is looked for in whole
+/// messages at once.
+fn names_a_plan(bytes: &[u8]) -> bool {
+    bytes.windows(PLAN.len()).any(|part| part == PLAN)
 }
 
 /// Judges the messages of a trace.

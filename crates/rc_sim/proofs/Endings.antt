@@ -5,7 +5,8 @@ use Rattle.std.proofs.Common.{ap, subst, ◌∙◌, ◌<◌, take, string_bytes,
 use Rattle.std.specs.Option.{IfSome}
 use Rattle.std.specs.Io.KnownBytes.{Appends}
 use Rattle.std.proofs.lemmas.List.{append-nil}
-use Rattle.rc_model.specs.Model.{code_of, Fault, Code, MAX_EVENTS}
+use Rattle.serde_json.specs.Data.{Data}
+use Rattle.rc_model.specs.Model.{code_of, Fault, Code, Message, MAX_EVENTS}
 use Rattle.rc_types.specs.declared.faults.Fault.TheVariants as fault
 use Rattle.rc_types.specs.declared.faults.Code.TheVariants.{BadEvent, OutOfMemory}
 use Rattle.rc_reading.specs.declared.scenarios.Scenario.{Scenario}
@@ -145,7 +146,10 @@ played_so output verdict text one other same h = subst (λ d. Comes output (of_v
 pub judged_so : (verdict : Verdict) (text : List ℕ) (one other : List ℕ) → value_in one ≡ value_in other →
     Judged one verdict text → Judged other verdict text
 judged_so verdict text one other same h =
-    subst (λ d. (verdict ≡ found_verdict (finding_of (trace.of_value d))) × (text ≡ text_of (trace.of_value d))) same h
+    subst (λ d. (verdict ≡ found_verdict (finding_of (of_trace d))) × (text ≡ text_of (of_trace d))) same h
+  where
+    of_trace : Option Data → Result (List Message) ℕ
+    of_trace = trace.of_value trace.message_of
 
 pub narrated_so : (verdict : Verdict) (text : List ℕ) (one other : List ℕ) → value_in one ≡ value_in other →
     Narrated one verdict text → Narrated other verdict text

@@ -174,9 +174,10 @@ pub(crate) fn bad(alloc: Global, place: usize) -> Result<Answer, AllocError>
     })
 }
 
-/// The answer to these bytes as a trace. It fails only where memory was refused.
-pub fn judgement_of(alloc: Global, bytes: &[u8]) -> Result<Answer, AllocError>
-    ensures ok { IfOk result (λ answer. Judged bytes.now answer.verdict (string_bytes answer.text)) }
+/// The answer to these bytes as a trace, which are let go of once they are read, unless they are wrong. It fails only
+/// where memory was refused.
+pub fn judgement_of(alloc: Global, bytes: &mut Vec<u8>) -> Result<Answer, AllocError>
+    ensures ok { IfOk result (λ answer. Judged bytes.old.items answer.verdict (string_bytes answer.text)) }
 {
     let judged = rc_report::judge(alloc, bytes)?;
     let verdict = match judged.finding {

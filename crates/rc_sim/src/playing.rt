@@ -14,12 +14,12 @@ use crate::outlets::read_all;
 use crate::simulating::write_answer;
 use crate::telling::tell_why;
 use crate::verdicts::{Output, SimFault, Verdict};
-use rc_reasons::Dialect;
+use rc_reasons::{Dialect, hint_of_twice};
 use rc_telling::{Factors, hints};
 use rc_types::{Event, Message};
 use rc_words::names_of_codes;
 use rc_world::World;
-use std::alloc::{Allocator, Global};
+use std::alloc::{AllocError, Allocator, Global};
 use std::io::{Read, Write};
 
 /// What is kept of a scenario or a trace, to tell more of it than its report does. Nothing is claimed of it.
@@ -78,6 +78,14 @@ impl Kept {
         self.sent = answer.sent;
         self
     }
+
+    /// Keeps these hints, where there was memory for them.
+    fn with_hints(mut self, hints: Result<String, AllocError>) -> Kept {
+        if let Ok(hints) = hints {
+            self.hints = hints;
+        }
+        self
+    }
 }
 
 /// Reads a scenario, runs it, and writes what the output asks for; `simulate` says how it fails. `errors` is told what
@@ -104,7 +112,7 @@ pub(crate) fn play<R: Read, W: Write, E: Write, A: Allocator + Clone>(
 }
 
 /// Reads a trace, judges it, and writes what came of it; `simulate` says how it fails. `errors` is told what is wrong
-/// with it.
+/// with it. What may not have been meant is found first, since the audit no longer has the text.
 pub(crate) fn weigh<R: Read, W: Write, E: Write>(
     alloc: Global,
     reader: &mut Counted<R>,
@@ -116,9 +124,10 @@ pub(crate) fn weigh<R: Read, W: Write, E: Write>(
     ensures reads { reader.new.failures ≡ failed_reads result reader.old.failures }
     ensures writes { writer.new.failures ≡ failed_writes result writer.old.failures }
 {
-    let bytes = read_all(alloc, reader)?;
-    let answer = judgement_of(alloc, bytes.as_slice())?;
-    let kept = Kept::new(alloc).with(bytes, &answer);
+    let mut bytes = read_all(alloc, reader)?;
+    let hints = hint_of_twice(alloc, Dialect::Trace, bytes.as_slice());
+    let answer = judgement_of(alloc, &mut bytes)?;
+    let kept = Kept::new(alloc).with(bytes, &answer).with_hints(hints);
     finish(alloc, Dialect::Trace, &kept, &answer, writer, errors)
 }
 

@@ -2,3 +2,4 @@ mod Noted
 mod TopNoted
 mod PartsFound
 mod Floats
+mod Outlined

@@ -124,29 +124,26 @@ message_of d = option_and_then (λ name. message_by name d) (field (codes "m") m
 
 -- The trace, or the place that is wrong
 
--- the messages, of which the first has this place; the least that is wrong counts
-abbrev pub messages_of : ℕ → List Data → Result (List Message) ℕ
-messages_of = all_said message_of
-
 -- an object with no other members than a trace's, which says that the format is the first
 abbrev pub is_trace : Data → Bool
 is_trace d = has_only trace_members d && is_some (field (codes "format") (whole 1 1) d)
 
-abbrev pub listed_messages : Option (List Data) → Result (List Message) ℕ
-listed_messages (Some ds) = messages_of 2 ds
-listed_messages None = Err 1
+-- what is said of each message, of which the first has place 2; the least that is wrong counts
+abbrev pub listed_messages : (Data → Option Message) → Option (List Data) → Result (List Message) ℕ
+listed_messages said (Some ds) = all_said said 2 ds
+listed_messages said None = Err 1
 
-abbrev pub trace_of : Data → Result (List Message) ℕ
-trace_of d = if is_trace d then listed_messages (field (codes "messages") list_of d) else Err 1
+abbrev pub trace_of : (Data → Option Message) → Data → Result (List Message) ℕ
+trace_of said d = if is_trace d then listed_messages said (field (codes "messages") list_of d) else Err 1
 
-abbrev pub of_value : Option Data → Result (List Message) ℕ
-of_value None = Err 0
-of_value (Some d) = trace_of d
+abbrev pub of_value : (Data → Option Message) → Option Data → Result (List Message) ℕ
+of_value said None = Err 0
+of_value said (Some d) = trace_of said d
 
 -- a text, by the value that it is
-abbrev pub of_text : List ℕ → Result (List Message) ℕ
-of_text text = of_value (read text)
+abbrev pub of_text : (Data → Option Message) → List ℕ → Result (List Message) ℕ
+of_text said text = of_value said (read text)
 
 -- what the bytes say
 abbrev pub reading : List ℕ → Result (List Message) ℕ
-reading bytes = of_value (value_in bytes)
+reading bytes = of_value message_of (value_in bytes)

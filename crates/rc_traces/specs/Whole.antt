@@ -10,10 +10,9 @@ use Rattle.rc_traces.specs.declared.whole.Top.{Top}
 use Rattle.rc_reading.specs.Values.{has_only, field, whole, list_from}
 use Rattle.rc_reading.specs.Lists.{takes_placed}
 use Rattle.rc_traces.specs.Names.{trace_members}
-use Rattle.rc_traces.specs.Trace.{message_of}
 
-abbrev pub messages_list : Data → Option (Result (List Message) ℕ)
-messages_list = list_from (takes_placed message_of) (Ok [])
+abbrev pub messages_list : (Data → Option Message) → Data → Option (Result (List Message) ℕ)
+messages_list said = list_from (takes_placed said) (Ok [])
 
 abbrev pub top_named : List ℕ → Option TopName
 top_named text =
@@ -22,17 +21,18 @@ top_named text =
     else None)
 
 -- one more member was read
-abbrev pub top_noted : Option TopName → Data → Top → Top
-top_noted None d top = record top { only = false }
-top_noted (Some Format) d top = record top { format = whole 1 1 d }
-top_noted (Some Messages) d top = record top { messages = messages_list d }
+abbrev pub top_noted : {R : Type 0} → (Data → Option Message) → Option TopName → Data → Top R → Top R
+top_noted said None d top = record top { only = false }
+top_noted said (Some Format) d top = record top { format = whole 1 1 d }
+top_noted said (Some Messages) d top = record top { messages = messages_list said d }
 
 -- what all members of an object say
-abbrev pub top_of : Data → Top
-top_of d = record {
+abbrev pub top_of : {R : Type 0} → (Data → Option Message) → Data → Top R
+top_of said d = record {
   only = has_only trace_members d;
   format = field (codes "format") (whole 1 1) d;
-  messages = field (codes "messages") messages_list d;
+  messages = field (codes "messages") (messages_list said) d;
+  kept_by = record {};
 }
 
 abbrev pub messages_in : Option (Result (List Message) ℕ) → Result (List Message) ℕ
@@ -40,5 +40,5 @@ messages_in (Some messages) = messages
 messages_in None = Err 1
 
 -- the messages that the members say, or the place that is wrong
-abbrev pub trace_by : Top → Result (List Message) ℕ
+abbrev pub trace_by : {R : Type 0} → Top R → Result (List Message) ℕ
 trace_by top = if top.only && is_some top.format then messages_in top.messages else Err 1

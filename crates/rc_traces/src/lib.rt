@@ -6,10 +6,11 @@ mod fields;
 pub mod limits;
 mod lists;
 mod names;
+mod outlines;
 mod reading;
 mod values;
 mod whole;
 mod writing;
 
-pub use reading::read_trace;
+pub use reading::{read_outline, read_trace};
 pub use writing::write_trace;

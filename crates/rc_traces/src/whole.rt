@@ -8,15 +8,15 @@ ghost use Rattle.rc_traces.specs.Whole.{top_named, top_noted, top_of, trace_by};
 ghost use Rattle.rc_reading.specs.Values.{listed};
 ghost use Rattle.rc_reading.specs.Ahead.{data_at, items_at, members_at, says, told};
 
-use crate::fields::Fields;
 use json::Reader;
 use rc_reading::ReadFault;
-use rc_reading::lists::read_list;
+use rc_reading::lists::{Said, read_list};
 use rc_reading::objects::{Object, read_object};
 use rc_reading::tokens::pass;
 use rc_reading::wanted::number;
 use rc_types::{Message, Seq};
 use std::alloc::Global;
+use std::marker::PhantomData;
 
 /// The messages that were read, or the place of the first that is wrong.
 type Messages = Result<Seq<Message>, usize>;
@@ -40,26 +40,28 @@ impl TopName {
     }
 }
 
-/// What the members of a trace say so far; the last of equal names counts. A member that is absent and one that says
-/// nothing right are both `None`.
+/// What the members of a trace say so far, of whose messages it has what `R` reads of them; the last of equal names
+/// counts. A member that is absent and one that says nothing right are both `None`.
 #[derive(Drop)]
-pub(crate) struct Top {
+pub(crate) struct Top<R> {
     /// Whether a trace has all the members that have come.
     only: bool,
     format: Option<u64>,
     messages: Option<Messages>,
+    kept_by: PhantomData<R>,
 }
 
-impl Object for Top {
-    ghost of = { top_of };
+impl<R: Said<Message>> Object for Top<R> {
+    ghost of = { top_of R.said };
 
-    ghost noted = { λ k. top_noted (top_named k) };
+    ghost noted = { λ k. top_noted R.said (top_named k) };
 
-    fn none(_alloc: Global) -> Top {
+    fn none(_alloc: Global) -> Top<R> {
         Top {
             only: true,
             format: None,
             messages: None,
+            kept_by: PhantomData,
         }
     }
 
@@ -73,7 +75,7 @@ impl Object for Top {
         match TopName::named(name) {
             Some(TopName::Format) => self.format = number(reader, depth, 1, 1)?,
             Some(TopName::Messages) => {
-                self.messages = read_list::<Fields, _>(Ok(Seq::new(alloc)), alloc, reader, depth)?;
+                self.messages = read_list::<R, _>(Ok(Seq::new(alloc)), alloc, reader, depth)?;
             }
             None => {
                 self.only = false;
@@ -84,7 +86,7 @@ impl Object for Top {
     }
 }
 
-impl Top {
+impl<R> Top<R> {
     /// The messages that the members say, or the place that is wrong.
     fn trace(self) -> Messages
         ensures { result ≡ trace_by self }
@@ -99,15 +101,15 @@ impl Top {
     }
 }
 
-/// The messages of the trace that the value that comes next is, or the place of it that is wrong.
-pub(crate) fn trace(
+/// The messages of the trace that the value that comes next is, as `R` reads them, or the place of it that is wrong.
+pub(crate) fn trace<R: Said<Message> + Drop>(
     alloc: Global,
     reader: &mut Reader<'_>,
     depth: usize,
 ) -> Result<Messages, ReadFault>
-    ensures ok { IfOk result (λ messages. says trace_of depth reader.old ≡ Some (messages, reader.new)) }
+    ensures ok { IfOk result (λ messages. says (trace_of R.said) depth reader.old ≡ Some (messages, reader.new)) }
     ensures bad { (place : ℕ) → result ≡ Err (BadInput place) → (place ≡ 0) × (data_at depth reader.old ≡ None) }
 {
-    let top: Option<Top> = read_object(alloc, reader, depth)?;
+    let top: Option<Top<R>> = read_object(alloc, reader, depth)?;
     Ok(top.map_or(Err(1), Top::trace))
 }
