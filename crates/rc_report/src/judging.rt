@@ -39,7 +39,8 @@ pub struct Judgement {
 }
 
 /// Judges the trace that these bytes are: prints how many messages it has, and what the audit finds in them; or
-/// the one line of a trace that is wrong. The bytes are let go of before the audit; those of a trace that is wrong stay.
+/// the one line of a trace that is wrong. The bytes are let go of before the audit. Those of a trace that is wrong
+/// stay.
 ///
 /// # Errors
 ///
