@@ -17,11 +17,11 @@ returns-in-Some-clause-bad g c place is =
 pub returns-in-Ok-clause-ok : goal.returns-in-Ok-clause-ok
 returns-in-Ok-clause-ok g c =
     let d = text_says c.args.text.now _ c.in_ok-reader.ensures.ok (trace_of g.R.Said.said) _ c.trace.new.reader
-        c.in_ok-messages.ensures.ok (grind arith) in
+    c.in_ok-messages.ensures.ok (grind arith) in
     ap (of_value g.R.Said.said) d.1 ∙ d.2 ∙ c.in-Ok.is ∙ ap Ok (sym c.into_vec.ensures)
 
 pub returns-clause-bad : goal.returns-clause-bad
 returns-clause-bad g c place is =
     let d = text_says c.args.text.now _ c.in_ok-reader.ensures.ok (trace_of g.R.Said.said) _ c.trace.new.reader
-        c.in_ok-messages.ensures.ok (grind arith) in
+    c.in_ok-messages.ensures.ok (grind arith) in
     ap (of_value g.R.Said.said) d.1 ∙ d.2 ∙ c.in-Err.is ∙ ap Err (cc)
