@@ -58,7 +58,7 @@ fn invented_in(
 }
 
 /// The first place of a recovery that was not made one way, of the first recovery that has one.
-pub fn invented_place(
+pub(crate) fn invented_place(
     alloc: Global,
     evidence: &Evidence<'_>,
     runs: &Runs,

@@ -203,7 +203,7 @@ fn is_clean(clean: &BTreeMap<CleanKey, Clean<'_>>, key: CleanKey, recovery: &Rec
 
 /// The first write that is missing from a recovery, of the first recovery that misses one. A
 /// recovery with the rows of an earlier one of the same master needs no second look.
-pub fn missing_write(
+pub(crate) fn missing_write(
     alloc: Global,
     evidence: &Evidence<'_>,
     senders: &Senders<'_>,

@@ -106,7 +106,7 @@ pub fn number_of<'a>(
 }
 
 /// Whether this flag was given.
-pub fn has_flag(given: &ArgMatches<'_>, name: &str) -> bool
+pub(crate) fn has_flag(given: &ArgMatches<'_>, name: &str) -> bool
     ensures { result ≡ spec.has_flag name.now (rows_of (found_of given.now)) }
 {
     match given.get_str(name) {
@@ -116,7 +116,7 @@ pub fn has_flag(given: &ArgMatches<'_>, name: &str) -> bool
 }
 
 /// Whether this option was given.
-pub fn has_option(given: &ArgMatches<'_>, name: &str) -> bool
+pub(crate) fn has_option(given: &ArgMatches<'_>, name: &str) -> bool
     ensures { result ≡ spec.has_option name.now (rows_of (found_of given.now)) }
 {
     match given.get_str(name) {
@@ -126,7 +126,7 @@ pub fn has_option(given: &ArgMatches<'_>, name: &str) -> bool
 }
 
 /// Whether JSON is asked for.
-pub fn json_of<'a>(given: &ArgMatches<'a>) -> Result<bool, BadWord<'a>>
+pub(crate) fn json_of<'a>(given: &ArgMatches<'a>) -> Result<bool, BadWord<'a>>
     ensures { let json = json_given (rows_of (found_of given.now)) in
         MatchResult result (λ found. json ≡ Some found) (λ _. json ≡ None) }
 {
@@ -141,7 +141,7 @@ pub fn json_of<'a>(given: &ArgMatches<'a>) -> Result<bool, BadWord<'a>>
 }
 
 /// The first and the last one of the seeds that were given, if they were.
-pub fn seeds_of<'a>(given: &ArgMatches<'a>) -> Result<Option<(u64, u64)>, BadWord<'a>>
+pub(crate) fn seeds_of<'a>(given: &ArgMatches<'a>) -> Result<Option<(u64, u64)>, BadWord<'a>>
     ensures number { let seeds = seeds_given (rows_of (found_of given.now)) in
         MatchResult result (λ found. seeds ≡ Some found) (λ _. seeds ≡ None) }
     ensures range { IfOk result (λ found. IfSome found IsFew) }

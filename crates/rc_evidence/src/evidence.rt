@@ -45,7 +45,7 @@ impl<'a> Evidence<'a> {
     }
 
     /// Whether exactly one entry was sent for this place, once or more often.
-    pub fn is_made_one_way(&self, master: ServerId, seg: u16, offset: usize) -> bool
+    pub(crate) fn is_made_one_way(&self, master: ServerId, seg: u16, offset: usize) -> bool
         ensures { result ≡ is_one_entry (made self.now.messages.now master seg offset) }
     {
         match self.seen_at(master, seg, offset) {

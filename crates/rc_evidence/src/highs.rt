@@ -33,7 +33,7 @@ pub fn key_of(entry: &Entry) -> TermKey
 }
 
 /// Notes a version of this key.
-pub fn note_version(highs: &mut Highs, key: TermKey, version: u64) -> Result<(), AllocError>
+pub(crate) fn note_version(highs: &mut Highs, key: TermKey, version: u64) -> Result<(), AllocError>
     ensures { OnOk result (NotesVersion highs.old highs.new key version) }
 {
     let high = highs.get(&key).copied().unwrap_or(0);
@@ -52,7 +52,7 @@ pub fn has_above(highs: &Highs, key: TermKey, version: u64) -> bool
 }
 
 /// The greatest version of this key that was noted.
-pub fn high_of(highs: &Highs, key: TermKey) -> Option<u64>
+pub(crate) fn high_of(highs: &Highs, key: TermKey) -> Option<u64>
     ensures { result ≡ high_at highs.now key }
 {
     highs.get(&key).copied()

@@ -108,7 +108,7 @@ fn note_message<'a>(made: &mut Made<'a>, message: &'a Message) -> Result<(), All
 }
 
 /// What was sent for each place, in these messages.
-pub fn made_in<'a>(alloc: Global, messages: &'a [Message]) -> Result<Made<'a>, AllocError>
+pub(crate) fn made_in<'a>(alloc: Global, messages: &'a [Message]) -> Result<Made<'a>, AllocError>
     ensures { IfOk result (λ made. Indexes made messages.now) }
 {
     let mut made = BTreeMap::new(alloc);

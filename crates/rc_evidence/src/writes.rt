@@ -41,7 +41,7 @@ impl AckedWrite {
     }
 
     /// Whether the entry is of this term, table, key and version.
-    pub fn agrees(self, entry: &Entry) -> bool
+    pub(crate) fn agrees(self, entry: &Entry) -> bool
         ensures { result ≡ agrees (ack_of self) entry.now }
     {
         entry.term == self.term
@@ -76,7 +76,7 @@ pub fn write_in(body: &Body) -> Option<AckedWrite>
 }
 
 /// The write that a server acknowledges by this message, if it does, with the server.
-pub fn acked_in(message: &Message) -> Option<(ServerId, AckedWrite)>
+pub(crate) fn acked_in(message: &Message) -> Option<(ServerId, AckedWrite)>
     ensures { (m : ServerId) → acks_by result m ≡ acks_from message.now m }
 {
     let Addr::Server(master) = message.from else {

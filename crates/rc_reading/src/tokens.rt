@@ -140,7 +140,7 @@ fn begins_object(token: Token<'_>) -> bool
 
 /// Whether the value that comes next is an object. Of an object the bracket that opens it is taken,
 /// another value whole.
-pub fn opens_object(reader: &mut Reader<'_>, depth: usize) -> Result<bool, Invalid>
+pub(crate) fn opens_object(reader: &mut Reader<'_>, depth: usize) -> Result<bool, Invalid>
     ensures ok { IfOk result (λ opened. MatchBool opened ((reader.old ≡ begin_object ∷ reader.new) × (0 < depth))
         (says as_object depth reader.old ≡ Some (None, reader.new))) }
     ensures shorter { OnOk result (length reader.new < length reader.old) }

@@ -93,7 +93,7 @@ impl Dialect {
     }
 
     /// The first of the kinds of items.
-    pub fn first_kind(self) -> &'static str {
+    pub(crate) fn first_kind(self) -> &'static str {
         match self {
             Dialect::Scenario => EVENTS[0],
             Dialect::Trace => TRACED[0],
@@ -148,6 +148,6 @@ fn members_of_message(kind: &str) -> &'static [&'static str] {
 }
 
 /// Whether a member may be left out.
-pub fn may_be_absent(member: &str) -> bool {
+pub(crate) fn may_be_absent(member: &str) -> bool {
     matches!(member, "kept" | "kinds" | "hosts")
 }

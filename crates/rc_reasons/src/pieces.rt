@@ -39,7 +39,7 @@ impl Piece {
     }
 
     /// The piece without the blanks at its ends.
-    pub fn trimmed(self, text: &[u8]) -> Piece {
+    pub(crate) fn trimmed(self, text: &[u8]) -> Piece {
         let bytes = self.of(text);
         Piece {
             from: self.from.saturating_add(blanks_before(bytes)),
@@ -163,7 +163,7 @@ impl ItemWalk {
     }
 
     /// Goes past this byte, and gives the item that ends before it, if one does.
-    pub fn past(&mut self, text: &[u8], byte: u8) -> Option<Piece> {
+    pub(crate) fn past(&mut self, text: &[u8], byte: u8) -> Option<Piece> {
         let ended = if self.walk.ends_item(byte) {
             self.end_item(text)
         } else {
@@ -286,7 +286,7 @@ impl Members {
 }
 
 /// The member that an item of an object is.
-pub fn member_in(text: &[u8], item: Piece) -> Member {
+pub(crate) fn member_in(text: &[u8], item: Piece) -> Member {
     let mut walk = Walk::new();
     let mut colon = item.from;
     for byte in item.of(text) {
@@ -311,7 +311,7 @@ pub fn member_in(text: &[u8], item: Piece) -> Member {
 }
 
 /// The line and the column of a byte, both from 1; a column is a character.
-pub fn line_and_column(text: &[u8], at: usize) -> (usize, usize) {
+pub(crate) fn line_and_column(text: &[u8], at: usize) -> (usize, usize) {
     let mut line = 1usize;
     let mut column = 1usize;
     for byte in (Piece {

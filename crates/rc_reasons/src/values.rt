@@ -176,7 +176,7 @@ pub struct Wrong {
 }
 
 /// What is wrong with a value, if it isn't what it has to be.
-pub fn wrong_in(text: &[u8], value: Piece, want: Want) -> Option<Wrong> {
+pub(crate) fn wrong_in(text: &[u8], value: Piece, want: Want) -> Option<Wrong> {
     match (want, want.item()) {
         (Want::List, _) if value.first(text) == b'[' => None,
         (Want::List, _) => Some(wrong_whole(value, want)),
@@ -350,7 +350,7 @@ fn has_hex_alone(digits: &str) -> bool {
 }
 
 /// What stands between the quotes of a text.
-pub fn unquoted(value: &str) -> Option<&str> {
+pub(crate) fn unquoted(value: &str) -> Option<&str> {
     match value.strip_prefix('"') {
         Some(rest) => rest.strip_suffix('"'),
         None => None,

@@ -12,4 +12,4 @@ mod reports;
 
 pub use ends::{add_stopped, error_text};
 pub use judging::{Finding, Judgement, judge};
-pub use reports::{judgement_of, report, report_of};
+pub use reports::report_of;

@@ -8,21 +8,8 @@ ghost use Rattle.rc_model.specs.Breach.{breach};
 use crate::audited::add_audit;
 use crate::counts::{add_count, add_counts};
 use crate::lines::add_messages;
-use rc_audit::audit;
 use rc_types::{Breach, Message};
 use std::alloc::{AllocError, Global};
-
-/// The report of these messages. They are judged by `audit`, whose cost this adds to that of the text.
-///
-/// # Errors
-///
-/// `OutOfMemory` (F1): memory was refused.
-pub fn report(alloc: Global, messages: &[Message]) -> Result<String, AllocError>
-    ensures { IfOk result (λ text. string_bytes text ≡ report messages.now) }
-{
-    let found = audit(alloc, messages)?;
-    report_of(alloc, messages, found)
-}
 
 /// The report of these messages, with what the audit found in them. It costs one look at each message, and what
 /// it prints.
@@ -52,7 +39,7 @@ pub fn report_of(
 /// # Errors
 ///
 /// `OutOfMemory` (F1): memory was refused.
-pub fn judgement_of(
+pub(crate) fn judgement_of(
     alloc: Global,
     messages: &[Message],
     found: Option<Breach>,

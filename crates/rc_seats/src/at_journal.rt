@@ -53,7 +53,7 @@ impl<N: Naming> Seat<N> {
     /// `BadEvent` (F18): 200,000 events have happened. `OutOfMemory` (F1): memory was refused. After either
     /// the journal is as before, and the step stays pending and can be committed again; the seat may have
     /// seen more.
-    pub fn commit_into(&mut self, journal: &mut Journal<N>) -> Result<usize, Fault>
+    pub(crate) fn commit_into(&mut self, journal: &mut Journal<N>) -> Result<usize, Fault>
         requires { is_some self.old.pending ≡ true }
         ensures ok { IfOk result (λ number. Commits N.wire.setup self.old number self.new) }
         ensures journal { OnOk result (journal.new ≡ self.new.seen) }

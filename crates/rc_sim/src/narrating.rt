@@ -39,12 +39,12 @@ pub enum Telling {
 
 impl Telling {
     /// As `log` tells it, with or without its flag.
-    pub fn of_log(json: bool) -> Telling {
+    pub(crate) fn of_log(json: bool) -> Telling {
         if json { Telling::Json } else { Telling::Log }
     }
 
     /// As `picture` draws it, with or without its flag.
-    pub fn of_picture(mermaid: bool) -> Telling {
+    pub(crate) fn of_picture(mermaid: bool) -> Telling {
         if mermaid {
             Telling::Mermaid
         } else {

@@ -16,7 +16,7 @@ use std::io::{Read, Write};
 const CHUNK: usize = 4096;
 
 /// What the reader gives up to its end, or up to where a scenario is too long.
-pub fn read_all<R: Read>(alloc: Global, reader: &mut Counted<R>) -> Result<Vec<u8>, SimFault>
+pub(crate) fn read_all<R: Read>(alloc: Global, reader: &mut Counted<R>) -> Result<Vec<u8>, SimFault>
     ensures ok { IfOk result (λ bytes. IfSome (R.remaining reader.old.inner)
         (λ all. value_in bytes.items ≡ value_in all)) }
     ensures failures { reader.new.failures ≡ failed_reads result reader.old.failures }
