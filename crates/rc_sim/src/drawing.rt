@@ -71,7 +71,7 @@ fn drawn_answer<E: Write>(
 /// was done and in how many of these a breach was found, which is none.
 ///
 /// It fails as `fuzz` does.
-pub(crate) fn cut_powers<W: Write>(
+pub fn cut_powers<W: Write>(
     alloc: Global,
     seed: u64,
     steps: usize,

@@ -40,7 +40,7 @@ pub struct Search {
 /// told.
 ///
 /// It fails as `fuzz` does.
-pub(crate) fn seek<W: Write, E: Write>(
+pub fn seek<W: Write, E: Write>(
     alloc: Global,
     options: &Options,
     search: &Search,
