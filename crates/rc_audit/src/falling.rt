@@ -110,7 +110,10 @@ fn falls_by_bars(
 /// The first acknowledged write whose version is not above that of one that was acknowledged under an
 /// earlier ownership of its key, with the first such one. Most writes are seen to rise by bars that are
 /// found at once for all keys under all terms.
-pub(crate) fn falling_version(alloc: Global, messages: &[Message]) -> Result<Option<Breach>, AllocError>
+pub(crate) fn falling_version(
+    alloc: Global,
+    messages: &[Message],
+) -> Result<Option<Breach>, AllocError>
     ensures { IfOk result (λ found.
         found ≡ falls_of messages.now (all_acknowledged messages.now)) }
 {
