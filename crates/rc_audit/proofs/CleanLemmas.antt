@@ -12,8 +12,8 @@ use Rattle.rc_model.specs.Model.{made, same_id, is_server}
 use Rattle.rc_audit.specs.declared.missing.Clean.{Clean}
 use Rattle.rc_audit.specs.declared.missing.CleanKey.{CleanKey}
 use Rattle.rc_audit.specs.Clean.{clean_order, AreClean}
-use Rattle.rc_evidence.proofs.PlaceLemmas.{id_from}
-use Rattle.rc_evidence.proofs.SenderLemmas.{drop_step}
+use Rattle.rc_audit.proofs.PlaceLemmas.{id_from}
+use Rattle.rc_audit.proofs.SenderLemmas.{drop_step}
 use Rattle.rc_model.proofs.Ids.{same_id-true}
 
 -- what is superseded hangs on no number of an attempt

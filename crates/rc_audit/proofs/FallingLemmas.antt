@@ -5,9 +5,9 @@ use Rattle.std.specs.BTreeMap.{BTreeMap, get}
 use Rattle.std.proofs.lemmas.Bool.{cond-false, and_parts, eqb-true, false_from_ne_true}
 use Rattle.std.proofs.lemmas.Bool.Decides.{nat_tests}
 use Rattle.rc_model.specs.Model.{Message, Version, Ack, all_acknowledged, is_earlier, falls, first_fall, In}
-use Rattle.rc_evidence.specs.declared.highs.TermKey.{TermKey}
-use Rattle.rc_evidence.specs.Highs.{key_order, ack_key, is_level}
-use Rattle.rc_evidence.specs.Bars.{IsBar, AreBars}
+use Rattle.rc_audit.specs.declared.highs.TermKey.{TermKey}
+use Rattle.rc_audit.specs.Highs.{key_order, ack_key, is_level}
+use Rattle.rc_audit.specs.Bars.{IsBar, AreBars}
 
 -- a write above its bar falls from none
 fall_none : (sent : List Message) (later : Ack) (acks : List Ack) →

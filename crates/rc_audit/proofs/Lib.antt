@@ -1,3 +1,14 @@
+pub mod PlaceLemmas
+pub mod RecoveryLemmas
+pub mod RunLemmas
+pub mod StandingLemmas
+pub mod SenderLemmas
+pub mod SupersededLemmas
+pub mod GrantLemmas
+pub mod EarlierLemmas
+pub mod BarLemmas
+pub mod OrderLemmas
+pub mod TurnLemmas
 pub mod MissingLemmas
 pub mod FallingLemmas
 pub mod CleanLemmas

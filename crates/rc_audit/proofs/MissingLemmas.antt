@@ -11,9 +11,9 @@ use Rattle.std.proofs.lemmas.Bool.Decides.{nat_tests}
 use Rattle.std.proofs.lemmas.List.{length-map}
 use Rattle.rc_model.specs.Model.{Message, Body, Missing, made, Ack, ack_in, all_acknowledged, Accepted, reach, is_recovered, all_agree}
 use Rattle.rc_model.specs.Model.{is_missing, is_superseded, first_missing}
-use Rattle.rc_evidence.specs.Standings.{acked_below, all_kept, one_above}
-use Rattle.rc_evidence.proofs.SupersededLemmas.{got_through}
-use Rattle.rc_evidence.proofs.SenderLemmas.{drop_step}
+use Rattle.rc_audit.specs.Standings.{acked_below, all_kept, one_above}
+use Rattle.rc_audit.proofs.SupersededLemmas.{got_through}
+use Rattle.rc_audit.proofs.SenderLemmas.{drop_step}
 
 -- each entry's number is below the limit of its key
 abbrev pub AllBelow : (ℕ → ℕ) → List (ℕ × ℕ) → Type 0

@@ -8,7 +8,7 @@ use Rattle.rc_model.specs.Recovered.{acknowledged}
 use Rattle.rc_model.specs.Breach.{first_missing}
 use Rattle.rc_audit.specs.declared.missing.Clean.{Clean}
 use Rattle.rc_audit.specs.declared.missing.CleanKey.{CleanKey}
-use Rattle.rc_evidence.specs.Places.{id_order}
+use Rattle.rc_audit.specs.Places.{id_order}
 
 abbrev pub clean_order : CleanKey → CleanKey → Ordering
 clean_order a b = ordering_then (id_order a.master b.master) (nat_cmp a.mark b.mark)

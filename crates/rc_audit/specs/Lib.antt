@@ -1,1 +1,14 @@
+pub mod Places
+pub mod Writes
+pub mod Recoveries
+pub mod Runs
+pub mod Standings
+pub mod Highs
+pub mod Senders
+pub mod Superseded
+pub mod Grants
+pub mod Earlier
+pub mod Bars
+pub mod Orders
+pub mod Turns
 pub mod Clean

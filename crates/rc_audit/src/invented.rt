@@ -6,12 +6,12 @@ ghost use Rattle.rc_model.specs.Ascending.{ascending};
 ghost use Rattle.rc_model.specs.Recovered.{accepted};
 ghost use Rattle.rc_model.specs.Breach.{first_invented, first_invented_from};
 ghost use Rattle.rc_model.specs.Breach.{invented_of, segments_of};
-ghost use Rattle.rc_evidence.specs.Recoveries.{accepted_of};
-ghost use Rattle.rc_evidence.specs.Runs.{AreRuns};
+ghost use Rattle.rc_audit.specs.Recoveries.{accepted_of};
+ghost use Rattle.rc_audit.specs.Runs.{AreRuns};
 
-use rc_evidence::evidence::Evidence;
-use rc_evidence::recoveries::{Recovery, number_of, reaches, recovery_in};
-use rc_evidence::runs::{Runs, run_of};
+use crate::evidence::Evidence;
+use crate::recoveries::{Recovery, number_of, reaches, recovery_in};
+use crate::runs::{Runs, run_of};
 use rc_types::Breach;
 use std::alloc::{AllocError, Global};
 

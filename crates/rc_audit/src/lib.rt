@@ -1,25 +1,46 @@
-//! The judge of a list of messages: it knows of no node, only of what was sent, as `rc_evidence` sorts it. What a
-//! breach is, `rc_model`'s `Breach` says as the answer of a search, and its `Headline` in words. Each of the three
-//! kinds of breach has a module: `missing`, `invented`, `falling`.
+//! The judge of a list of messages: it knows of no node, only of what was sent. What a breach is, `rc_model`'s `Breach`
+//! says as the answer of a search, and its `Headline` in words. Each of the three kinds of breach has a module:
+//! `missing`, `invented`, `falling`.
+//!
+//! The other modules sort what was sent: the entries for each place, and how far they go without a gap; the writes that
+//! were acknowledged; the rows of each plan; the versions that a recovered log has; the grants, and of each the terms
+//! before it. Each look-up is one in an ordered map. To be read in this order: `places`, `writes`, `recoveries`;
+//! `evidence`, `runs`, `standing`, `senders`, which are made of these; `highs`, `superseded`; `grants`, `earlier`,
+//! `bars`; `orders`, `circles`, `turns`, which find all bars at once.
 #![tactic(auto)]
 
 ghost use Rattle.std.specs.Prelude.{◌≡◌, [], false, IfOk};
 ghost use Rattle.rc_model.specs.Recovered.{accepted};
 ghost use Rattle.rc_model.specs.Breach.{breach, or_else, missing_of, invented_of};
 
+mod bars;
+mod circles;
+mod earlier;
+mod evidence;
 mod falling;
+mod grants;
+mod highs;
 mod invented;
 mod missing;
+mod orders;
+mod places;
+mod recoveries;
+mod runs;
+mod senders;
+mod standing;
+mod superseded;
+mod turns;
+mod writes;
 
+use evidence::Evidence;
 use falling::falling_version;
 use invented::invented_place;
 use missing::missing_write;
-use rc_evidence::evidence::Evidence;
-use rc_evidence::recoveries::recovery_in;
-use rc_evidence::runs::runs_in;
-use rc_evidence::senders::senders_in;
-use rc_evidence::standing::standings_in;
 use rc_types::{Breach, Message};
+use recoveries::recovery_in;
+use runs::runs_in;
+use senders::senders_in;
+use standing::standings_in;
 use std::alloc::{AllocError, Global};
 
 /// The first breach of the headline in these messages, or `None`: for each accepted recovery, in

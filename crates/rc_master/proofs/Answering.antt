@@ -3,7 +3,7 @@ use Rattle.std.proofs.Common.{◌≡◌, ℕ, Bool, true, false, cond, List, [],
 use Rattle.std.proofs.Common.{is_some, option_map, refl, sym, ap}
 use Rattle.rc_model.specs.Model.{Entry, Ownership, PartState, is_to_answer, to_answer, answered_in, after_answer, Master}
 use Rattle.rc_model.specs.Model.{durable_replayed, answers_part, follows_replay}
-use Rattle.rc_lognotes.specs.Telling.{told_of}
+use Rattle.rc_notices.specs.Telling.{told_of}
 use Rattle.rc_master.specs.Rules.{did, or_still}
 
 answered-none : (durable : List Entry) (states : List PartState) → find (is_to_answer durable) states ≡ None →

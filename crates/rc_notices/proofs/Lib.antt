@@ -1,3 +1,4 @@
+pub mod Outdated
 pub mod Beginnings
 pub mod Unknown
 pub mod SegmentLists

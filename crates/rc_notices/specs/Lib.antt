@@ -1,3 +1,5 @@
+pub mod Keeper
+pub mod Telling
 pub mod Beginnings
 pub mod Sender
 pub mod Placed

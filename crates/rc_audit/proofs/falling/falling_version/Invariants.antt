@@ -1,6 +1,6 @@
 use Rattle.std.proofs.Common.{◌≡◌, drop}
 use Rattle.rc_model.specs.Model.{all_acknowledged, falls_of}
-use Rattle.rc_evidence.specs.Bars.{AreBars}
+use Rattle.rc_audit.specs.Bars.{AreBars}
 use Rattle.rc_audit.proofs.falling.falling_version.Given as goal
 
 -- none falls so far

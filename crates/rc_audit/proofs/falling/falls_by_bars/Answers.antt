@@ -1,6 +1,6 @@
 use Rattle.std.proofs.Common.{sym, subst}
-use Rattle.rc_evidence.specs.Bars.{IsBar}
-use Rattle.rc_evidence.specs.Writes.{ack_of}
+use Rattle.rc_audit.specs.Bars.{IsBar}
+use Rattle.rc_audit.specs.Writes.{ack_of}
 use Rattle.rc_audit.proofs.FallingLemmas.{above_bar}
 use Rattle.rc_audit.proofs.falling.falls_by_bars.Goals as goal
 

@@ -1,6 +1,6 @@
 use Rattle.std.proofs.Common.{◌≡◌, drop}
 use Rattle.rc_model.specs.Model.{all_acknowledged, first_fall}
-use Rattle.rc_evidence.specs.Writes.{ack_of}
+use Rattle.rc_audit.specs.Writes.{ack_of}
 use Rattle.rc_audit.proofs.falling.first_among.Given as goal
 
 -- it falls from none so far

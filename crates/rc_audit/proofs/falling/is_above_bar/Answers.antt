@@ -1,5 +1,5 @@
 use Rattle.std.proofs.Common.{◌≡◌, Bool, true, not, subst, rules}
-use Rattle.rc_evidence.specs.Writes.{ack_of}
+use Rattle.rc_audit.specs.Writes.{ack_of}
 use Rattle.rc_audit.proofs.FallingLemmas.{above_found}
 use Rattle.rc_audit.proofs.falling.is_above_bar.Goals as goal
 

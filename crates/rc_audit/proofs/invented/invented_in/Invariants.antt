@@ -1,7 +1,7 @@
 use Rattle.std.proofs.Common.{◌≡◌, List}
 use Rattle.rc_model.specs.Model.{Message, ascending, first_invented, segments_of}
-use Rattle.rc_evidence.specs.Recoveries.{accepted_of}
-use Rattle.rc_evidence.specs.Runs.{AreRuns}
+use Rattle.rc_audit.specs.Recoveries.{accepted_of}
+use Rattle.rc_audit.specs.Runs.{AreRuns}
 use Rattle.rc_audit.proofs.invented.invented_in.Given as goal
 
 -- the segments so far have no invented place

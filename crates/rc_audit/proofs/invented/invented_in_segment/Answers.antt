@@ -1,7 +1,7 @@
 use Rattle.std.proofs.Common.{sym, subst, arith}
-use Rattle.rc_evidence.specs.Recoveries.{accepted_of}
-use Rattle.rc_evidence.specs.Runs.{IsRun}
-use Rattle.rc_evidence.proofs.RunLemmas.{invented-none, invented-next}
+use Rattle.rc_audit.specs.Recoveries.{accepted_of}
+use Rattle.rc_audit.specs.Runs.{IsRun}
+use Rattle.rc_audit.proofs.RunLemmas.{invented-none, invented-next}
 use Rattle.rc_audit.proofs.invented.invented_in_segment.Goals as goal
 
 pub returns-then-reach-run : goal.returns-then-reach-run

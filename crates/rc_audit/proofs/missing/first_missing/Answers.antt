@@ -1,8 +1,8 @@
 use Rattle.std.proofs.Common.{◌+◌, sym, drop}
 use Rattle.rc_model.specs.Recovered.{all_acknowledged}
-use Rattle.rc_evidence.specs.Writes.{ack_of}
-use Rattle.rc_evidence.specs.Recoveries.{accepted_of}
-use Rattle.rc_evidence.specs.Senders.{messages_in}
+use Rattle.rc_audit.specs.Writes.{ack_of}
+use Rattle.rc_audit.specs.Recoveries.{accepted_of}
+use Rattle.rc_audit.specs.Senders.{messages_in}
 use Rattle.rc_audit.proofs.MissingLemmas.{acks_next, missing_passed, missing_kept, missing_found}
 use Rattle.rc_audit.proofs.missing.first_missing.Goals as goal
 

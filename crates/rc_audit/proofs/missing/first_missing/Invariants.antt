@@ -1,7 +1,7 @@
 use Rattle.std.proofs.Common.{◌≡◌, drop}
 use Rattle.rc_model.specs.Model.{all_acknowledged, first_missing}
-use Rattle.rc_evidence.specs.Recoveries.{accepted_of}
-use Rattle.rc_evidence.specs.Senders.{messages_in}
+use Rattle.rc_audit.specs.Recoveries.{accepted_of}
+use Rattle.rc_audit.specs.Senders.{messages_in}
 use Rattle.rc_audit.proofs.missing.first_missing.Given as goal
 
 -- nothing is missing so far

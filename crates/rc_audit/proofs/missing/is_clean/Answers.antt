@@ -1,5 +1,5 @@
 use Rattle.std.proofs.Common.{◌∙◌, sym}
-use Rattle.rc_evidence.specs.Recoveries.{accepted_of}
+use Rattle.rc_audit.specs.Recoveries.{accepted_of}
 use Rattle.rc_audit.proofs.CleanLemmas.{clean_told, rows_same}
 use Rattle.rc_audit.proofs.missing.is_clean.Goals as goal
 

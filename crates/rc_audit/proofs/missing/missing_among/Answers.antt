@@ -1,6 +1,6 @@
-use Rattle.rc_evidence.specs.Recoveries.{accepted_of}
-use Rattle.rc_evidence.specs.Senders.{messages_in}
-use Rattle.rc_evidence.proofs.SenderLemmas.{superseded_told, missing_told}
+use Rattle.rc_audit.specs.Recoveries.{accepted_of}
+use Rattle.rc_audit.specs.Senders.{messages_in}
+use Rattle.rc_audit.proofs.SenderLemmas.{superseded_told, missing_told}
 use Rattle.rc_audit.proofs.missing.missing_among.Goals as goal
 
 pub first_missing-requires-clause-superseded : goal.first_missing-requires-clause-superseded

@@ -1,8 +1,8 @@
 use Rattle.std.proofs.Common.{◌∙◌, sym, arith}
 use Rattle.rc_model.specs.Recovered.{acknowledged}
-use Rattle.rc_evidence.specs.Recoveries.{accepted_of}
+use Rattle.rc_audit.specs.Recoveries.{accepted_of}
 use Rattle.rc_audit.proofs.MissingLemmas.{none_missing}
-use Rattle.rc_evidence.proofs.SenderLemmas.{missing_nothing}
+use Rattle.rc_audit.proofs.SenderLemmas.{missing_nothing}
 use Rattle.rc_audit.proofs.missing.missing_from.Goals as goal
 
 pub returns-then-is_kept : goal.returns-then-is_kept

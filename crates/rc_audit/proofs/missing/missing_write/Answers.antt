@@ -1,6 +1,6 @@
 use Rattle.std.proofs.Common.{◌+◌, ◌∙◌, sym, drop}
 use Rattle.rc_model.specs.Recovered.{accepted}
-use Rattle.rc_evidence.specs.Recoveries.{accepted_of}
+use Rattle.rc_audit.specs.Recoveries.{accepted_of}
 use Rattle.rc_audit.proofs.CleanLemmas.{clean_more, plans_from, plan_kept, none_from}
 use Rattle.rc_audit.proofs.missing.missing_write.Goals as goal
 

@@ -1,7 +1,7 @@
 use Rattle.std.proofs.Common.{◌≡◌, ◌++◌, Bool, List, is_some, OnOk, sym, ap, ◌∙◌, subst}
 use Rattle.std.specs.Prelude.{IfOk}
 use Rattle.rc_model.specs.Model.{ServerId, Entry, Message, Task, to_answer, after_answer}
-use Rattle.rc_lognotes.specs.Telling.{told_of}
+use Rattle.rc_notices.specs.Telling.{told_of}
 use Rattle.rc_ownership.specs.Owner.{Owner, replayed_of}
 use Rattle.rc_master.specs.View.{state_view}
 use Rattle.rc_master.proofs.Quiet.{on_ok-then}

@@ -1,0 +1,6 @@
+use Rattle.rc_audit.proofs.PlaceLemmas.{indexes_more}
+use Rattle.rc_audit.proofs.places.made_in.Goals as goal
+
+pub loop-message-preserved : goal.loop-message-preserved
+loop-message-preserved c = indexes_more _ _ _ _ _ c.loop-message-test.true c.message-item.is c.loop-message.invariant
+    c.in_ok-note_message.ensures

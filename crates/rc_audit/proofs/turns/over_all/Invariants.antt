@@ -1,0 +1,6 @@
+use Rattle.rc_audit.proofs.TurnLemmas.{TurnsSoFar}
+use Rattle.rc_audit.proofs.turns.over_all.Given as goal
+
+-- the turns so far
+abbrev pub invariant-loop-turn : goal.invariant-loop-turn
+invariant-loop-turn l = TurnsSoFar l.order l.highs l.turn-iterator l.noted l.bars

@@ -1,6 +1,0 @@
-use Rattle.std.proofs.Common.{length}
-use Rattle.rc_evidence.proofs.circles.Search.close.Given as goal
-
--- the terms that have no place yet
-abbrev pub decreases-loop-one : goal.decreases-loop-one
-decreases-loop-one l = length l.self.open.items

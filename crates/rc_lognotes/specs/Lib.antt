@@ -1,2 +1,0 @@
-pub mod Keeper
-pub mod Telling
