@@ -6,7 +6,7 @@ use Rattle.rc_types.specs.declared.faults.Fault.TheVariants.{BadEvent}
 use Rattle.rc_model.proofs.Replays.{step-impossible}
 use Rattle.rc_reading.specs.declared.scenarios.ScenarioEvent.{ScenarioEvent}
 use Rattle.rc_reading.specs.declared.scenarios.ScenarioEvent.TheVariants as scene
-use Rattle.rc_scenes.specs.Runs.{goes_on, run_from}
+use Rattle.rc_runs.specs.Runs.{goes_on, run_from}
 use Rattle.rc_world.specs.Happened.{Happened, replayed}
 use Rattle.rc_runs.specs.Steps.{RunsThrough, StopsAt}
 use Rattle.rc_draw.specs.Draw.{played, tried, tried_if_any}

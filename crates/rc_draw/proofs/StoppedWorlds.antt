@@ -9,7 +9,7 @@ use Rattle.rc_types.specs.declared.events.Event.TheVariants.{Stop, Tick}
 use Rattle.rc_model.specs.Model.{Event, World, is_possible, step}
 use Rattle.rc_reading.specs.declared.scenarios.ScenarioEvent.{ScenarioEvent}
 use Rattle.rc_reading.specs.declared.scenarios.ScenarioEvent.TheVariants.{Core}
-use Rattle.rc_scenes.specs.Runs.{goes_on, scenario_event, run_from}
+use Rattle.rc_runs.specs.Runs.{goes_on, scenario_event, run_from}
 use Rattle.rc_world.specs.Happened.{Happened, replayed, with_events, AllHappen}
 use Rattle.rc_world.specs.Stops.{newest_at, runs_at, stops_below}
 use Rattle.rc_world.proofs.Runs.{with_events-nil, with_events-append}

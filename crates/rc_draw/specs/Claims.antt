@@ -6,7 +6,7 @@ use Rattle.rc_types.specs.declared.ids.Addr.TheVariants.{Server}
 use Rattle.rc_types.specs.declared.limits.TheConstants.{MAX_EVENTS}
 use Rattle.rc_types.specs.declared.messages.Body.TheVariants.{Write}
 use Rattle.rc_model.specs.World.{opening}
-use Rattle.rc_scenes.specs.Runs.{run_from}
+use Rattle.rc_runs.specs.Runs.{run_from}
 use Rattle.rc_draw.specs.Draw.{drawing_setup, beginning, drawn}
 
 -- the beginning does not stop

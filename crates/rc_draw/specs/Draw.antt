@@ -18,7 +18,7 @@ use Rattle.rc_reading.specs.declared.scenarios.ScenarioEvent.{ScenarioEvent}
 use Rattle.rc_reading.specs.declared.scenarios.ScenarioEvent.TheVariants as scene
 use Rattle.rc_reading.specs.Hosts.{no_hosts}
 use Rattle.rc_reading.specs.Kinds.{no_kinds}
-use Rattle.rc_scenes.specs.Runs.{run_from}
+use Rattle.rc_runs.specs.Runs.{run_from}
 use Rattle.rc_draw.specs.declared.choosing.Choice.{Choice}
 use Rattle.rc_draw.specs.declared.choosing.Choice.TheVariants as choice
 use Rattle.rc_draw.specs.declared.words.Words.{Words}

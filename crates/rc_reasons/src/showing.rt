@@ -1,8 +1,8 @@
 //! How places, pieces of the text and names are shown.
 
+use crate::names::nearest;
 use crate::pieces::{Piece, line_and_column};
 use rc_pen::{Pen, Piece as Told};
-use rc_words::nearest;
 use std::alloc::Global;
 
 /// How many characters of a value are shown.

@@ -1,3 +1,8 @@
+pub mod LaneLemmas
+pub mod Waitings
+pub mod Deliveries
+pub mod RunLaws
+pub mod Spelling
 pub mod Steppings
 pub mod Passes
 pub mod Scenes

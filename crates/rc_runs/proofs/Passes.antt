@@ -7,8 +7,8 @@ use Rattle.rc_model.specs.Model.{Event, Deliver, Fault, MAX_EVENTS, Message, Wor
 use Rattle.rc_model.specs.Model.{Server, Outside}
 use Rattle.rc_types.specs.declared.faults.Fault.TheVariants.{OutOfMemory, BadEvent}
 use Rattle.rc_types.specs.declared.ids.Addr.TheVariants.{Coordinator}
-use Rattle.rc_scenes.specs.declared.passing.Passing.{Passing}
-use Rattle.rc_scenes.specs.Settling.{events_left, is_due, next_due, due_from, pass}
+use Rattle.rc_runs.specs.declared.passing.Passing.{Passing}
+use Rattle.rc_runs.specs.Settling.{events_left, is_due, next_due, due_from, pass}
 use Rattle.rc_world.specs.Happened.{Happened, replayed, with_events, can_happen}
 use Rattle.rc_runs.specs.Steps.{room_at}
 use Rattle.rc_runs.proofs.Steppings.{replayed_more, taken_then}

@@ -6,7 +6,7 @@ use Rattle.rc_model.specs.Model.{Event, Fault, World, step, is_possible}
 use Rattle.rc_types.specs.declared.faults.Fault.TheVariants.{OutOfMemory, BadEvent}
 use Rattle.rc_reading.specs.declared.scenarios.ScenarioEvent.{ScenarioEvent}
 use Rattle.rc_reading.specs.declared.scenarios.ScenarioEvent.TheVariants as scene
-use Rattle.rc_scenes.specs.Runs.{one_event, scenario_event, run_from}
+use Rattle.rc_runs.specs.Runs.{one_event, scenario_event, run_from}
 use Rattle.rc_world.specs.Happened.{Happened, replayed, with_events, can_happen}
 use Rattle.rc_runs.specs.Steps.{GoesOn, room_at, StopsIn}
 use Rattle.rc_runs.proofs.Steppings.{possible_of, replayed_more}

@@ -5,9 +5,9 @@ use Rattle.std.proofs.lemmas.Option.{slice_get_within}
 use Rattle.rc_model.specs.Model.{Event, MAX_EVENTS, Message, World, opening, step, is_possible}
 use Rattle.rc_types.specs.declared.events.Event.TheVariants as event
 use Rattle.rc_model.proofs.Replays.{replay_from-push, noted, sent_more-step}
-use Rattle.rc_scenes.specs.Delivered.{delivers}
-use Rattle.rc_scenes.specs.Letters.{Letters, Waits, HasNoted}
-use Rattle.rc_scenes.proofs.Deliveries.{waits_other}
+use Rattle.rc_runs.specs.Delivered.{delivers}
+use Rattle.rc_runs.specs.Letters.{Letters, Waits, HasNoted}
+use Rattle.rc_runs.proofs.Deliveries.{waits_other}
 use Rattle.rc_world.specs.Happened.{Happened, replayed, with_events, sent_in, can_happen}
 use Rattle.rc_runs.specs.RunHolds.{RunHolds}
 

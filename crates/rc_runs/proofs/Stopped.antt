@@ -3,9 +3,9 @@ use Rattle.std.proofs.Common.{◌≡◌, ℕ, zero, suc, Bool, true, false, if�
 use Rattle.rc_types.specs.declared.events.Event.{Event}
 use Rattle.rc_types.specs.declared.events.Event.TheVariants.{Stop}
 use Rattle.rc_model.specs.Nodes.{HostNode}
-use Rattle.rc_scenes.specs.Delivered.{delivers}
-use Rattle.rc_scenes.specs.Letters.{Letters}
-use Rattle.rc_scenes.proofs.Deliveries.{waits_other}
+use Rattle.rc_runs.specs.Delivered.{delivers}
+use Rattle.rc_runs.specs.Letters.{Letters}
+use Rattle.rc_runs.proofs.Deliveries.{waits_other}
 use Rattle.rc_world.specs.Happened.{Happened, replayed, with_events, AllHappen}
 use Rattle.rc_world.specs.Stops.{newest_at, runs_at, stops_below}
 use Rattle.rc_world.proofs.Runs.{with_events-nil, with_events-append}

@@ -2,7 +2,7 @@
 -- than a world takes.
 use Rattle.std.specs.Prelude.{◌≡◌, ◌≤◌, length}
 use Rattle.rc_types.specs.declared.limits.TheConstants.{MAX_EVENTS}
-use Rattle.rc_scenes.specs.Letters.{Letters, Waits}
+use Rattle.rc_runs.specs.Letters.{Letters, Waits}
 use Rattle.rc_world.specs.Happened.{Happened, replayed}
 
 pub record RunHolds (world : Happened) (mail : Letters) : Type 0 where

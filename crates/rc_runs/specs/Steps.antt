@@ -7,7 +7,7 @@ use Rattle.rc_types.specs.declared.limits.TheConstants.{MAX_EVENTS}
 use Rattle.rc_model.specs.World.{World}
 use Rattle.rc_world.specs.Happened.{Happened, replayed}
 use Rattle.rc_reading.specs.declared.scenarios.ScenarioEvent.{ScenarioEvent}
-use Rattle.rc_scenes.specs.Runs.{run_from}
+use Rattle.rc_runs.specs.Runs.{run_from}
 
 -- with room for its events, the step leads from one world to the other
 abbrev pub GoesOn : (ℕ → World → Result World World) → Happened → Happened → Type 0

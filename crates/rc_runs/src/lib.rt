@@ -1,6 +1,28 @@
-//! Scenarios as runs: each event of a scenario is an event of the world, or a pass over the messages.
+//! Scenarios: what one delivers, what its run is, and its run in a world, where each of its events is an event of the
+//! world or a pass over the messages.
+//!
+//! `Mail` has the messages that are still to be delivered, and tells which of them a pass delivers next: `passing`,
+//! what a pass leaves alone; `mail`, the calls, over `marks` and `lines`. A `Run` takes events in a world.
+//!
+//! What the run of a scenario is, and what is printed of it, are definitions: `specs/Runs.antt`, `specs/Printed.antt`.
+//! `laws` are laws on them. All other modules are worked scenarios, whose contracts say what is printed for these
+//! bytes; the definitions compute it, from the bytes to the report, and nothing of them runs.
 #![tactic(auto)]
 
+pub mod doubts;
+pub mod epochs;
+pub mod first;
+pub mod laws;
+mod lines;
+mod mail;
+mod marks;
+mod passing;
+pub mod recoveries;
+pub mod rolls;
 mod runs;
+pub mod worked;
+pub mod wrong;
 
+pub use mail::Mail;
+pub use passing::Passing;
 pub use runs::Run;

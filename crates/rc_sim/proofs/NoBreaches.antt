@@ -5,8 +5,8 @@ use Rattle.rc_model.specs.Model.{Code, MAX_EVENTS, breach}
 use Rattle.rc_types.specs.declared.faults.Code.TheVariants.{BadEvent, OutOfMemory}
 use Rattle.rc_owner_laws.proofs.VersionReplays.{there-is-no-breach}
 use Rattle.rc_reading.specs.declared.scenarios.Scenario.{Scenario}
-use Rattle.rc_scenes.specs.Runs.{run_within}
-use Rattle.rc_scenes.proofs.Runs.{scenario_is_run}
+use Rattle.rc_runs.specs.Runs.{run_within}
+use Rattle.rc_runs.proofs.RunLaws.{scenario_is_run}
 use Rattle.rc_world.specs.Happened.{Happened, sent_in}
 use Rattle.rc_sim.specs.declared.verdicts.Verdict.{Verdict}
 use Rattle.rc_sim.specs.declared.verdicts.Verdict.TheVariants.{Clean, Breach, Bad, Stopped, NoLine}

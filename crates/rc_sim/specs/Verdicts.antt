@@ -11,7 +11,7 @@ use Rattle.rc_model.specs.Report.{report, count_line}
 use Rattle.rc_reading.specs.declared.scenarios.Scenario.{Scenario}
 use Rattle.rc_reading.specs.Scenario.{reading}
 use Rattle.rc_report.specs.Ends.{stopped_line, error_line}
-use Rattle.rc_scenes.specs.Runs.{Ended, scenario_run, run_within}
+use Rattle.rc_runs.specs.Runs.{Ended, scenario_run, run_within}
 use Rattle.rc_traces.specs.Trace as trace
 use Rattle.rc_traces.specs.Written.{trace_text}
 use Rattle.rc_report.specs.declared.judging.Finding.{Finding}

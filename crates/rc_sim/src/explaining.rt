@@ -13,8 +13,8 @@ use crate::counted::Counted;
 use crate::outlets::write_all;
 use crate::simulating::write_answer;
 use crate::verdicts::{SimFault, Verdict};
+use rc_reasons::{explain, explain_json};
 use rc_types::Seq;
-use rc_words::{explain, explain_json};
 use std::alloc::{AllocError, Global};
 use std::io::Write;
 

@@ -15,10 +15,10 @@ use crate::outlets::write_all;
 use crate::simulating::write_answer;
 use crate::surveying::tell_seed;
 use crate::verdicts::{SimFault, Verdict};
+use rc_reasons::nearest;
 use rc_study::{Exploration, Options, saved_events};
 use rc_survey::Goal;
 use rc_types::{Event, EventKind, Kind, Message, Seq};
-use rc_words::nearest;
 use std::alloc::{AllocError, Global};
 use std::io::Write;
 

@@ -5,9 +5,8 @@ use crate::counted::Counted;
 use crate::outlets::write_all;
 use crate::playing::Kept;
 use crate::verdicts::{SimFault, Verdict};
-use rc_reasons::{Dialect, hint_of_twice, reason_of_fault, reason_of_stop};
+use rc_reasons::{Dialect, hint_of_twice, names_of_codes, reason_of_fault, reason_of_stop};
 use rc_types::{Code, Message};
-use rc_words::names_of_codes;
 use std::alloc::{AllocError, Global};
 use std::io::Write;
 

@@ -66,7 +66,7 @@ def check(program, words=(), builds=False, writes=False):
         if builds or writes:
             yield from built(rule, program, writes)
         yield from differences(rule, program)
-    known = RULE.findall((CRATES / "rc_words/src/rules.rt").read_text())
+    known = RULE.findall((CRATES / "rc_reasons/src/rules.rt").read_text())
     for rule in sorted(names((TOP / "wrong/code").glob("*.edit")) ^ {name for name, _, _ in known}):
         yield f"{rule}: one of wrong/code and `explain` does not know it"
     for rule in sorted(names(FOLDER.glob("*.json")) ^ {name for name, _, example in known if example}):

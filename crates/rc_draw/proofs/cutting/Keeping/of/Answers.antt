@@ -1,5 +1,5 @@
 use Rattle.std.proofs.Common.{◌%◌, nat_eq, ◌∙◌, rules, tests}
-use Rattle.rc_scenes.proofs.Waitings.{retained}
+use Rattle.rc_runs.proofs.Waitings.{retained}
 use Rattle.rc_draw.proofs.cutting.Keeping.of.Goals as goal
 
 pub returns-in-OddSegments : goal.returns-in-OddSegments

@@ -1,6 +1,6 @@
 use Rattle.std.proofs.Common.{sym, subst, ap, ◌∙◌}
-use Rattle.rc_scenes.specs.Letters.{Waits}
-use Rattle.rc_scenes.specs.Settling.{due_from}
+use Rattle.rc_runs.specs.Letters.{Waits}
+use Rattle.rc_runs.specs.Settling.{due_from}
 use Rattle.rc_world.specs.Happened.{replayed}
 use Rattle.rc_runs.proofs.runs.Run.next_due.Goals as goal
 

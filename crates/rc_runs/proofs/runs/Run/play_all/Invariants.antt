@@ -1,5 +1,5 @@
 use Rattle.std.proofs.Common.{◌≡◌, ◌≤◌, ℕ, length, drop}
-use Rattle.rc_scenes.specs.Runs.{run_from}
+use Rattle.rc_runs.specs.Runs.{run_from}
 use Rattle.rc_world.specs.Happened.{replayed}
 use Rattle.rc_runs.proofs.runs.Run.play_all.Given as goal
 

@@ -1,7 +1,7 @@
 use Rattle.std.proofs.Common.{◌≡◌, ◌∙◌, Some, Err, sym, ap, arith}
 use Rattle.std.proofs.lemmas.Result.{err_from_is_err_and}
 use Rattle.rc_types.specs.declared.events.Event.TheVariants.{Deliver}
-use Rattle.rc_scenes.specs.Settling.{due_from, events_left, pass}
+use Rattle.rc_runs.specs.Settling.{due_from, events_left, pass}
 use Rattle.rc_world.specs.Happened.{replayed}
 use Rattle.rc_runs.specs.Steps.{room_at}
 use Rattle.rc_runs.proofs.Passes.{longer, room_enough, turn_taken, turn_stops, turn_ends}

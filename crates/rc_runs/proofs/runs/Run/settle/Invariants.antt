@@ -1,5 +1,5 @@
 use Rattle.std.proofs.Common.{◌≡◌, ◌≤◌, ◌-◌, ℕ, length}
-use Rattle.rc_scenes.specs.Settling.{events_left, pass, settles}
+use Rattle.rc_runs.specs.Settling.{events_left, pass, settles}
 use Rattle.rc_world.specs.Happened.{replayed}
 use Rattle.rc_runs.proofs.runs.Run.settle.Given as goal
 
