@@ -15,8 +15,8 @@ use Rattle.rc_world.proofs.host.Host.TheSendSync as host
 use Rattle.rc_world.specs.contracts.node.NodeState as NodeState
 use Rattle.rc_journal.specs.declared.names.Naming as naming
 use Rattle.rc_journal.proofs.token.Token.TheSendSync as token
-use Rattle.rc_seats.proofs.offer.Offer.TheSendSync as offer
-use Rattle.rc_seats.specs.contracts.seat.Seat as Seat
+use Rattle.rc_wire.proofs.offer.Offer.TheSendSync as offer
+use Rattle.rc_wire.specs.contracts.seat.Seat as Seat
 
 tablets-send : IsSend (RangeTree.the_row Heap.the_row ghosts)
 tablets-send = search (knot.crosses, sendable, crosses) depth 60

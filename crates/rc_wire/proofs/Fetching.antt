@@ -3,13 +3,13 @@ use Rattle.std.proofs.Common.{◌≡◌, ℕ, zero, suc, Bool, true, false, ◌&
 use Rattle.std.proofs.Common.{refl, sym, ap, ◌∙◌, subst, arith}
 use Rattle.std.specs.List.{range_with_len}
 use Rattle.rc_model.specs.World.{TheOutside, TheCoordinator, TheHost}
-use Rattle.rc_seats.specs.declared.work.Work.TheVariants as work
-use Rattle.rc_seats.specs.SeatView.{SeatData, new_seat}
+use Rattle.rc_wire.specs.declared.work.Work.TheVariants as work
+use Rattle.rc_wire.specs.SeatView.{SeatData, new_seat}
 use Rattle.rc_wire.specs.declared.steps.Step.{Step}
 use Rattle.rc_wire.specs.declared.steps.Step.TheVariants.{Do, Settle}
 use Rattle.rc_wire.specs.Runs.{none_fetched}
 use Rattle.rc_wire.specs.Ends.{IsIdle}
-use Rattle.rc_seats.specs.Seats.{seat_named, new_seats}
+use Rattle.rc_wire.specs.Seats.{seat_named, new_seats}
 use Rattle.rc_wire.specs.Workload.{push, owner, starts, created, write_of, asks, workload}
 
 and-more : (a b : Bool) → a ≡ true → b ≡ true → (a && b) ≡ true

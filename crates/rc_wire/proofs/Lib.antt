@@ -1,3 +1,11 @@
+pub mod Staying
+pub mod Taking
+pub mod Offering
+pub mod Noting
+pub mod Preparing
+pub mod Committing
+pub mod NewSeats
+pub mod Replaying
 pub mod Found
 pub mod Turning
 pub mod Seating

@@ -3,8 +3,8 @@ use Rattle.std.proofs.Common.{◌≡◌, ℕ, zero, suc, ◌<◌, List, [], ◌�
 use Rattle.std.proofs.Common.{refl, sym, ap, ◌∙◌, subst, arith}
 use Rattle.std.specs.Prelude.{Bool, true, false, if◌then◌else◌, Result, Ok, Err, OnOk, option_to_list, slice_index_or}
 use Rattle.rc_model.specs.Model.{Setup, Fault}
-use Rattle.rc_seats.specs.declared.work.Work.{Work}
-use Rattle.rc_seats.specs.SeatView.{SeatData}
+use Rattle.rc_wire.specs.declared.work.Work.{Work}
+use Rattle.rc_wire.specs.SeatView.{SeatData}
 use Rattle.rc_wire.specs.declared.steps.Step.{Step}
 use Rattle.rc_wire.specs.Runs.{Runs, Grows, works_for}
 use Rattle.rc_wire.proofs.Turning.{grows-does, grows-same}

@@ -8,9 +8,9 @@ use Rattle.rc_types.specs.declared.faults.Fault.{Fault}
 use Rattle.rc_types.specs.declared.faults.Fault.TheVariants.{OutOfMemory, BadEvent}
 use Rattle.rc_types.specs.declared.limits.TheConstants.{MAX_EVENTS}
 use Rattle.rc_types.specs.Names.{number_of}
-use Rattle.rc_seats.specs.declared.work.Work.{Work}
-use Rattle.rc_seats.specs.SeatView.{SeatData}
-use Rattle.rc_seats.specs.Works.{can_do}
+use Rattle.rc_wire.specs.declared.work.Work.{Work}
+use Rattle.rc_wire.specs.SeatView.{SeatData}
+use Rattle.rc_wire.specs.Works.{can_do}
 use Rattle.rc_wire.specs.declared.steps.Step.{Step}
 use Rattle.rc_wire.specs.declared.steps.Step.TheVariants.{Do, Settle}
 use Rattle.rc_wire.specs.Runs.{Does, Runs, Grows, own_work, works_for}

@@ -9,10 +9,10 @@ use Rattle.rc_model.specs.World.{same_node, node_of}
 use Rattle.rc_history.specs.Events.{StartsWith}
 use Rattle.rc_types.specs.declared.ids.NodeName.{NodeName}
 use Rattle.rc_types.specs.Names.{number_of}
-use Rattle.rc_seats.specs.declared.work.Work.{Work}
-use Rattle.rc_seats.specs.declared.work.Work.TheVariants as work
-use Rattle.rc_seats.specs.SeatView.{SeatData, world_at, node_at}
-use Rattle.rc_seats.specs.Works.{event_for, was_delivered}
+use Rattle.rc_wire.specs.declared.work.Work.{Work}
+use Rattle.rc_wire.specs.declared.work.Work.TheVariants as work
+use Rattle.rc_wire.specs.SeatView.{SeatData, world_at, node_at}
+use Rattle.rc_wire.specs.Works.{event_for, was_delivered}
 use Rattle.rc_wire.specs.declared.steps.Step.{Step}
 use Rattle.rc_wire.specs.declared.steps.Step.TheVariants.{Do, Settle}
 

@@ -3,8 +3,8 @@ use Rattle.std.specs.Prelude.{◌≡◌, ℕ, List, All}
 use Rattle.rc_types.specs.declared.events.Setup.{Setup}
 use Rattle.rc_types.specs.declared.events.Event.{Event}
 use Rattle.rc_history.specs.Events.{events_of}
-use Rattle.rc_seats.specs.Seats.{new_seats}
-use Rattle.rc_seats.specs.SeatView.{SeatData}
+use Rattle.rc_wire.specs.Seats.{new_seats}
+use Rattle.rc_wire.specs.SeatView.{SeatData}
 use Rattle.rc_wire.specs.declared.steps.Step.{Step}
 use Rattle.rc_wire.specs.Runs.{works_in, works_for}
 

@@ -1,4 +1,19 @@
-//! Nodes on threads: each seat's turns on a thread of its own.
+//! Nodes on threads, and the wire that joins them. The wire is the journal of `rc_journal` behind one lock, and each
+//! node's thread comes to it with a seat.
+//!
+//! A seat is what one node has at hand: the state of its node, and by its token of the journal a beginning of the
+//! history, and which events of that are its node's own. It computes a step by itself, in `Seat::prepare`, without a
+//! lock, and waits for nobody. The step is then pending: what the node sends can be looked at, and the journal has
+//! nothing of it. `Seat::commit_into` adds it to the journal, as one event at the end of the history. Whatever else the
+//! history has come to by then, the step is one that is possible there, since no other event is the node's own.
+//!
+//! The wire's lock is held to look for a message, to copy one, and to add a step with its messages; so one commit is
+//! one event of the core, at the moment at which it is added, and the history is one that a single thread could have
+//! made. A lock's value is unknown each time that it is taken. What a seat knows of it none the less, that the history
+//! begins with what it saw before and has of its node's events its own, its token tells it.
+//!
+//! `Wire::close` ends it: the history is replayed, as one world of `rc_world`, in which each seat's events stand in
+//! order. So the headline holds of what the threads did, and of what they had done at each moment.
 //!
 //! What one seat does at the wire, turn by turn, knows of no thread and no channel: the next of its works, the next of
 //! the messages to its node, and what is left of both. What a run of turns has come to is said of the seat alone: what
@@ -9,31 +24,47 @@
 //! `run_nodes` hands each thread its seat, wakes it by hints when there is something to do or to look for, waits where
 //! the steps say so until all is quiet, and gives all seats back. A hint carries no fact: a seat that is told to look
 //! and finds nothing has lost nothing, and before it ends without a fault each seat does what is left of its works and
-//! looks until nothing is left to be delivered.
+//! looks until nothing is left to be delivered. No clause says who comes first, that a message is found before its seat
+//! looked, or that a call gets its turn.
 //!
-//! To be read in this order: `steps`, what nodes are given to do; `specs/Runs.antt`, what is said of a run of turns;
-//! `around`, what else happens at a commit; `turns`, the turns of one seat; `specs/Ends.antt`, what is promised of each
-//! seat; `gate`; `board`, what the threads and their caller share; `seats`, what one thread does; `nodes`, the call.
+//! To be read in this order. The seat, over `rc_world`, whose `NodeState` is the state of one node, and over
+//! `rc_journal`, which keeps the history: `work`, what a seat can be given; `specs/SeatView.antt`, a seat as a value;
+//! `specs/SeatHolds.antt`, what is true of each seat; `specs/Works.antt`, what a work is as an event; `seat` and
+//! `at_journal`, the calls, over `stepping` and `offer`. The wire: `wire`, the calls, with `begin` and `end`. The
+//! threads: `steps`, what nodes are given to do; `specs/Runs.antt`, what is said of a run of turns; `around`, what else
+//! happens at a commit; `turns`, the turns of one seat; `specs/Ends.antt`, what is promised of each seat; `gate`;
+//! `board`, what the threads and their caller share; `seats`, what one thread does; `nodes`, the call.
 //!
-//! Over it stands what the command `threads` has nodes do: all hosts are started, a table is made for one of them and
+//! Over them stands what the command `threads` has nodes do: all hosts are started, a table is made for one of them and
 //! written to, and that one is then suspected and decided about. `specs/Workload.antt` says what is done; `workload`
 //! has it as a list of steps; `world` is the call.
 #![tactic(auto)]
 
 mod around;
+mod at_journal;
+mod begin;
 mod board;
+mod end;
 mod gate;
 mod nodes;
+mod offer;
+mod seat;
 mod seats;
+mod stepping;
 mod steps;
 mod turns;
+mod wire;
+mod work;
 mod workload;
 mod world;
 
 pub use around::Around;
 pub use gate::Gate;
 pub use nodes::run_nodes;
-pub use rc_seats::{Journal, Naming, Opening, Seat, Wire, Work};
+pub use rc_journal::{Journal, Naming, Opening};
+pub use seat::Seat;
 pub use steps::Step;
 pub use turns::{deliver_next, deliver_rest, do_next, do_until};
+pub use wire::Wire;
+pub use work::Work;
 pub use world::world_of_threads;

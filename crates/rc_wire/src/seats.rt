@@ -2,17 +2,18 @@
 
 ghost use Rattle.std.specs.Prelude.{◌≡◌, ◌⊎◌, ◌≤◌, true, length, None, IfOk, IfErr, OnOk};
 ghost use Rattle.rc_types.specs.declared.faults.Fault.TheVariants.{OutOfMemory, BadEvent};
-ghost use Rattle.rc_seats.specs.SeatView.{SeatData};
+ghost use Rattle.rc_wire.specs.SeatView.{SeatData};
 ghost use Rattle.rc_wire.specs.Runs.{Progress, Runs, Grows, works_for, none_fetched};
 ghost use Rattle.rc_wire.specs.Ends.{Ends, CannotGoOn};
 
 use crate::around::Around;
 use crate::board::{Board, Hint, Stop};
 use crate::gate::Gate;
+use crate::seat::Seat;
 use crate::steps::Step;
 use crate::turns::{deliver_rest, do_until};
+use crate::wire::Wire;
 use rc_journal::Naming;
-use rc_seats::{Seat, Wire};
 use rc_types::{Fault, Message, NodeName};
 use std::alloc::{AllocError, Global};
 use std::sync::Wait;

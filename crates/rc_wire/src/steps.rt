@@ -3,7 +3,7 @@
 ghost use Rattle.std.specs.Prelude.{◌≡◌, IfOk};
 ghost use Rattle.rc_wire.specs.Runs.{own_work};
 
-use rc_seats::Work;
+use crate::work::Work;
 use rc_types::{NodeName, TryClone};
 use std::alloc::{AllocError, Global};
 

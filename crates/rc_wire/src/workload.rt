@@ -5,7 +5,7 @@ ghost use Rattle.rc_wire.specs.declared.steps.Step.TheVariants.{Do, Settle};
 ghost use Rattle.rc_wire.specs.Workload.{push, write_of, workload};
 
 use crate::steps::Step;
-use rc_seats::Work;
+use crate::work::Work;
 use rc_types::{Body, NodeName, Seq, ServerId, Shared};
 use std::alloc::{AllocError, Global};
 

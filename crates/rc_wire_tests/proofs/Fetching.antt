@@ -1,13 +1,13 @@
 -- A work that is no delivery of a message, at the end of a list of steps.
 use Rattle.std.proofs.Common.{◌≡◌, ◌∙◌, true, false, not, ◌&&◌, List, [], ◌∷◌, ◌++◌, All, ap, refl, ℕ}
 use Rattle.rc_types.specs.declared.ids.NodeName.{NodeName}
-use Rattle.rc_seats.specs.declared.work.Work.{Work}
-use Rattle.rc_seats.specs.SeatView.{SeatData}
+use Rattle.rc_wire.specs.declared.work.Work.{Work}
+use Rattle.rc_wire.specs.SeatView.{SeatData}
 use Rattle.rc_wire.specs.declared.steps.Step.{Step}
 use Rattle.rc_wire.specs.declared.steps.Step.TheVariants.{Do, Settle}
 use Rattle.rc_wire.specs.Runs.{is_fetched, none_fetched}
 use Rattle.rc_wire.specs.Ends.{IsIdle}
-use Rattle.rc_seats.specs.Seats.{new_seats}
+use Rattle.rc_wire.specs.Seats.{new_seats}
 use Rattle.rc_wire.proofs.Fetching.{opened-idle}
 
 same_last : (steps : List Step) (step : Step) → none_fetched (step ∷ []) ≡ true →

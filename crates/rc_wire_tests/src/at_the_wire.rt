@@ -2,8 +2,8 @@
 //! answers as if nothing had been refused.
 
 use rc_journal::Naming;
-use rc_seats::{Seat, Wire, Work};
 use rc_types::{Addr, Body, Fault, Message, Seq, ServerId, Shared};
+use rc_wire::{Seat, Wire, Work};
 use rc_world::World;
 use std::alloc::Global;
 use std::process::Abort;

@@ -1,4 +1,4 @@
-//! Tests of nodes on threads, of what no clause says: the ledger of `rc_journal`, calls at the wire of `rc_seats`, and
+//! Tests of nodes on threads, of what no clause says: the ledger of `rc_journal`, and calls at the wire and
 //! whole runs of `rc_wire`.
 #![tactic(auto)]
 

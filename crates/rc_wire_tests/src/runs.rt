@@ -8,9 +8,8 @@ ghost use Rattle.rc_wire.specs.Runs.{is_fetched, none_fetched};
 
 use rc_audit::audit;
 use rc_journal::{Naming, Opening};
-use rc_seats::{Seat, Wire, Work};
 use rc_types::{Addr, Body, Code, Fault, Message, NodeName, Seq, ServerId, Setup, Shared};
-use rc_wire::{Gate, Step, run_nodes};
+use rc_wire::{Gate, Seat, Step, Wire, Work, run_nodes};
 use rc_world::World;
 use std::alloc::{AllocError, Global};
 use std::marker::Brand;

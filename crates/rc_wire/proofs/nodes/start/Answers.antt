@@ -1,7 +1,7 @@
 use contract.Lifetimes.{Lfts}
 use denote.Param.Send.{IsSend, IsSync, param_send, sendable}
 use Rattle.std.proofs.Crossing.{crosses}
-use Rattle.rc_seats.proofs.wire.Wire.TheSendSync as wire
+use Rattle.rc_wire.proofs.wire.Wire.TheSendSync as wire
 use Rattle.rc_wire.proofs.steps.Step.TheSendSync as step
 use Rattle.rc_wire.proofs.board.Board.TheSendSync as board
 use Rattle.rc_wire.proofs.Crossing.{seat_send}

@@ -3,8 +3,8 @@ use Rattle.std.proofs.Common.{◌≡◌, true, false, length, sym, ap, ◌∙◌
 use Rattle.std.specs.Prelude.{Err}
 use Rattle.std.proofs.lemmas.Result.{err_from_is_err_and}
 use Rattle.rc_types.specs.declared.limits.TheConstants.{MAX_EVENTS}
-use Rattle.rc_seats.specs.Works.{was_delivered}
-use Rattle.rc_seats.specs.declared.work.Work.TheVariants.{Fetched}
+use Rattle.rc_wire.specs.Works.{was_delivered}
+use Rattle.rc_wire.specs.declared.work.Work.TheVariants.{Fetched}
 use Rattle.rc_wire.proofs.Turning.{progress-later, progress-lower, progress-had, progress-fetched, progress-all}
 use Rattle.rc_wire.proofs.Turning.{had-idle, idle-later, finds-of, misses-of, grows-later, grows-equal, grows-finds, grows-takes}
 use Rattle.rc_wire.proofs.Turning.{grows-through}

@@ -2,7 +2,7 @@ use Rattle.rc_types.specs.declared.faults.Fault.TheVariants.{OutOfMemory}
 use Rattle.std.proofs.Common.{◌≡◌, ℕ, Some, None, sym, ap, ◌∙◌, refl}
 use Rattle.std.specs.Prelude.{Err}
 use Rattle.std.proofs.lemmas.Result.{err_from_is_err_and}
-use Rattle.rc_seats.specs.SeatView.{SeatData}
+use Rattle.rc_wire.specs.SeatView.{SeatData}
 use Rattle.rc_wire.specs.Ends.{CannotGoOn}
 use Rattle.rc_types.specs.declared.ids.NodeName.{NodeName}
 use Rattle.rc_wire.specs.Runs.{Progress, own_work}

@@ -1,7 +1,7 @@
 use Rattle.std.proofs.Common.{◌≡◌, ℕ, subst, ap, ◌∙◌, arith}
 use Rattle.std.specs.Prelude.{Err}
 use Rattle.std.proofs.lemmas.Result.{err_from_is_err_and}
-use Rattle.rc_seats.specs.SeatView.{SeatData}
+use Rattle.rc_wire.specs.SeatView.{SeatData}
 use Rattle.rc_wire.specs.Ends.{CannotGoOn}
 use Rattle.rc_wire.proofs.Stuck.{bad-at}
 use Rattle.rc_wire.specs.Runs.{Progress}

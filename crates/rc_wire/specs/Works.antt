@@ -1,0 +1,72 @@
+-- What a work is as an event of a seat's node.
+use Rattle.std.specs.Prelude.{◌≡◌, ℕ, Bool, true, false, nat_eq, List, ◌++◌, Option, Some, None, option_map}
+use Rattle.std.specs.List.{list_any}
+use Rattle.rc_types.specs.declared.events.Setup.{Setup}
+use Rattle.rc_types.specs.declared.events.Event.{Event}
+use Rattle.rc_types.specs.declared.events.Event.TheVariants as event
+use Rattle.rc_types.specs.declared.messages.Message.{Message}
+use Rattle.rc_model.specs.World.{World, NodeName, step}
+use Rattle.rc_history.specs.Nodes.{Node}
+use Rattle.rc_history.specs.Events.{takes}
+use Rattle.rc_world.specs.NodeView.{own_addr, own_server}
+use Rattle.rc_wire.specs.declared.work.Work.{Work}
+use Rattle.rc_wire.specs.declared.work.Work.TheVariants as work
+use Rattle.rc_wire.specs.SeatView.{SeatData, Offered, world_at, node_at}
+
+-- A timer, a stop and a start are those of the node's own server; a message that is held goes by its number. Where none
+-- is held, Fetched is no event.
+abbrev pub event_for : Node → Option (ℕ × Message) → Work → Option Event
+event_for node held work.Fetched = option_map (λ h. event.Deliver h.0) held
+event_for node held (work.Ask to body) = Some (event.Ask to body)
+event_for node held work.Tick = Some (event.Tick (own_addr node))
+event_for node held work.Stop = Some (event.Stop (own_server node))
+event_for node held (work.Start kept) = Some (event.Start (own_server node).index kept)
+event_for node held (work.Suspect id) = Some (event.Suspect id)
+event_for node held (work.Decide id) = Some (event.Decide id)
+event_for node held (work.Create table owner) = Some (event.Create table owner)
+event_for node held (work.Split table at) = Some (event.Split table at)
+
+-- whether there is an event, it is possible, and it is this node's
+abbrev pub takes_if : NodeName → World → Option Event → Bool
+takes_if name world None = false
+takes_if name world (Some event) = takes name world event
+
+-- whether this is an event that the seat's node takes after what the seat has seen
+abbrev pub is_offered : Setup → SeatData → Option Event → Bool
+is_offered setup seat event = takes_if seat.name (world_at setup seat) event
+
+-- whether the seat's node can do this work
+abbrev pub can_do : Setup → SeatData → Work → Bool
+can_do setup seat given = is_offered setup seat (event_for (node_at setup seat) seat.held given)
+
+-- Fetched takes the message that is held
+abbrev pub held_after : Option (ℕ × Message) → Work → Option (ℕ × Message)
+held_after held work.Fetched = None
+held_after held _ = held
+
+-- in this world the event is possible and this node's, and these are the messages that are sent in it
+pub record IsOffer (world : World) (name : NodeName) (offered : Offered) : Type 0 where
+  pub takes : takes name world offered.event ≡ true
+  pub sends : (step world offered.event).sent ≡ world.sent ++ offered.messages
+
+-- a step on this event is pending, and this is held; else nothing has changed
+pub record Offers (setup : Setup) (old : SeatData) (said : Option Event) (held : Option (ℕ × Message)) (new : SeatData)
+    : Type 0 where
+  pub offered : Offered
+  pub event : said ≡ Some offered.event
+  pub step : IsOffer (world_at setup old) old.name offered
+  pub after : new ≡ record old { held = held; pending = Some offered }
+
+-- the work is pending, as the event that it is, with the messages that the node sends in it
+abbrev pub Prepares : Setup → SeatData → Work → SeatData → Type 0
+Prepares setup old given new =
+    Offers setup old (event_for (node_at setup old) old.held given) (held_after old.held given) new
+
+-- the event delivers the message of this number
+abbrev pub is_delivery_of : ℕ → Event → Bool
+is_delivery_of number (event.Deliver other) = nat_eq number other
+is_delivery_of number _ = false
+
+-- whether one of these events delivers it
+abbrev pub was_delivered : List Event → ℕ → Bool
+was_delivered events number = list_any (is_delivery_of number) events
