@@ -3,8 +3,8 @@
 use crate::beginning::begun;
 use crate::dice::Dice;
 use crate::disk::{Disk, Stage};
+use rc_keeping::SaveFault;
 use rc_process::{BackFault, MessageFault, Process};
-use rc_saves::SaveFault;
 use rc_types::{Fault, Message, NodeName, NodeWork, ServerId};
 use rc_world::{NodeState, StepFault};
 use std::alloc::Global;

@@ -20,8 +20,8 @@ use Rattle.rc_lives.specs.Lives.{keeps, node_after, stops, SameNode}
 use Rattle.rc_lives.proofs.Cutting.{name-next}
 use Rattle.rc_world.specs.NodeView.{NodeData, OutsideData, CoordinatorData, HostNodeData, node_seen}
 use Rattle.rc_codec.proofs.Lawful.{some_is}
-use Rattle.rc_saves.specs.Saved.{Saved, HostSave, CoordinatorSave, saved_of, node_from}
-use Rattle.rc_saves.proofs.Loaded.{loaded-is-same}
+use Rattle.rc_keeping.specs.Saved.{Saved, HostSave, CoordinatorSave, saved_of, node_from}
+use Rattle.rc_keeping.proofs.Loaded.{loaded-is-same}
 use Rattle.rc_files.specs.Standing.{works_at, AllWritten, node_next, node_given, FilesMakeAnew}
 use Rattle.rc_files.specs.Standing.{OneMoreIsWritten, FewerStandForFewer, StopsMakeEqual, SavesStandForAll}
 use Rattle.rc_history.specs.Remade.{stopped}

@@ -11,9 +11,9 @@ use Rattle.rc_keeping.specs.Claims.{AreReadFrom}
 use Rattle.rc_keeping.specs.Spelling.{record_of, journal_of}
 use Rattle.rc_keeping.proofs.RecordLaws.{record_law}
 use Rattle.rc_keeping.proofs.JournalLaws.{what-stands-before-is-read}
-use Rattle.rc_saves.specs.Claims.{IsLoaded}
-use Rattle.rc_saves.specs.Saved.{save_of, node_from, saved_of}
-use Rattle.rc_saves.proofs.SaveLaws.{saved-is-loaded}
+use Rattle.rc_keeping.specs.SaveClaims.{IsLoaded}
+use Rattle.rc_keeping.specs.Saved.{save_of, node_from, saved_of}
+use Rattle.rc_keeping.proofs.SaveLaws.{saved-is-loaded}
 use Rattle.rc_files.specs.Files.{CutsAreLeft, WhatIsLeftComesBack}
 
 free : IsPrefixFree record_of

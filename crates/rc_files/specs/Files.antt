@@ -6,8 +6,8 @@ use Rattle.rc_codec.specs.Claims.{BeginsWithNone}
 use Rattle.rc_world.specs.NodeView.{NodeData, node_seen}
 use Rattle.rc_keeping.specs.Claims.{AreReadFrom}
 use Rattle.rc_keeping.specs.Spelling.{record_of, journal_of}
-use Rattle.rc_saves.specs.Claims.{IsLoaded}
-use Rattle.rc_saves.specs.Saved.{Saved, save_of, node_from}
+use Rattle.rc_keeping.specs.SaveClaims.{IsLoaded}
+use Rattle.rc_keeping.specs.Saved.{Saved, save_of, node_from}
 
 abbrev pub file_of : Saved → List NodeWork → List ℕ
 file_of saved works = save_of saved ++ journal_of works

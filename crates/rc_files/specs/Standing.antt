@@ -7,7 +7,7 @@ use Rattle.rc_model.specs.World.{NodeName}
 use Rattle.rc_history.specs.Nodes.{Node, new_node}
 use Rattle.rc_world.specs.NodeView.{NodeData, node_seen, work_at, may_take, after_work}
 use Rattle.rc_lives.specs.Lives.{keeps, node_after, stops, SameNode}
-use Rattle.rc_saves.specs.Saved.{Saved, saved_of, node_from}
+use Rattle.rc_keeping.specs.Saved.{Saved, saved_of, node_from}
 
 -- what a node is given, as works of the definitions
 abbrev pub works_at : Node → List NodeWork → List Work

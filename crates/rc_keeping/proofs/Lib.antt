@@ -1,3 +1,10 @@
+pub mod InOrder
+pub mod Written
+pub mod HostLaws
+pub mod BookLaws
+pub mod CodedLaws
+pub mod SaveLaws
+pub mod Loaded
 pub mod PastKinds
 pub mod WorkLaws
 pub mod RecordLaws

@@ -1,3 +1,8 @@
+pub mod Saved
+pub mod Order
+pub mod SaveClaims
+pub mod SaveReaders
+pub mod ReadView
 pub mod Keeping
 pub mod Spelling
 pub mod Readers

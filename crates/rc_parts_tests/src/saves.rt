@@ -2,7 +2,7 @@
 
 use rc_backup::Backup;
 use rc_codec::DecodeFault;
-use rc_saves::{SaveFault, load, save_into};
+use rc_keeping::{SaveFault, load, save_into};
 use rc_types::{Addr, Body, Entry, Fault, Message, NodeWork, Seq, ServerId, Setup, Shared};
 use rc_world::{HostHead, NodeState};
 use std::alloc::{AllocError, Global};

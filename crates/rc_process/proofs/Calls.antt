@@ -29,7 +29,7 @@ use Rattle.rc_lives.proofs.Global.{Goes, Well, own, name-life}
 use Rattle.rc_lives.proofs.Telling.{journals-make}
 use Rattle.rc_model.proofs.Ids.{same_node-refl}
 use Rattle.rc_keeping.specs.Spelling.{journal_of}
-use Rattle.rc_saves.specs.Saved.{Saved, save_of}
+use Rattle.rc_keeping.specs.Saved.{Saved, save_of}
 use Rattle.rc_files.specs.Files.{file_of}
 use Rattle.rc_files.proofs.Anew.{saves-stand}
 use Rattle.rc_process.specs.declared.saving.Saving.{Saving}

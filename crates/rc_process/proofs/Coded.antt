@@ -13,8 +13,8 @@ use Rattle.rc_backup.specs.BackupView.{Holdings, backup_of}
 use Rattle.rc_model.specs.Backup.{open_names}
 use Rattle.rc_world.specs.NodeView.{NodeData, OutsideData, CoordinatorData, HostNodeData, node_seen, backup_in}
 use Rattle.rc_keeping.specs.Spelling.{sealed, record_of}
-use Rattle.rc_saves.specs.declared.faults.SaveFault.{SaveFault}
-use Rattle.rc_saves.specs.declared.faults.SaveFault.TheVariants.{OutOfMemory, Outside}
+use Rattle.rc_keeping.specs.declared.faults.SaveFault.{SaveFault}
+use Rattle.rc_keeping.specs.declared.faults.SaveFault.TheVariants.{OutOfMemory, Outside}
 use Rattle.rc_process.specs.View.{IsNoMessage, IsDeliveryOf, whole_start}
 
 -- a message that takes all of the bytes

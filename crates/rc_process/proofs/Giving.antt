@@ -22,7 +22,7 @@ use Rattle.rc_lives.specs.Lives as lives
 use Rattle.rc_lives.specs.Lives.{Life, keeps, is_masters, life_next, node_after, SameNode}
 use Rattle.rc_lives.specs.Processes.{Deed, Process, deed_of}
 use Rattle.rc_lives.proofs.Cutting.{name-next, started-next}
-use Rattle.rc_saves.specs.Saved.{Saved}
+use Rattle.rc_keeping.specs.Saved.{Saved}
 use Rattle.rc_files.specs.Files.{file_of}
 use Rattle.rc_files.specs.Standing.{StandsFor}
 use Rattle.rc_files.proofs.Anew.{one-more-is-written}

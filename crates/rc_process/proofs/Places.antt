@@ -14,7 +14,7 @@ use Rattle.rc_world.specs.NodeView.{after_work}
 use Rattle.rc_keeping.specs.Spelling.{record_of, journal_of}
 use Rattle.rc_keeping.proofs.JournalLaws.{journal-push}
 use Rattle.rc_lives.specs.Lives.{node_after}
-use Rattle.rc_saves.specs.Saved.{Saved, save_of}
+use Rattle.rc_keeping.specs.Saved.{Saved, save_of}
 use Rattle.rc_files.specs.Files.{file_of}
 use Rattle.rc_files.specs.Standing.{StandsFor, works_at}
 use Rattle.rc_files.proofs.Back.{journal-append}

@@ -21,7 +21,7 @@ use Rattle.rc_lives.specs.Processes.{Deed, deed_of, Process, Processes, Falls, M
 use Rattle.rc_lives.proofs.Own.{IsLived}
 use Rattle.rc_lives.proofs.Remaking.{stop-lived}
 use Rattle.rc_lives.proofs.Global.{Goes}
-use Rattle.rc_saves.specs.Saved.{Saved, node_from}
+use Rattle.rc_keeping.specs.Saved.{Saved, node_from}
 use Rattle.rc_files.specs.Files.{file_of, IsLeft, GivesBack}
 use Rattle.rc_files.specs.Standing.{StandsFor, node_given}
 use Rattle.rc_files.proofs.Anew.{files-make-anew, fewer-stand, stops-make-equal, same-itself, name-after, name-new}

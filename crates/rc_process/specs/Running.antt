@@ -12,8 +12,8 @@ use Rattle.rc_model.specs.Nodes.{Ask, outside_can, outside_sends}
 use Rattle.rc_model.specs.World.{NodeName, TheOutside, same_node, node_of}
 use Rattle.rc_history.specs.Nodes.{new_node}
 use Rattle.rc_world.specs.NodeView.{NodeData, node_seen, may_take}
-use Rattle.rc_saves.specs.Claims.{IsSaved}
-use Rattle.rc_saves.specs.Saved.{Saved}
+use Rattle.rc_keeping.specs.SaveClaims.{IsSaved}
+use Rattle.rc_keeping.specs.Saved.{Saved}
 use Rattle.rc_lives.specs.Processes.{Happening, new_processes, MayAll, after_all}
 use Rattle.rc_files.specs.Files.{file_of, IsLeft}
 use Rattle.rc_process.specs.declared.saving.Saving.{Saving}

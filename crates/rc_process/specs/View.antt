@@ -12,7 +12,7 @@ use Rattle.rc_history.specs.Nodes.{Node, TheHost, name_of}
 use Rattle.rc_world.specs.NodeView.{NodeData, node_seen, node_runs, work_at, after_work}
 use Rattle.rc_keeping.specs.Spelling.{record_of}
 use Rattle.rc_keeping.specs.Claims.{AreReadFrom}
-use Rattle.rc_saves.specs.Claims.{IsLoaded}
+use Rattle.rc_keeping.specs.SaveClaims.{IsLoaded}
 use Rattle.rc_lives.specs.Lives.{keeps, is_masters}
 use Rattle.rc_files.specs.Standing.{node_given}
 use Rattle.rc_process.specs.declared.saving.Saving.{Saving}

@@ -7,16 +7,15 @@ ghost use Rattle.rc_world.specs.declared.work.StepFault.TheVariants.{NoRoom, Ref
 ghost use Rattle.rc_history.specs.Nodes.{name_of};
 ghost use Rattle.rc_world.specs.NodeView.{work_at, node_seen, may_take, NodeHasRoom};
 ghost use Rattle.rc_lives.specs.Lives.{keeps, is_masters};
-ghost use Rattle.rc_saves.specs.Claims.{IsSaved};
-ghost use Rattle.rc_saves.specs.Saved.{saved_of};
-ghost use Rattle.rc_saves.specs.declared.faults.SaveFault.TheVariants.{OutOfMemory as NoMemory, Outside};
+ghost use Rattle.rc_keeping.specs.SaveClaims.{IsSaved};
+ghost use Rattle.rc_keeping.specs.Saved.{saved_of};
+ghost use Rattle.rc_keeping.specs.declared.faults.SaveFault.TheVariants.{OutOfMemory as NoMemory, Outside};
 ghost use Rattle.rc_process.specs.View.{process_seen, written_down, started_next, given};
 ghost use Rattle.rc_process.specs.View.{first_ready, Leaves, AllWait, begun, save_begun, moved};
 
 use crate::held::{Held, move_queue, moved, take_in_turn};
 use crate::saving::Saving;
-use rc_keeping::{keeps, write_down};
-use rc_saves::{SaveFault, save_into};
+use rc_keeping::{SaveFault, keeps, save_into, write_down};
 use rc_types::{Addr, Fault, Message, NodeWork};
 use rc_world::{NodeState, StepFault, is_for_backup};
 use std::alloc::{AllocError, Allocator, Global};

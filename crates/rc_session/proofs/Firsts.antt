@@ -1,7 +1,7 @@
 -- A session that begins, and one whose save is begun.
 use Rattle.std.proofs.Common.{◌≡◌, ◌∙◌, ℕ, ◌-◌, List, [], length, None, ap, refl, sym, subst, arith}
 use Rattle.rc_world.specs.NodeView.{NodeData, node_seen}
-use Rattle.rc_saves.specs.Claims.{IsSaved}
+use Rattle.rc_keeping.specs.SaveClaims.{IsSaved}
 use Rattle.rc_process.specs.View.{ProcessData, ProcessView, begun, save_begun}
 use Rattle.rc_session.specs.View.{SessionData}
 use Rattle.rc_session.specs.Claims.{IsFirst}

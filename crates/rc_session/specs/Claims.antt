@@ -10,7 +10,7 @@ use Rattle.rc_history.specs.Nodes.{Node}
 use Rattle.rc_codec.specs.Spelling.{coded_message}
 use Rattle.rc_keeping.specs.Spelling.{coded_work}
 use Rattle.rc_world.specs.NodeView.{NodeData, node_seen, may_take}
-use Rattle.rc_saves.specs.Claims.{IsSaved}
+use Rattle.rc_keeping.specs.SaveClaims.{IsSaved}
 use Rattle.rc_process.specs.View.{Leaves, begun}
 use Rattle.rc_session.specs.declared.leaving.Leaving.{Leaving}
 use Rattle.rc_session.specs.declared.leaving.Leaving.TheVariants as leaving

@@ -1,7 +1,7 @@
 //! A save of the node takes the journal's place.
 
 ghost use Rattle.std.specs.Prelude.{[], ◌≡◌, ◌↔◌, ◌<◌, ◌++◌, true, false, length, drop, IsTrue, Err, OnOk, OnErr};
-ghost use Rattle.rc_saves.specs.Claims.{IsSaved};
+ghost use Rattle.rc_keeping.specs.SaveClaims.{IsSaved};
 ghost use Rattle.rc_process.specs.View.{save_begun, moved};
 ghost use Rattle.rc_session.specs.View.{session_seen};
 ghost use Rattle.rc_session.specs.Claims.{MaySave, MayEndSave};
@@ -10,7 +10,7 @@ ghost use Rattle.rc_session.specs.declared.faults.SessionFault.TheVariants as wh
 use crate::faults::SessionFault;
 use crate::moving::moved;
 use crate::session::Session;
-use rc_saves::SaveFault;
+use rc_keeping::SaveFault;
 
 impl Session {
     /// Begins a save, which is to be the second file: `take_second` gives it. From now on what has to be added to the

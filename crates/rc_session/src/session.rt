@@ -8,7 +8,7 @@ ghost use Rattle.rc_model.specs.Nodes.{new_host, master_setup};
 ghost use Rattle.rc_types.specs.declared.limits.TheConstants.{MAX_FACTOR, MAX_SEGMENT};
 ghost use Rattle.rc_world.specs.HostView.{IsWithinLimits};
 ghost use Rattle.rc_world.specs.NodeView.{node_seen, may_take, NodeHasRoom};
-ghost use Rattle.rc_saves.specs.Claims.{BeginsWithNoSave};
+ghost use Rattle.rc_keeping.specs.SaveClaims.{BeginsWithNoSave};
 ghost use Rattle.rc_process.specs.View.{IsBack, process_seen};
 ghost use Rattle.rc_session.specs.View.{session_seen, takes};
 ghost use Rattle.rc_session.specs.Claims.{IsNoWork, TakesWork, CanNotTake, IsNoMessage, TakesMessage, IsFirst};

@@ -4,7 +4,7 @@ ghost use Rattle.std.specs.Prelude.{[], ◌≡◌, ◌≤◌, ◌-◌, ◌↔◌
 ghost use Rattle.rc_world.specs.NodeView.{node_seen, NodeHasRoom};
 ghost use Rattle.rc_session.specs.Claims.{IsNoWork, TakesWork, CanNotTake, IsNoMessage, TakesMessage};
 ghost use Rattle.rc_session.specs.Claims.{MaySave, MayEndSave};
-ghost use Rattle.rc_saves.specs.Claims.{IsSaved};
+ghost use Rattle.rc_keeping.specs.SaveClaims.{IsSaved};
 ghost use Rattle.rc_process.specs.View.{save_begun, moved};
 ghost use Rattle.rc_session.specs.View.{session_seen, started_anew, stopped};
 

@@ -4,7 +4,7 @@ ghost use Rattle.std.specs.Prelude.{[], ◌≡◌, ◌↔◌, true, false, None}
 ghost use Rattle.rc_model.specs.Coordinator.{new_coordinator};
 ghost use Rattle.rc_model.specs.Nodes.{new_host};
 ghost use Rattle.rc_history.specs.Nodes.{TheCoordinator, TheHost};
-ghost use Rattle.rc_saves.specs.Claims.{BeginsWithNoSave};
+ghost use Rattle.rc_keeping.specs.SaveClaims.{BeginsWithNoSave};
 ghost use Rattle.rc_process.specs.View.{IsBack, process_seen};
 ghost use Rattle.rc_session.specs.Claims.{IsFirst, AreWithin, setup_for};
 

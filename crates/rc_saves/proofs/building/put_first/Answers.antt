@@ -1,5 +1,0 @@
-use Rattle.rc_saves.proofs.InOrder.{not-first}
-use Rattle.rc_saves.proofs.building.put_first.Goals as goal
-
-pub returns-then-not-goes_first-clause-err : goal.returns-then-not-goes_first-clause-err
-returns-then-not-goes_first-clause-err g c = λ _ sorted. not-first g.K.Ord.cmp c.args.key c.args.map.now.entries (cc) sorted
