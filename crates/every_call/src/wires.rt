@@ -3,11 +3,10 @@
 ghost use Rattle.std.specs.Prelude.{◌≡◌, ◌≤◌, ◌+◌, [], All, IfOk};
 ghost use Rattle.rc_types.specs.declared.limits.TheConstants.{MAX_HOSTS};
 ghost use Rattle.rc_world.specs.HostView.{IsWithinLimits};
-ghost use Rattle.rc_journal.specs.Calls.{IsStep};
+ghost use Rattle.rc_wire.specs.JournalCalls.{IsStep};
 
-use rc_journal::Token;
 use rc_types::{Event, Fault, Message, NodeName, Seq, Setup};
-use rc_wire::{Gate, Journal, Naming, Opening, Seat, Step, Wire, Work, run_nodes};
+use rc_wire::{Gate, Journal, Naming, Opening, Seat, Step, Token, Wire, Work, run_nodes};
 use std::alloc::{AllocError, Global};
 use std::marker::Brand;
 use std::sync::Wait;

@@ -10,19 +10,19 @@ use Rattle.rc_history.specs.Claims.{NodeTakes}
 use Rattle.rc_history.proofs.Lists.{starts-append}
 use Rattle.rc_history.proofs.Longer.{events_of-own, longer-sent}
 use Rattle.rc_history.proofs.Steps.{node_takes}
-use Rattle.rc_journal.specs.declared.view.Place.{Place}
-use Rattle.rc_journal.specs.Views.{name_at}
-use Rattle.rc_journal.specs.Law.{Knows}
+use Rattle.rc_wire.specs.declared.view.Place.{Place}
+use Rattle.rc_wire.specs.Views.{name_at}
+use Rattle.rc_wire.specs.Law.{Knows}
 use Rattle.rc_types.specs.Names.{number_of}
-use Rattle.rc_journal.specs.Names.{WireName}
-use Rattle.rc_journal.specs.Calls as journal
-use Rattle.rc_journal.proofs.Named.{named}
+use Rattle.rc_wire.specs.Names.{WireName}
+use Rattle.rc_wire.specs.JournalCalls as journal
+use Rattle.rc_wire.proofs.Named.{named}
 use Rattle.rc_wire.specs.declared.offer.Offer.{Offer}
 use Rattle.rc_wire.specs.SeatView.{SeatData, Offered, offered_by, offered_events, world_at, node_at}
 use Rattle.rc_wire.specs.Steps.{IsStep, HasTaken}
 use Rattle.rc_wire.specs.SeatHolds.{SeatSound, seat_data}
 use Rattle.rc_wire.specs.Works.{IsOffer, was_delivered}
-use Rattle.rc_wire.specs.Calls.{Covers}
+use Rattle.rc_wire.specs.SeatCalls.{Covers}
 use Rattle.rc_wire.proofs.Staying.{sound-seen, held-stays}
 use Rattle.rc_wire.proofs.Offering.{seen_of, step-offered}
 

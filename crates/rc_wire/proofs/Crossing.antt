@@ -13,8 +13,8 @@ use Rattle.rc_coordinator.proofs.recoveries.Recoveries.TheSendSync as recoveries
 use Rattle.rc_coordinator.specs.contracts.coordinator.Coordinator as Coordinator
 use Rattle.rc_world.proofs.host.Host.TheSendSync as host
 use Rattle.rc_world.specs.contracts.node.NodeState as NodeState
-use Rattle.rc_journal.specs.declared.names.Naming as naming
-use Rattle.rc_journal.proofs.token.Token.TheSendSync as token
+use Rattle.rc_wire.specs.declared.names.Naming as naming
+use Rattle.rc_wire.proofs.token.Token.TheSendSync as token
 use Rattle.rc_wire.proofs.offer.Offer.TheSendSync as offer
 use Rattle.rc_wire.specs.contracts.seat.Seat as Seat
 

@@ -3,7 +3,7 @@ use Rattle.std.proofs.Common.{◌≡◌, ◌⊎◌, inl, inr, ℕ, zero, suc, �
 use Rattle.std.proofs.Common.{Some, None, slice_get, refl, sym, ap, ◌∙◌, arith}
 use Rattle.std.specs.List.{find}
 use Rattle.rc_model.specs.Model.{Message, NodeName, same_node, node_of}
-use Rattle.rc_journal.specs.Numbers.{numbers_from}
+use Rattle.rc_wire.specs.Numbers.{numbers_from}
 
 at-most : (from x : ℕ) → from ≤ x → nat_le from x ≡ true
 at-most from x le = grind (arith, le)

@@ -1,3 +1,12 @@
+pub mod Rows
+pub mod Named
+pub mod Rule
+pub mod LedgerSteps
+pub mod Numbers
+pub mod Indexes
+pub mod Rooms
+pub mod Least
+pub mod Numbered
 pub mod Staying
 pub mod Taking
 pub mod Offering

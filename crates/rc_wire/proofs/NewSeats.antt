@@ -1,10 +1,10 @@
 -- The seats of a new wire, one by one.
 use Rattle.std.proofs.Common.{◌≡◌, ℕ, zero, suc, ◌+◌, ◌-◌, ◌<◌, List, [], ◌∷◌, ◌++◌, map, refl, ap, arith}
 use Rattle.std.specs.List.{range_with_len}
-use Rattle.rc_journal.specs.declared.view.Place.{Place}
-use Rattle.rc_journal.specs.Views.{new_place}
+use Rattle.rc_wire.specs.declared.view.Place.{Place}
+use Rattle.rc_wire.specs.Views.{new_place}
 use Rattle.rc_types.specs.Names.{number_of}
-use Rattle.rc_journal.proofs.Steps.{numbered-push}
+use Rattle.rc_wire.proofs.Numbered.{numbered-push}
 use Rattle.rc_wire.specs.SeatView.{new_seat}
 use Rattle.rc_wire.specs.Seats.{seat_named, new_seats}
 

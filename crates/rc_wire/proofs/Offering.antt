@@ -5,7 +5,7 @@ use Rattle.rc_history.specs.Nodes.{Node, name_of, node_in}
 use Rattle.rc_history.specs.Events.{is_for}
 use Rattle.rc_history.specs.Claims.{NodeTakes}
 use Rattle.rc_history.proofs.Steps.{node_takes}
-use Rattle.rc_journal.proofs.Named.{same_node-same}
+use Rattle.rc_wire.proofs.Named.{same_node-same}
 use Rattle.rc_world.specs.NodeView.{work_at, may_take}
 use Rattle.rc_world.specs.NodeCalls.{WasSent}
 use Rattle.rc_world.proofs.NodeCalls.{given-job}

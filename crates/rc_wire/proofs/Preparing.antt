@@ -9,7 +9,7 @@ use Rattle.rc_model.proofs.Ids.{same_node-true}
 use Rattle.rc_history.specs.Nodes.{Node, TheOutside, TheCoordinator, TheHost, name_of}
 use Rattle.rc_history.specs.Events.{takes}
 use Rattle.rc_history.proofs.Names.{names-kept}
-use Rattle.rc_journal.specs.declared.view.Place.{Place}
+use Rattle.rc_wire.specs.declared.view.Place.{Place}
 use Rattle.rc_world.specs.NodeView.{may_take, NodeHasRoom}
 use Rattle.rc_world.specs.NodeCalls.{event_of, WasSent}
 use Rattle.rc_world.proofs.Rooms.{histories-leave-room}
@@ -21,7 +21,7 @@ use Rattle.rc_wire.specs.Steps.{IsStep, HasTaken, HoldsItsMessage}
 use Rattle.rc_wire.specs.SeatHolds.{SeatSound, seat_data}
 use Rattle.rc_wire.specs.Given.{is_delivery, own_number, Does}
 use Rattle.rc_wire.specs.Works.{IsOffer, Offers, was_delivered}
-use Rattle.rc_wire.specs.Calls.{IsSeat}
+use Rattle.rc_wire.specs.SeatCalls.{IsSeat}
 use Rattle.rc_wire.proofs.Taking.{takes-given}
 use Rattle.rc_wire.proofs.Offering.{seen_of, does-step, step-offered}
 use Rattle.rc_wire.proofs.Noting.{given-noted, message-noted}

@@ -9,8 +9,8 @@ use Rattle.rc_model.specs.Model.{Event, MAX_EVENTS, World, opening, replay_from,
 use Rattle.rc_model.proofs.Tests.{true_false}
 use Rattle.rc_history.specs.Events.{is_legal_from}
 use Rattle.rc_world.specs.Happened.{Happened, opened, with_events, can_happen}
-use Rattle.rc_journal.specs.Names.{WireName}
-use Rattle.rc_journal.specs.Sound.{IsHistory}
+use Rattle.rc_wire.specs.Names.{WireName}
+use Rattle.rc_wire.specs.Sound.{IsHistory}
 
 some-is : {X : Type 0} (a b : X) → Some a ≡ Some b → a ≡ b
 some-is a b e = cc

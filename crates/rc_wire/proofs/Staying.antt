@@ -9,7 +9,7 @@ use Rattle.rc_history.proofs.Longer.{node-stays, longer-sent}
 use Rattle.rc_wire.specs.SeatView.{SeatData, Offered, node_at, world_at}
 use Rattle.rc_wire.specs.Steps.{IsStep, HasTaken, HoldsItsMessage}
 use Rattle.rc_wire.specs.SeatHolds.{SeatSound}
-use Rattle.rc_wire.specs.Calls.{having_seen}
+use Rattle.rc_wire.specs.SeatCalls.{having_seen}
 
 delivered-stays : (longer shorter : List Message) (number : ℕ) (job : Job) (found : Option Message) → StartsWith longer shorter →
     slice_get shorter number ≡ found → delivery found ≡ Some job → delivery (slice_get longer number) ≡ Some job

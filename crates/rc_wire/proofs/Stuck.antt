@@ -8,11 +8,11 @@ use Rattle.rc_model.specs.Model.{Setup, Message, Fault, World, Take, NodeName, T
 use Rattle.rc_model.specs.World.{node_can, is_possible_job, delivery}
 use Rattle.rc_history.specs.Events.{is_for}
 use Rattle.rc_history.proofs.Longer.{longer-sent}
-use Rattle.rc_journal.specs.Numbers.{least_to}
+use Rattle.rc_wire.specs.Numbers.{least_to}
 use Rattle.rc_wire.specs.declared.work.Work.{Work}
 use Rattle.rc_wire.specs.declared.work.Work.TheVariants as work
 use Rattle.rc_wire.specs.SeatView.{SeatData, world_at, node_at}
-use Rattle.rc_wire.specs.Calls.{Finds}
+use Rattle.rc_wire.specs.SeatCalls.{Finds}
 use Rattle.rc_wire.specs.Works.{event_for, takes_if, can_do}
 use Rattle.rc_wire.specs.declared.steps.Step.{Step}
 use Rattle.rc_wire.specs.Runs.{Does, Runs, Grows, Progress, own_work, works_for}

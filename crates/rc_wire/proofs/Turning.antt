@@ -15,11 +15,11 @@ use Rattle.rc_history.proofs.Lists.{starts-same, starts-through}
 use Rattle.rc_history.proofs.Longer.{longer-sent}
 use Rattle.rc_types.specs.declared.ids.NodeName.{NodeName}
 use Rattle.rc_types.specs.Names.{number_of}
-use Rattle.rc_journal.specs.Numbers.{least_to}
+use Rattle.rc_wire.specs.Numbers.{least_to}
 use Rattle.rc_wire.specs.declared.work.Work.{Work}
 use Rattle.rc_wire.specs.declared.work.Work.TheVariants as work
 use Rattle.rc_wire.specs.SeatView.{SeatData, Offered, offered_events, world_at, node_at}
-use Rattle.rc_wire.specs.Calls.{Later, Finds, Misses, Fetches, Commits}
+use Rattle.rc_wire.specs.SeatCalls.{Later, Finds, Misses, Fetches, Commits}
 use Rattle.rc_wire.specs.Works.{event_for, Prepares, is_delivery_of, was_delivered}
 use Rattle.rc_wire.specs.declared.steps.Step.{Step}
 use Rattle.rc_wire.specs.declared.steps.Step.TheVariants.{Do, Settle}

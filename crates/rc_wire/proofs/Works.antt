@@ -5,7 +5,7 @@ use Rattle.rc_model.specs.Model.{Setup, Event}
 use Rattle.rc_history.specs.Events.{events_of}
 use Rattle.rc_types.specs.declared.ids.NodeName.{NodeName}
 use Rattle.rc_wire.specs.SeatView.{SeatData, new_seat}
-use Rattle.rc_wire.specs.Calls.{Covers}
+use Rattle.rc_wire.specs.SeatCalls.{Covers}
 use Rattle.rc_wire.specs.Seats.{seat_named, new_seats}
 use Rattle.rc_wire.specs.declared.steps.Step.{Step}
 use Rattle.rc_wire.specs.Runs.{Runs, works_in, works_for}

@@ -6,7 +6,7 @@ use Rattle.rc_types.specs.declared.events.Setup.{Setup}
 use Rattle.rc_types.specs.declared.messages.Message.{Message}
 use Rattle.rc_history.specs.Nodes.{Node}
 use Rattle.rc_history.specs.Events.{events_of}
-use Rattle.rc_journal.specs.declared.view.Place.{Place}
+use Rattle.rc_wire.specs.declared.view.Place.{Place}
 use Rattle.rc_types.specs.declared.ids.NodeName.{NodeName}
 use Rattle.rc_types.specs.Names.{number_of}
 use Rattle.rc_wire.specs.declared.offer.Offer.{Offer}

@@ -3,12 +3,13 @@
 ghost use Rattle.std.specs.Prelude.{◌≡◌, ◌⊎◌, true, is_some, length, IfOk, IfErr, OnOk, OnErr};
 ghost use Rattle.rc_types.specs.declared.faults.Fault.TheVariants.{OutOfMemory, BadEvent};
 ghost use Rattle.rc_types.specs.declared.limits.TheConstants.{MAX_EVENTS};
-ghost use Rattle.rc_wire.specs.Calls.{Covers, having_seen, Later, Fetches, Commits};
+ghost use Rattle.rc_wire.specs.SeatCalls.{Covers, having_seen, Later, Fetches, Commits};
 
+use crate::journal::Journal;
+use crate::names::Naming;
 use crate::offer::{Offer, keep, put};
 use crate::seat::Seat;
 use crate::stepping::copy_of;
-use rc_journal::{Journal, Naming};
 use rc_types::Fault;
 use std::alloc::AllocError;
 

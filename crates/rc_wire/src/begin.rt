@@ -2,11 +2,12 @@
 
 ghost use Rattle.std.specs.Prelude.{◌≡◌, ◌<◌, ◌≤◌, IfOk};
 ghost use Rattle.rc_world.specs.HostView.{IsWithinLimits};
-ghost use Rattle.rc_journal.specs.Calls.{new_places};
+ghost use Rattle.rc_wire.specs.JournalCalls.{new_places};
 ghost use Rattle.rc_wire.specs.Seats.{seat_named, new_seats};
 
+use crate::names::Naming;
 use crate::seat::Seat;
-use rc_journal::{Naming, Token};
+use crate::token::Token;
 use rc_types::{NodeName, Setup};
 use std::alloc::{AllocError, Global};
 

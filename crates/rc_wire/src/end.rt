@@ -2,11 +2,12 @@
 
 ghost use Rattle.std.specs.Prelude.{◌≡◌, All, IfOk};
 ghost use Rattle.rc_world.specs.HostView.{IsWithinLimits};
-ghost use Rattle.rc_journal.specs.Sound.{IsHistory};
-ghost use Rattle.rc_wire.specs.Calls.{Covers};
+ghost use Rattle.rc_wire.specs.Sound.{IsHistory};
+ghost use Rattle.rc_wire.specs.SeatCalls.{Covers};
 
+use crate::journal::Journal;
+use crate::names::Naming;
 use crate::seat::Seat;
-use rc_journal::{Journal, Naming};
 use rc_types::TryClone;
 use rc_world::{World, run};
 use std::alloc::{AllocError, Global};

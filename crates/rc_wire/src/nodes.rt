@@ -8,11 +8,11 @@ ghost use Rattle.rc_wire.specs.Ends.{IsIdle, RunAll, GrowAll, Ends, SomeCannotGo
 
 use crate::board::{Board, Hint, Stop};
 use crate::gate::Gate;
+use crate::names::Naming;
 use crate::seat::Seat;
 use crate::seats::run_seat;
 use crate::steps::Step;
 use crate::wire::Wire;
-use rc_journal::Naming;
 use rc_types::{Fault, NodeName};
 use std::alloc::{AllocError, Global};
 use std::snapshot::Snapshot;

@@ -5,7 +5,7 @@ ghost use Rattle.std.specs.Prelude.{is_some, option_map, IfErr, OnOk, OnErr};
 ghost use Rattle.std.specs.List.{list_any};
 ghost use Rattle.std.specs.HashSet.{spare};
 ghost use Rattle.rc_types.specs.declared.faults.Fault.TheVariants.{OutOfMemory, BadEvent, Pending};
-ghost use Rattle.rc_journal.specs.Views.{new_place};
+ghost use Rattle.rc_wire.specs.Views.{new_place};
 ghost use Rattle.rc_world.specs.HostView.{IsWithinLimits};
 ghost use Rattle.rc_world.specs.NodeCalls.{event_of};
 ghost use Rattle.rc_world.specs.NodeView.{node_seen};
@@ -14,13 +14,14 @@ ghost use Rattle.rc_wire.specs.SeatView.{new_seat, offered_events, node_at, worl
 ghost use Rattle.rc_wire.specs.Steps.{HasTaken};
 ghost use Rattle.rc_wire.specs.Works.{event_for, can_do, held_after, Offers, is_offered, Prepares, was_delivered};
 ghost use Rattle.rc_wire.specs.Given.{is_delivery};
-ghost use Rattle.rc_wire.specs.Calls.{IsSeat};
+ghost use Rattle.rc_wire.specs.SeatCalls.{IsSeat};
 ghost use Rattle.rc_wire.specs.declared.work.Work.TheVariants.{Fetched};
 
+use crate::names::Naming;
 use crate::offer::{Offer, let_go, put};
 use crate::stepping::{give, given_by, new_state, own_number, take};
+use crate::token::Token;
 use crate::work::Work;
-use rc_journal::{Naming, Token};
 use rc_types::{Fault, Message, NodeName, NodeWork, Setup};
 use rc_world::NodeState;
 use std::alloc::Global;

@@ -12,11 +12,11 @@ ghost use Rattle.rc_wire.specs.Runs.{Takes, Grows, Progress, Runs, works_for, no
 ghost use Rattle.rc_wire.specs.Ends.{CannotGoOn};
 
 use crate::around::Around;
+use crate::names::Naming;
 use crate::seat::Seat;
 use crate::steps::{Step, own_work};
 use crate::wire::Wire;
 use crate::work::Work;
-use rc_journal::Naming;
 use rc_types::Fault;
 use std::alloc::Global;
 use std::sync::Wait;

@@ -4,19 +4,21 @@ ghost use Rattle.std.specs.Prelude.{◌≡◌, ◌⊎◌, ◌+◌, ◌≤◌, tr
 ghost use Rattle.rc_types.specs.declared.faults.Fault.TheVariants.{OutOfMemory, BadEvent};
 ghost use Rattle.rc_types.specs.declared.limits.TheConstants.{MAX_EVENTS, MAX_HOSTS};
 ghost use Rattle.rc_history.specs.Events.{events_of};
-ghost use Rattle.rc_journal.specs.Views.{name_at};
+ghost use Rattle.rc_wire.specs.Views.{name_at};
 ghost use Rattle.rc_world.specs.HostView.{IsWithinLimits};
-ghost use Rattle.rc_journal.specs.Numbers.{least_to};
-ghost use Rattle.rc_journal.specs.Calls.{new_places};
-ghost use Rattle.rc_journal.specs.Sound.{IsHistory};
+ghost use Rattle.rc_wire.specs.Numbers.{least_to};
+ghost use Rattle.rc_wire.specs.JournalCalls.{new_places};
+ghost use Rattle.rc_wire.specs.Sound.{IsHistory};
 ghost use Rattle.rc_wire.specs.SeatView.{world_at};
-ghost use Rattle.rc_wire.specs.Calls.{Covers, Later, Fetches, Commits};
+ghost use Rattle.rc_wire.specs.SeatCalls.{Covers, Later, Fetches, Commits};
 ghost use Rattle.rc_wire.specs.Seats.{new_seats};
 
 use crate::begin::seats_of;
 use crate::end::{look_at_last, replayed};
+use crate::journal::Journal;
+use crate::names::Naming;
+use crate::opening::Opening;
 use crate::seat::Seat;
-use rc_journal::{Journal, Naming, Opening};
 use rc_types::Fault;
 use rc_world::World;
 use std::alloc::{AllocError, Global};

@@ -4,17 +4,18 @@ ghost use Rattle.std.specs.Prelude.{◌≡◌, ◌≤◌, ◌+◌, true, All, If
 ghost use Rattle.rc_types.specs.declared.limits.TheConstants.{MAX_HOSTS};
 ghost use Rattle.rc_world.specs.HostView.{IsWithinLimits};
 ghost use Rattle.rc_wire.specs.Runs.{none_fetched};
-ghost use Rattle.rc_wire.specs.Calls.{Covers};
+ghost use Rattle.rc_wire.specs.SeatCalls.{Covers};
 ghost use Rattle.rc_wire.specs.Worked.{AllHaveWorked};
 ghost use Rattle.rc_wire.specs.Workload.{threads_setup, workload};
 
 use crate::gate::Gate;
+use crate::names::Naming;
 use crate::nodes::run_nodes;
+use crate::opening::Opening;
 use crate::seat::Seat;
 use crate::steps::Step;
 use crate::wire::Wire;
 use crate::workload::steps;
-use rc_journal::{Naming, Opening};
 use rc_types::{Fault, NodeName, Seq, Setup};
 use rc_world::World;
 use std::alloc::{AllocError, Global};

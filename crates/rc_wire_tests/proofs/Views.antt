@@ -3,12 +3,12 @@ use Rattle.std.proofs.Common.{◌≡◌, Some, refl, sym, ap, ◌∙◌, subst}
 use Rattle.rc_types.specs.declared.events.Setup.{Setup}
 use Rattle.rc_types.specs.declared.events.Event.TheVariants.{Tick}
 use Rattle.rc_types.specs.declared.ids.Addr.TheVariants.{Coordinator}
-use Rattle.rc_journal.specs.declared.view.Desk.{Desk}
-use Rattle.rc_journal.specs.declared.view.Place.{Place}
-use Rattle.rc_journal.specs.declared.view.View.{View}
-use Rattle.rc_journal.specs.Views.{at_desk, at_place, new_desk, new_place, dealt}
-use Rattle.rc_journal.specs.Moves.{CanAdd}
-use Rattle.rc_journal.specs.Passes.{MayAdd}
+use Rattle.rc_wire.specs.declared.view.Desk.{Desk}
+use Rattle.rc_wire.specs.declared.view.Place.{Place}
+use Rattle.rc_wire.specs.declared.view.View.{View}
+use Rattle.rc_wire.specs.Views.{at_desk, at_place, new_desk, new_place, dealt}
+use Rattle.rc_wire.specs.Moves.{CanAdd}
+use Rattle.rc_wire.specs.Passes.{MayAdd}
 
 -- the keeper of two seats
 abbrev pub two_seats : Setup → Desk

@@ -1,9 +1,8 @@
 //! The calls of a wire, each made once more where memory is refused: then the seat is as it was, and the second
 //! answers as if nothing had been refused.
 
-use rc_journal::Naming;
 use rc_types::{Addr, Body, Fault, Message, Seq, ServerId, Shared};
-use rc_wire::{Seat, Wire, Work};
+use rc_wire::{Naming, Seat, Wire, Work};
 use rc_world::World;
 use std::alloc::Global;
 use std::process::Abort;

@@ -2,11 +2,11 @@
 //! event was added, and that another seat has seen it, is what the proof of the calls says.
 
 ghost use Rattle.std.specs.Prelude.{◌≡◌, IfOk};
-ghost use Rattle.rc_journal.specs.Views.{at_desk, new_desk};
-ghost use Rattle.rc_journal.specs.Passes.{view, IsPassOf};
+ghost use Rattle.rc_wire.specs.Views.{at_desk, new_desk};
+ghost use Rattle.rc_wire.specs.Passes.{view, IsPassOf};
 
-use rc_journal::{Ledger, Pass};
 use rc_types::{Addr, Event, Seq, Setup};
+use rc_wire::{Ledger, Pass};
 use std::alloc::AllocError;
 use std::test::Fail;
 

@@ -1,5 +1,4 @@
-//! Tests of nodes on threads, of what no clause says: the ledger of `rc_journal`, and calls at the wire and
-//! whole runs of `rc_wire`.
+//! Tests of nodes on threads, of what no clause says: the ledger, calls at the wire, and whole runs.
 #![tactic(auto)]
 
 #[cfg(test)]

@@ -7,9 +7,8 @@ ghost use Rattle.rc_world.specs.HostView.{IsWithinLimits};
 ghost use Rattle.rc_wire.specs.Runs.{is_fetched, none_fetched};
 
 use rc_audit::audit;
-use rc_journal::{Naming, Opening};
 use rc_types::{Addr, Body, Code, Fault, Message, NodeName, Seq, ServerId, Setup, Shared};
-use rc_wire::{Gate, Seat, Step, Wire, Work, run_nodes};
+use rc_wire::{Gate, Naming, Opening, Seat, Step, Wire, Work, run_nodes};
 use rc_world::World;
 use std::alloc::{AllocError, Global};
 use std::marker::Brand;

@@ -5,9 +5,8 @@ ghost use Rattle.rc_types.specs.declared.limits.TheConstants.{MAX_HOSTS};
 ghost use Rattle.rc_world.specs.HostView.{IsWithinLimits};
 
 use crate::at_the_wire::{Given, close, commit, fetch, is_write, prepare};
-use rc_journal::{Naming, Opening};
 use rc_types::{Body, Fault, Message, NodeName, Seq, ServerId, Setup};
-use rc_wire::{Seat, Wire, Work};
+use rc_wire::{Naming, Opening, Seat, Wire, Work};
 use rc_world::World;
 use std::alloc::{AllocError, Global};
 use std::marker::Brand;

@@ -2,7 +2,7 @@ use Rattle.std.proofs.Common.{◌≡◌, suc, ◌+◌, ◌-◌, ◌∷◌, ◌++
 use Rattle.std.proofs.Common.{arith}
 use Rattle.std.specs.List.{range_with_len}
 use Rattle.std.proofs.lemmas.List.FromFn.{length-map-range_with_len}
-use Rattle.rc_journal.specs.Views.{new_place}
+use Rattle.rc_wire.specs.Views.{new_place}
 use Rattle.rc_types.specs.Names.{number_of}
 use Rattle.rc_wire.specs.SeatView.{new_seat}
 use Rattle.rc_wire.specs.Seats.{new_seats}

@@ -1,7 +1,7 @@
 use Rattle.std.proofs.Common.{All, List, sym, ◌∙◌, subst}
 use Rattle.std.proofs.lemmas.List.Elements.{All-push}
 use Rattle.rc_types.specs.declared.events.Event.{Event}
-use Rattle.rc_wire.specs.Calls.{Covers}
+use Rattle.rc_wire.specs.SeatCalls.{Covers}
 use Rattle.rc_wire.proofs.end.look_at_last.Goals as goal
 
 pub loop-seat-preserved : goal.loop-seat-preserved

@@ -1,5 +1,5 @@
 use Rattle.std.proofs.Common.{◌≡◌, All, vec_len}
-use Rattle.rc_wire.specs.Calls.{Covers}
+use Rattle.rc_wire.specs.SeatCalls.{Covers}
 use Rattle.rc_wire.proofs.end.look_at_last.Given as goal
 
 -- those that are gone have looked

@@ -1,5 +1,5 @@
 use Rattle.std.proofs.Common.{sym, subst}
-use Rattle.rc_journal.specs.Names.{WireName}
+use Rattle.rc_wire.specs.Names.{WireName}
 use Rattle.rc_wire.specs.Worked.{AllHaveWorked}
 use Rattle.rc_wire.proofs.Fetching.{opened-idle}
 use Rattle.rc_wire.proofs.Works.{works-done}

@@ -2,7 +2,7 @@ use Rattle.std.proofs.Common.{false}
 use Rattle.rc_types.specs.declared.events.Setup.{Setup}
 use Rattle.rc_types.specs.declared.events.Event.TheVariants.{Tick}
 use Rattle.rc_types.specs.declared.ids.Addr.TheVariants.{Coordinator}
-use Rattle.rc_journal.specs.Views.{new_desk, new_place, dealt, with_event}
+use Rattle.rc_wire.specs.Views.{new_desk, new_place, dealt, with_event}
 use Rattle.rc_wire_tests.proofs.Views.{two_seats, ticks}
 use Rattle.rc_wire_tests.proofs.ledgers.a_seat_sees_what_another_added.Goals as goal
 

@@ -1,7 +1,7 @@
 use Rattle.std.proofs.Common.{◌≡◌, ◌≤◌, List, [], ◌∷◌, ◌++◌, length, Some, sym, ap, ◌∙◌, subst}
 use Rattle.rc_model.specs.Model.{MAX_EVENTS, Event}
 use Rattle.rc_world.specs.NodeView.{node_seen}
-use Rattle.rc_journal.specs.Calls.{IsStep}
+use Rattle.rc_wire.specs.JournalCalls.{IsStep}
 use Rattle.rc_wire.specs.declared.offer.Offer.{Offer}
 use Rattle.rc_wire.specs.SeatView.{SeatData, offered_by}
 use Rattle.rc_wire.proofs.Offering.{seen_of}

@@ -2,7 +2,7 @@ use Rattle.std.proofs.Common.{subst}
 use Rattle.rc_world.specs.NodeView.{node_seen}
 use Rattle.rc_wire.specs.SeatView.{SeatData}
 use Rattle.rc_wire.specs.SeatHolds.{seat_data}
-use Rattle.rc_wire.specs.Calls.{IsSeat}
+use Rattle.rc_wire.specs.SeatCalls.{IsSeat}
 use Rattle.rc_wire.proofs.Preparing.{sound-seat}
 use Rattle.rc_wire.proofs.seat.Seat.name.Goals as goal
 

@@ -1,9 +1,0 @@
-pub mod Rows
-pub mod Named
-pub mod Rule
-pub mod LedgerSteps
-pub mod Numbers
-pub mod Indexes
-pub mod Rooms
-pub mod Least
-pub mod Steps

@@ -1,5 +1,0 @@
-use Rattle.rc_journal.proofs.Rule.{kept-new}
-use Rattle.rc_journal.proofs.ledger.Ledger.new.Goals as goal
-
-pub of_words-requires : goal.of_words-requires
-of_words-requires c = kept-new c.args.setup.now
