@@ -1,14 +1,11 @@
 -- Messages without their entries are judged as the messages are, where no recovery was accepted.
-use Rattle.std.proofs.Common.{◌≡◌, ℕ, Bool, true, false, cond, List, [], ◌∷◌, ◌++◌, map, length, Option, Some, None, filter}
-use Rattle.std.proofs.Common.{Result, Ok, Err, codes, refl, sym, ap, subst, ◌∙◌}
+use Rattle.std.proofs.Common.{◌≡◌, ℕ, ◌+◌, List, [], ◌∷◌, map, length, Result, Ok, Err, refl, sym, ap, subst, ◌∙◌}
 use Rattle.rc_types.specs.declared.ids.Addr.{Addr}
 use Rattle.rc_types.specs.declared.messages.Message.{Message}
 use Rattle.rc_types.specs.declared.messages.Body.{Body}
 use Rattle.rc_types.specs.declared.messages.Body.TheVariants as body
-use Rattle.rc_types.specs.declared.verdicts.Breach.{Breach}
-use Rattle.rc_model.specs.Model.{Granted, grant_in, granted, Ack, ack_in, all_acknowledged, Accepted, plan_in, accepted, breach}
-use Rattle.rc_model.specs.Breach.{falls, first_fall, falls_of, or_else}
-use Rattle.rc_model.specs.Report.{count_line, audit_line}
+use Rattle.rc_model.specs.Model.{grant_in, granted, Ack, ack_in, all_acknowledged, plan_in, accepted, breach}
+use Rattle.rc_model.specs.Breach.{first_fall, falls_of}
 use Rattle.rc_traces.specs.Outline.{no_entries, without_entries, outlined}
 use Rattle.rc_report.specs.Ends.{judgement}
 use Rattle.rc_report.specs.Judged.{finding_in, finding_of, text_of}
@@ -98,6 +95,3 @@ judged_bare (Ok sent) items e none =
     let same : map without_entries sent ≡ items = cc in
     subst (λ xs. JudgedAlike xs (Ok sent)) same
     (of_bare sent (sym (accepted_bare sent) ∙ ap accepted same ∙ none))
-
-pub judged_whole : (read : Result (List Message) ℕ) (items : List Message) → read ≡ Ok items → JudgedAlike items read
-judged_whole read items e = record { finding = ap finding_of (sym e); text = ap text_of (sym e) }
