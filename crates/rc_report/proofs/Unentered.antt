@@ -1,14 +1,18 @@
 -- Messages without their entries are judged as the messages are, where no recovery was accepted.
-use Rattle.std.proofs.Common.{◌≡◌, ℕ, ◌+◌, List, [], ◌∷◌, map, length, Result, Ok, Err, refl, sym, ap, subst, ◌∙◌}
+use Rattle.std.proofs.Common.{◌≡◌, ℕ, suc, List, [], ◌∷◌, map, length, Option, Some, None, Result, Ok, Err, IfOk}
+use Rattle.std.proofs.Common.{refl, sym, ap, subst, ◌∙◌}
 use Rattle.rc_types.specs.declared.ids.Addr.{Addr}
 use Rattle.rc_types.specs.declared.messages.Message.{Message}
 use Rattle.rc_types.specs.declared.messages.Body.{Body}
 use Rattle.rc_types.specs.declared.messages.Body.TheVariants as body
-use Rattle.rc_model.specs.Model.{grant_in, granted, Ack, ack_in, all_acknowledged, plan_in, accepted, breach}
+use Rattle.std.specs.declared.alloc.AllocError.{AllocError}
+use Rattle.rc_model.specs.Model.{Breach, grant_in, granted, Ack, ack_in, all_acknowledged, plan_in, accepted, breach}
 use Rattle.rc_model.specs.Breach.{first_fall, falls_of}
 use Rattle.rc_traces.specs.Outline.{no_entries, without_entries, outlined}
 use Rattle.rc_report.specs.Ends.{judgement}
 use Rattle.rc_report.specs.Judged.{finding_in, finding_of, text_of}
+use Rattle.rc_report.specs.declared.judging.Judgement.{Judgement}
+use Rattle.rc_report.specs.declared.judging.Finding.TheVariants.{Bad}
 
 record SameParts (to : Addr) (one other : Body) : Type 0 where
   grant : grant_in to one ≡ grant_in to other
@@ -54,7 +58,7 @@ accepted_bare (message ∷ sent) = rw ((same_parts message.to message.body).plan
 
 length_bare : (sent : List Message) → length (map without_entries sent) ≡ length sent
 length_bare [] = refl
-length_bare (message ∷ sent) = ap (λ n. n + 1) (length_bare sent)
+length_bare (message ∷ sent) = ap suc (length_bare sent)
 
 -- whether versions fall is seen by the grants alone
 module _ (one other : List Message) (same : granted one ≡ granted other) where
@@ -95,3 +99,11 @@ judged_bare (Ok sent) items e none =
     let same : map without_entries sent ≡ items = cc in
     subst (λ xs. JudgedAlike xs (Ok sent)) same
     (of_bare sent (sym (accepted_bare sent) ∙ ap accepted same ∙ none))
+
+-- what was judged is no trace that is wrong
+pub never_bad : (result : Result Judgement AllocError) (found : Option Breach) (X : Type 0) →
+    IfOk result (λ judged. judged.finding ≡ finding_in found) →
+    IfOk result (λ judged. (place : ℕ) → judged.finding ≡ Bad place → X)
+never_bad (Ok judged) None X is = λ place bad. absurd (cc)
+never_bad (Ok judged) (Some breach) X is = λ place bad. absurd (cc)
+never_bad (Err e) found X is = tt

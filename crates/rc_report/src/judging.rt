@@ -4,6 +4,7 @@ ghost use Rattle.std.specs.Prelude.{◌≡◌, ℕ, Ok, Err, string_bytes, IfOk}
 ghost use Rattle.rc_reading.specs.declared.faults.ReadFault.TheVariants.{BadInput};
 ghost use Rattle.rc_model.specs.Breach.{breach};
 ghost use Rattle.rc_traces.specs.Trace.{reading};
+ghost use Rattle.rc_report.specs.declared.judging.Finding.TheVariants.{Bad};
 ghost use Rattle.rc_report.specs.Ends.{judgement, error_line};
 ghost use Rattle.rc_report.specs.Judged.{finding_of, finding_in, text_of};
 
@@ -48,6 +49,7 @@ pub struct Judgement {
 pub fn judge(alloc: Global, bytes: &mut Vec<u8>) -> Result<Judgement, AllocError>
     ensures finding { IfOk result (λ judged. judged.finding ≡ finding_of (reading bytes.old.items)) }
     ensures text { IfOk result (λ judged. string_bytes judged.text ≡ text_of (reading bytes.old.items)) }
+    ensures kept { IfOk result (λ judged. (place : ℕ) → judged.finding ≡ Bad place → bytes.new ≡ bytes.old) }
 {
     match messages_to_judge(alloc, bytes.as_slice()) {
         Ok(messages) => {
@@ -75,8 +77,8 @@ fn messages_to_judge(alloc: Global, bytes: &[u8]) -> Result<Vec<Message>, ReadFa
     read_trace(alloc, bytes)
 }
 
-/// Whether the name of a plan stands in these bytes, as it is mostly written: then a recovery is looked for in whole
-/// messages at once.
+/// Whether the name of a plan stands in these bytes, as it is mostly written. Then there may be a recovery, and the
+/// trace is read once, whole.
 fn names_a_plan(bytes: &[u8]) -> bool {
     bytes.windows(PLAN.len()).any(|part| part == PLAN)
 }

@@ -33,7 +33,7 @@ use crate::verdicts::{Output, SimFault, Verdict};
 use linked_list_allocator::LocalHeap;
 use rc_commands::{Asked, Drawing, asked_for};
 use rc_study::Options;
-use std::alloc::{Allocator, Global};
+use std::alloc::Global;
 use std::io::{Read, Write};
 use std::sync::Wait;
 use std::thread;

@@ -24,7 +24,7 @@ use std::io::{Read, Write};
 /// What is kept of a scenario or a trace, to tell more of it than its report does. Nothing is claimed of it.
 #[derive(Drop)]
 pub(crate) struct Kept {
-    /// The bytes that were read.
+    /// The bytes that were read; of a trace that is right no longer.
     pub(crate) bytes: Vec<u8>,
     /// How many messages were sent.
     pub(crate) sent: usize,

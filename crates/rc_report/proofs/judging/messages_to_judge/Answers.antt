@@ -1,7 +1,7 @@
 use Rattle.std.proofs.Common.{sym, ap, ◌∙◌, arith}
 use Rattle.rc_model.specs.Recovered.{accepted}
 use Rattle.rc_traces.specs.Trace.{reading}
-use Rattle.rc_report.proofs.Unentered.{JudgedAlike, judged_bare}
+use Rattle.rc_report.proofs.Unentered.{judged_bare}
 use Rattle.rc_report.proofs.judging.messages_to_judge.Goals as goal
 
 pub returns-then-not-has_recovery-clause-finding : goal.returns-then-not-has_recovery-clause-finding
