@@ -1,5 +1,5 @@
 -- What came of a command.
-use Rattle.std.proofs.Common.{◌≡◌, ◌≢◌, ℕ, List, Option, Some, None, Result, Ok, Err, IfOk, refl, subst}
+use Rattle.std.proofs.Common.{◌≡◌, ◌≢◌, ℕ, List, Option, Some, None, Result, Ok, Err, IfOk, refl, sym, subst}
 use Rattle.std.specs.Option.{IfSome}
 use Rattle.std.specs.Io.KnownBytes.{Keeps}
 use Rattle.rc_sim.specs.declared.verdicts.Verdict.{Verdict}
@@ -22,6 +22,16 @@ pub unread : (F : List ℕ → Verdict → List ℕ → Type 0) {T : Type 0} (re
 unread F reading Memory input known is none = keeps_same known
 unread F reading Read input known is none = keeps_same known
 unread F reading (Write count) input known is none = absurd (none count is)
+
+pub not_read : (F : List ℕ → Verdict → List ℕ → Type 0) {T : Type 0} (outcome : Result Verdict SimFault)
+    (reading : Result T SimFault) (fault : SimFault) (input known : Option (List ℕ)) → outcome ≡ Err fault →
+    reading ≡ Err fault → ((count : ℕ) → reading ≢ Err (Write count)) → Answered F outcome input known known
+not_read F outcome reading fault input known e is none =
+    subst (λ o. Answered F o input known known) (sym e) (unread F reading fault input known is none)
+
+pub no_memory : (F : List ℕ → Verdict → List ℕ → Type 0) (outcome : Result Verdict SimFault)
+    (input known : Option (List ℕ)) → outcome ≡ Err Memory → Answered F outcome input known known
+no_memory F outcome input known e = subst (λ o. Answered F o input known known) (sym e) (keeps_same known)
 
 -- what an answer says of each outcome
 

@@ -1,6 +1,8 @@
-use Rattle.std.proofs.Common.{string_bytes}
+use Rattle.std.proofs.Common.{Err, ap, ◌∙◌, string_bytes}
+use Rattle.std.proofs.lemmas.Result.{err_from_is_err_and}
 use Rattle.rc_reading.specs.Scenario.{reading}
 use Rattle.rc_sim.specs.Verdicts.{Healed}
+use Rattle.rc_sim.proofs.Closings.{not_read, no_memory}
 use Rattle.rc_sim.proofs.Endings.{answered_of, healed_so}
 use Rattle.rc_sim.proofs.NoBreaches.{no_breach_of, healed_is_none}
 use Rattle.rc_sim.proofs.healing.heal.Goals as goal
@@ -20,3 +22,16 @@ returns-clause-no_breach g c =
     let answer = c.in_ok-answer.answer in
     no_breach_of c.finish.result answer.verdict c.finish.ensures.verdict
     (healed_is_none (reading c.as_slice.result.now) answer.verdict (string_bytes answer.text) c.in_ok-answer.ensures.ok)
+
+pub returns-in_err-bytes-clause-answered : goal.returns-in_err-bytes-clause-answered
+returns-in_err-bytes-clause-answered g c =
+    let p = err_from_is_err_and c.from_residual-in_err-bytes.result c.from_residual-in_err-bytes.ensures.1 in
+    not_read Healed c.from_residual-in_err-bytes.result c.read_all.result c.in_err-bytes.field-0.0
+    (g.R.Read.remaining c.args.reader.now.inner) (g.W.Write.contents c.args.writer.now.inner) (p.1 ∙ ap Err p.2)
+    c.in_err-bytes.was c.read_all.ensures.fault
+
+pub returns-in_err-answer-clause-answered : goal.returns-in_err-answer-clause-answered
+returns-in_err-answer-clause-answered g c =
+    let p = err_from_is_err_and c.from_residual-in_err-answer.result c.from_residual-in_err-answer.ensures.1 in
+    no_memory Healed c.from_residual-in_err-answer.result (g.R.Read.remaining c.args.reader.now.inner)
+    (g.W.Write.contents c.args.writer.now.inner) (p.1 ∙ ap Err p.2)

@@ -1,5 +1,7 @@
-use Rattle.std.proofs.Common.{string_bytes}
+use Rattle.std.proofs.Common.{Err, ap, ◌∙◌, string_bytes}
+use Rattle.std.proofs.lemmas.Result.{err_from_is_err_and}
 use Rattle.rc_sim.specs.Histories.{Checked}
+use Rattle.rc_sim.proofs.Closings.{not_read, no_memory}
 use Rattle.rc_sim.proofs.Endings.{answered_of}
 use Rattle.rc_sim.proofs.histories.weigh_history.Goals as goal
 
@@ -12,3 +14,16 @@ returns-clause-answered g c =
     (g.W.Write.contents done.new.writer.inner) c.in_ok-bytes.ensures.ok c.as_slice.ensures.value
     (λ one other same h. h) c.in_ok-answer.ensures.ok
     done.ensures.verdict done.ensures.ok done.ensures.cut_short done.ensures.fault
+
+pub returns-in_err-bytes-clause-answered : goal.returns-in_err-bytes-clause-answered
+returns-in_err-bytes-clause-answered g c =
+    let p = err_from_is_err_and c.from_residual-in_err-bytes.result c.from_residual-in_err-bytes.ensures.1 in
+    not_read Checked c.from_residual-in_err-bytes.result c.read_all.result c.in_err-bytes.field-0.0
+    (g.R.Read.remaining c.args.reader.now.inner) (g.W.Write.contents c.args.writer.now.inner) (p.1 ∙ ap Err p.2)
+    c.in_err-bytes.was c.read_all.ensures.fault
+
+pub returns-in_err-answer-clause-answered : goal.returns-in_err-answer-clause-answered
+returns-in_err-answer-clause-answered g c =
+    let p = err_from_is_err_and c.from_residual-in_err-answer.result c.from_residual-in_err-answer.ensures.1 in
+    no_memory Checked c.from_residual-in_err-answer.result (g.R.Read.remaining c.args.reader.now.inner)
+    (g.W.Write.contents c.args.writer.now.inner) (p.1 ∙ ap Err p.2)
