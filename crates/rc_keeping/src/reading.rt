@@ -262,7 +262,7 @@ impl Model for Read {
 }
 
 /// What these bytes are, and no more.
-#[tactic(auto, unfolding(crate::specs::Readers::alone_at))]
+#[tactic(auto, unfolding(crate::specs::SaveReaders::alone_at))]
 pub(crate) fn take_alone(alloc: Global, code: &[u8]) -> Result<Read, DecodeFault>
     ensures { Gives (λ read. read) result (alone_at code.now) }
 {
