@@ -1,15 +1,15 @@
 use Rattle.rc_sim.proofs.Endings.{whole_answer, stopped_answer}
 use Rattle.rc_sim.proofs.answers.played.Goals as goal
 
-pub returns-in-Ok-clause-ok : goal.returns-in-Ok-clause-ok
-returns-in-Ok-clause-ok g c =
+pub returns-in-Ok : goal.returns-in-Ok
+returns-in-Ok g c =
     whole_answer c.args.output c.ended.result c.args.scenario c.as_slice.result.now c.new-run.result
     c.play_all.new.self c.world-world.result.now
     c.as_slice.ensures c.new-run.ensures c.world-world.ensures.world c.in-Ok.ensures.ok c.world-world.ensures.few
     c.ended.ensures.verdict c.ended.ensures.text
 
-pub returns-clause-ok : goal.returns-clause-ok
-returns-clause-ok g c =
+pub returns : goal.returns
+returns g c =
     stopped_answer c.args.output c.stopped.result c.args.scenario c.as_slice.result.now c.new-run.result
     c.play_all.new.self c.world.result.now
     c.in-Err.place c.in-Err.fault c.code.result c.as_slice.ensures c.new-run.ensures c.world.ensures.world

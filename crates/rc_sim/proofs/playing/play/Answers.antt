@@ -25,8 +25,8 @@ returns-clause-no_breach g c =
 
 pub returns-in_err-bytes-clause-answered : goal.returns-in_err-bytes-clause-answered
 returns-in_err-bytes-clause-answered g c =
-    let p = err_from_is_err_and c.from_residual-in_err-bytes.result c.from_residual-in_err-bytes.ensures.1 in
-    not_read (Played c.args.output) c.from_residual-in_err-bytes.result c.read_all.result c.in_err-bytes.field-0.0
+    let p = err_from_is_err_and c.from_residual.result c.from_residual.ensures.1 in
+    not_read (Played c.args.output) c.from_residual.result c.read_all.result c.in_err-bytes.field-0.0
     (g.R.Read.remaining c.args.reader.now.inner) (g.W.Write.contents c.args.writer.now.inner) (p.1 ∙ ap Err p.2)
     c.in_err-bytes.was c.read_all.ensures.fault
 
