@@ -3,11 +3,13 @@ use Rattle.rc_sim.specs.Verdicts.{Explored}
 use Rattle.rc_sim.proofs.exploring.explored_answer.Goals as goal
 
 pub returns-then-save : goal.returns-then-save
-returns-then-save c =
-    subst (λ save. IfOk c.saved.result (λ answer. Explored save answer.verdict (string_bytes answer.text)))
-    (sym c.if-save.true) c.saved.ensures.ok
+returns-then-save c = record {
+  ok = subst (λ save. IfOk c.saved.result (λ answer. Explored save answer.verdict (string_bytes answer.text)))
+      (sym c.if-save.true) c.saved.ensures.ok;
+}
 
 pub returns-else-save : goal.returns-else-save
-returns-else-save c =
-    subst (λ save. IfOk c.reported.result (λ answer. Explored save answer.verdict (string_bytes answer.text)))
-    (sym c.if-save.false) c.reported.ensures.ok
+returns-else-save c = record {
+  ok = subst (λ save. IfOk c.reported.result (λ answer. Explored save answer.verdict (string_bytes answer.text)))
+      (sym c.if-save.false) c.reported.ensures.ok;
+}
