@@ -46,13 +46,6 @@ turn_added order old mid new key span other stands one two = record {
     by true was now e is = e
     by false was now e is = e ∙ is
 
-pub none_added : (order : BTreeMap ℕ Span) (turns : BTreeSet Turn) (key : TermKey) → get nat_cmp order key.term ≡ None →
-    HasTurn order turns turns key
-none_added order turns key none = record {
-  kept = λ t e. e;
-  added = λ span stands. let never : ◌≡◌ {A = Option Span} None (Some span) = sym none ∙ stands in cc;
-}
-
 -- the turns of these entries are there, or they are still to come
 pub record TurnsAmong (order : BTreeMap ℕ Span) (highs : BTreeMap TermKey ℕ) (rest : List (TermKey × ℕ)) (turns : BTreeSet Turn) :
     Type 0 where

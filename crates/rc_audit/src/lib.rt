@@ -94,7 +94,8 @@ fn lost_or_invented(alloc: Global, messages: &[Message]) -> Result<Option<Breach
 
 /// Whether a recovery was accepted. Where none was, only a falling version can be a breach.
 pub fn has_recovery(messages: &[Message]) -> bool
-    ensures { result ≡ false → accepted messages.now ≡ [] }
+    ensures none { result ≡ false → accepted messages.now ≡ [] }
+    ensures some { accepted messages.now ≡ [] → result ≡ false }
 {
     for message in messages {
         if recovery_in(&message.body).is_some() {

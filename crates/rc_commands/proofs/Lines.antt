@@ -76,9 +76,6 @@ pub listed : (c : Command) → is_command (name_of c) ≡ true
 listed c = (met c).is_listed
 
 module _ (c : Command) (words : List Text) where
-  abbrev ended_walk : Walk
-  ended_walk = record (walk_from nothing_held) { stopped = Some (name_of c, []) }
-
   abbrev entered_at : Option Shape → Kinds
   entered_at found = or_else (option_map_or (λ s. level_fault s [] nothing_held words false []) found [])
       (check_fault top (finished top.rules nothing_held) (is_some (option_map (λ s. rows_at s words) found)))

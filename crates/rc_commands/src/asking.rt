@@ -86,15 +86,15 @@ pub enum Asked {
         progress: bool,
         json: bool,
     },
-    /// Run events that are drawn so from each seed up to the last, and sum up what was reached.
+    /// Run events that are drawn so from each seed, the drawing's up to the last, and sum up what was reached.
     Survey {
         drawing: Drawing,
         last: u64,
         progress: bool,
         json: bool,
     },
-    /// Look among the seeds up to the last for the first whose run reaches what is named so: a rule, or a kind of
-    /// event or of message; print how, or the events up to there, where `save` says so.
+    /// Look among the seeds, the drawing's up to the last, for the first whose run reaches what is named so: a rule,
+    /// or a kind of event or of message; print how, or the events up to there, where `save` says so.
     Until {
         goal: Seq<u8>,
         drawing: Drawing,

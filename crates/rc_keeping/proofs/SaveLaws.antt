@@ -102,9 +102,6 @@ is-loaded bytes code rest node front of =
       front = (omega (arith, long), (rest, whole));
     }
 
-pub rest-is-shorter : (bytes code rest : List ℕ) → bytes ≡ sealed code ++ rest → length rest ≤ length bytes
-rest-is-shorter bytes code rest front = omega (arith, ap length front ∙ length-append (sealed code) rest)
-
 pub none-sealed : (bytes : List ℕ) → BeginsWithNone sealed bytes → BeginsWithNoSave bytes
 none-sealed bytes none saved rest sound e = none (coded saved) rest e
 

@@ -231,14 +231,6 @@ possible-writes log e = by (is_writing log.phase) refl
         ap (λ b. cond (not b) (Some Rolling)
         (cond (not (is_full log)) None (cond (nat_lt log.head LAST_SEGMENT) (Some Rolling) (Some LogFull)))) is in cc
 
--- the durable entries, by the notes
-pub durable-same : {replayed : List Bool} {handed : Option ℕ} {parts : List PartState} {tasks : List Task} (log : Log)
-    (notes : List Entry) (durable : ℕ) →
-    AreNotes log notes replayed handed durable parts tasks →
-    take durable notes ≡ take log.durable (entries_of log)
-durable-same log notes durable are =
-    ap (λ (n : ℕ). take n notes) are.durable_are ∙ ap (take log.durable) are.entries
-
 -- what was replayed, by the marks of its places
 marked-places : (count : ℕ) (places : List LogPlace) →
     marked_of (take count (map (λ place. not place.client) places)) (take count (map (λ place. place.entry) places))

@@ -1,4 +1,4 @@
--- Lists of JSON, an item at a time: what is added to what there is.
+-- Lists and objects of JSON, an item or a member at a time: what is added to what there is.
 use Rattle.std.specs.Prelude.{◌≡◌, ℕ, ◌+◌, nat_lt, if◌then◌else◌, List, [], ◌∷◌, ◌++◌, length, Option}
 use Rattle.std.specs.Prelude.{Some, None, option_map, option_and_then, Result, Ok, Err}
 use Rattle.serde_json.specs.Data.{Data, Members, object, put}
@@ -24,6 +24,7 @@ placed (Err place) one = Err place
 placed (Ok all) None = Err (2 + length all)
 placed (Ok all) (Some one) = Ok (all ++ one ∷ [])
 
+-- the same, of what a value says; it never ends in nothing
 abbrev pub takes_placed : {A : Type 0} → (Data → Option A) → Result (List A) ℕ → Data → Option (Result (List A) ℕ)
 takes_placed said all d = Some (placed all (said d))
 

@@ -2,14 +2,13 @@
 
 ghost use Rattle.std.specs.Prelude.{◌≡◌, ◌<◌, ℕ, length, Some, None, Err, IfOk, OnOk, OnErr, option_map};
 ghost use Rattle.rc_reading.specs.declared.faults.ReadFault.TheVariants.{BadInput};
-ghost use Rattle.serde_json.specs.Data.{object, no_members};
 ghost use Rattle.rc_types.specs.declared.events.Event.TheVariants.{Start, Deliver, Create, Split};
 ghost use Rattle.rc_reading.specs.declared.scenarios.ScenarioEvent.TheVariants.{Settle};
 ghost use Rattle.rc_reading.specs.Values.{written, table_of, message_of, given2, given3, given4};
 ghost use Rattle.rc_reading.specs.Scenario.{event_of, asks_write, asks_read};
 ghost use Rattle.rc_reading.specs.Fields.{member_named, narrowed, all_events, noted, fields_of, event_in, allowed};
 ghost use Rattle.rc_reading.specs.Fields.{server_in, needed, needed_core, no_event};
-ghost use Rattle.rc_reading.specs.Ahead.{data_at, members_at, says, told};
+ghost use Rattle.rc_reading.specs.Ahead.{data_at, says};
 
 use crate::faults::ReadFault;
 use crate::hosts::Hosts;

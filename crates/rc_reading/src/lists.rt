@@ -1,4 +1,5 @@
-//! Lists of JSON, read an item at a time. A list is read whole, or the reading fails where none stands.
+//! Lists of JSON, read an item at a time. A value that is no list is passed, and answered with nothing; where no value
+//! stands the reading fails.
 
 ghost use Rattle.std.specs.Prelude.{◌≡◌, ◌<◌, ℕ, length, Option, Some, None, Err, IfOk, OnOk, option_map};
 ghost use Rattle.std.specs.Prelude.{option_and_then};
@@ -26,7 +27,7 @@ pub trait Said<T> {
         ensures bad { (place : ℕ) → result ≡ Err (BadInput place) → (place ≡ 0) × (data_at depth reader.old ≡ None) };
 }
 
-/// What the items of a list are taken into, as `R` reads them.
+/// What the items of a list are taken into. `R` is what reads them, or tells apart what one type may take.
 pub trait Items<R> {
     /// What it is after one more item; nothing, where that item may not be there.
     ghost takes: { Self → Data → Option Self };
@@ -62,7 +63,8 @@ fn read_items<R, S: Items<R> + Drop>(
     Ok(so_far)
 }
 
-/// What the items of the list that comes next make of this; nothing, where the value is no list.
+/// What the items of the list that comes next make of this; nothing, where the value is no list, or an item may not be
+/// there.
 pub fn read_list<R, S: Items<R> + Drop>(
     start: S,
     alloc: Global,

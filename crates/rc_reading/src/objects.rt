@@ -1,4 +1,5 @@
-//! Objects of JSON, read a member at a time. An object is read whole, or the reading fails where none stands.
+//! Objects of JSON, read a member at a time. A value that is no object is passed, and answered with nothing; where no
+//! value stands the reading fails.
 
 ghost use Rattle.std.specs.Prelude.{◌≡◌, ◌<◌, ℕ, List, length, Some, None, Err, IfOk, OnOk};
 ghost use Rattle.serde_json.specs.Data.{Data, object, no_members};

@@ -1,20 +1,16 @@
 //! Values of JSON where a number, an id, a name or a list is wanted. Each function takes one value whole,
 //! and answers what it says, if it says such a thing; or fails where none stands.
 
-ghost use Rattle.std.specs.Prelude.{◌≡◌, ◌<◌, ◌≤◌, [], length, Some, None, IfOk, OnOk, OnErr, IfSome, option_map};
+ghost use Rattle.std.specs.Prelude.{◌≡◌, ◌<◌, ◌≤◌, length, Some, None, IfOk, OnOk, OnErr, IfSome};
 ghost use Rattle.std.specs.Prelude.{option_and_then};
 ghost use Rattle.rc_types.specs.declared.limits.TheConstants.{MAX_HOSTS, MAX_FACTOR, LAST_SEGMENT};
 ghost use Rattle.serde_json.specs.Find.{as_bool, as_str};
 ghost use Rattle.rc_reading.specs.declared.limits.TheConstants.{LAST_GENERATION};
-ghost use Rattle.rc_reading.specs.Values.{whole, host_of, id_in, id_of, addr_of, name_in, list_of, listed, kept_of};
-ghost use Rattle.rc_reading.specs.Values.{take_name, kinds_of, take_kind, hosts_of, take_host, factors_of};
-ghost use Rattle.rc_reading.specs.Values.{take_factor, factor_of, event_name};
+ghost use Rattle.rc_reading.specs.Values.{whole, host_of, id_in, id_of, addr_of, listed};
+ghost use Rattle.rc_reading.specs.Values.{factor_of, event_name};
 ghost use Rattle.rc_types.specs.Kinds.{kind_named};
-ghost use Rattle.rc_reading.specs.Kinds.{no_kinds};
-ghost use Rattle.rc_reading.specs.Hosts.{no_hosts};
-ghost use Rattle.rc_reading.specs.Pairs.{replica_name, both_in, server_id, id_item, name_item, generation_of};
-ghost use Rattle.rc_reading.specs.Pairs.{kept_segment_of};
-ghost use Rattle.rc_reading.specs.Ahead.{data_at, items_at, says, told, folds};
+ghost use Rattle.rc_reading.specs.Pairs.{both_in, server_id, id_item, name_item};
+ghost use Rattle.rc_reading.specs.Ahead.{data_at, items_at, says, told};
 
 use crate::hosts::Hosts;
 use crate::kinds::Kinds;

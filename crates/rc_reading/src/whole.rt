@@ -1,13 +1,11 @@
 //! What the members of a scenario say, a member at a time, and an event at a time.
 
-ghost use Rattle.std.specs.Prelude.{◌≡◌, ◌<◌, ℕ, [], length, Some, None, Ok, Err, IfOk, OnOk, OnErr};
+ghost use Rattle.std.specs.Prelude.{◌≡◌, ◌<◌, ℕ, length, Some, None, Ok, Err, IfOk, OnOk, OnErr};
 ghost use Rattle.rc_reading.specs.declared.faults.ReadFault.TheVariants.{BadInput};
-ghost use Rattle.serde_json.specs.Data.{object, no_members};
-ghost use Rattle.rc_reading.specs.Values.{listed, whole};
-ghost use Rattle.rc_reading.specs.Scenario.{events_of, scenario_of, segment_of};
+ghost use Rattle.rc_reading.specs.Scenario.{scenario_of, segment_of};
 ghost use Rattle.rc_reading.specs.Whole.{top_named, top_noted, top_of, first_in};
 ghost use Rattle.rc_reading.specs.Whole.{scenario_from, scenario_by};
-ghost use Rattle.rc_reading.specs.Ahead.{data_at, items_at, members_at, says, told};
+ghost use Rattle.rc_reading.specs.Ahead.{data_at, says};
 
 use crate::faults::ReadFault;
 use crate::fields::Fields as EventFields;

@@ -6,7 +6,7 @@ use Rattle.serde_json.specs.Data.{Data}
 use Rattle.rc_reading.specs.Lists.{all_said, said_more}
 use Rattle.rc_reading.specs.Scenario.{value_in}
 use Rattle.rc_reading.specs.Values.{field, list_of}
-use Rattle.rc_traces.specs.Trace.{message_of, is_trace, listed_messages, trace_of, of_value, reading}
+use Rattle.rc_traces.specs.Trace.{message_of, is_trace, listed_messages, of_value, reading}
 use Rattle.rc_traces.specs.Outline.{without_entries, outline_of, outlined}
 
 more_outlined : (place : ℕ) (one : Option Message) (rest : Result (List Message) ℕ) →

@@ -1,15 +1,13 @@
 //! What the members of a message say, a member at a time.
 
-ghost use Rattle.std.specs.Prelude.{◌≡◌, ◌<◌, ℕ, length, Some, None, Err, IfOk, OnOk, OnErr};
-ghost use Rattle.rc_reading.specs.declared.faults.ReadFault.TheVariants.{BadInput};
-ghost use Rattle.serde_json.specs.Data.{object, no_members};
+ghost use Rattle.std.specs.Prelude.{◌≡◌, ◌<◌, length, Some, None, IfOk, OnOk, OnErr};
 ghost use Rattle.rc_traces.specs.Fields.{member_named, all_messages, no_message, narrowed, noted, fields_of, allowed};
 ghost use Rattle.rc_traces.specs.Fields.{needed, message_in};
 ghost use Rattle.rc_traces.specs.Trace.{nobody, message_of, message_name, place_with, append_with, ok_with, plan_with};
 ghost use Rattle.rc_traces.specs.Trace.{own_with};
 ghost use Rattle.rc_traces.specs.Values.{given7};
 ghost use Rattle.rc_reading.specs.Values.{given3, given4};
-ghost use Rattle.rc_reading.specs.Ahead.{data_at, members_at, says, told};
+ghost use Rattle.rc_reading.specs.Ahead.{data_at, says};
 
 use crate::lists::{EntryParts, RowParts};
 use crate::names::MessageName;

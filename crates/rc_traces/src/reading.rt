@@ -35,7 +35,7 @@ pub fn read_trace(alloc: Global, bytes: &[u8]) -> Result<Vec<Message>, ReadFault
 }
 
 /// The messages that the bytes say, without the entries that they carry: enough to tell which recoveries were accepted,
-/// what was granted and what was acknowledged. An entry is read, and let go of with its message.
+/// what was granted and what was acknowledged. The entries of a message are let go of once it is read.
 ///
 /// # Errors
 ///

@@ -1,12 +1,10 @@
 //! What the members of a trace say, a member at a time, and a message at a time.
 
-ghost use Rattle.std.specs.Prelude.{◌≡◌, ◌<◌, ℕ, length, Some, None, Err, IfOk, OnOk, OnErr};
+ghost use Rattle.std.specs.Prelude.{◌≡◌, ◌<◌, ℕ, Some, None, Err, IfOk};
 ghost use Rattle.rc_reading.specs.declared.faults.ReadFault.TheVariants.{BadInput};
-ghost use Rattle.serde_json.specs.Data.{object, no_members};
 ghost use Rattle.rc_traces.specs.Trace.{trace_of};
 ghost use Rattle.rc_traces.specs.Whole.{top_named, top_noted, top_of, trace_by};
-ghost use Rattle.rc_reading.specs.Values.{listed};
-ghost use Rattle.rc_reading.specs.Ahead.{data_at, items_at, members_at, says, told};
+ghost use Rattle.rc_reading.specs.Ahead.{data_at, says};
 
 use json::Reader;
 use rc_reading::ReadFault;

@@ -102,14 +102,6 @@ refused-is-full setup old new given can (inl refused) =
     yes-no e = cc
 refused-is-full setup old new given can (inr full) = full
 
--- what a thread says, from what its turns say
-pub ends-by : (setup : Setup) (old : SeatData) (steps : List Step) (outcome : Result (Unit {0}) Fault) (new : SeatData) →
-    OnOk outcome (Runs setup old (works_for old.name steps) new) → Grows old new →
-    IfErr outcome (λ f. (f ≡ OutOfMemory) ⊎ (f ≡ BadEvent)) →
-    IfErr outcome (λ f. f ≡ BadEvent → CannotGoOn setup old steps new) → Ends setup old steps outcome new
-ends-by setup old steps (Ok done) new runs grows told bad = runs
-ends-by setup old steps (Err f) new runs grows told bad = record { grows = grows; fault_is = told; bad = bad }
-
 -- Several seats
 
 -- one of the others can't go on, or the last one

@@ -33,10 +33,6 @@ pub on-ok : {A E : Type 0} {P Q : Type 0} (r : Result A E) → (P → Q) → OnO
 on-ok (Ok x) f h = f h
 on-ok (Err e) f h = tt
 
-pub ok-always : {A E : Type 0} {P : Type 0} (r : Result A E) → P → OnOk r P
-ok-always (Ok x) h = h
-ok-always (Err e) h = tt
-
 pub err-always : {A E : Type 0} {P : Type 0} (r : Result A E) → P → OnErr r P
 err-always (Ok x) h = tt
 err-always (Err e) h = h
