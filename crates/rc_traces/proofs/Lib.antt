@@ -3,3 +3,4 @@ mod TopNoted
 mod PartsFound
 mod Floats
 mod Outlined
+mod ListedCodes

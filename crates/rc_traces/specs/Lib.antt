@@ -2,6 +2,8 @@ pub mod Values
 pub mod Names
 pub mod Trace
 pub mod Outline
+pub mod Codes
+pub mod Listed
 pub mod Parts
 pub mod Fields
 pub mod Whole

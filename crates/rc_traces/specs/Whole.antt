@@ -1,6 +1,5 @@
 -- What the members of a trace say, a member at a time, and a message at a time.
-use Rattle.std.specs.Prelude.{ℕ, false, ◌&&◌, is_some, if◌then◌else◌, List, [], Option}
-use Rattle.std.specs.Prelude.{Some, None, Result, Ok, Err, codes}
+use Rattle.std.specs.Prelude.{false, ◌&&◌, is_some, if◌then◌else◌, List, ℕ, [], Option, Some, None, codes}
 use Rattle.std.specs.Str.{bytes_eq}
 use Rattle.rc_types.specs.declared.messages.Message.{Message}
 use Rattle.serde_json.specs.Data.{Data}
@@ -8,11 +7,14 @@ use Rattle.rc_traces.specs.declared.whole.TopName.{TopName}
 use Rattle.rc_traces.specs.declared.whole.TopName.TheVariants.{Format, Messages}
 use Rattle.rc_traces.specs.declared.whole.Top.{Top}
 use Rattle.rc_reading.specs.Values.{has_only, field, whole, list_from}
-use Rattle.rc_reading.specs.Lists.{takes_placed}
+use Rattle.rc_traces.specs.declared.listed.Listed.{Listed}
+use Rattle.rc_traces.specs.declared.listed.Listed.TheVariants.{Coded, Wrong}
+use Rattle.rc_traces.specs.Codes.{codes_of}
+use Rattle.rc_traces.specs.Listed.{takes_listed}
 use Rattle.rc_traces.specs.Names.{trace_members}
 
-abbrev pub messages_list : (Data → Option Message) → Data → Option (Result (List Message) ℕ)
-messages_list said = list_from (takes_placed said) (Ok [])
+abbrev pub messages_list : (Data → Option Message) → Data → Option Listed
+messages_list said = list_from (takes_listed said) (Coded (codes_of []))
 
 abbrev pub top_named : List ℕ → Option TopName
 top_named text =
@@ -35,10 +37,10 @@ top_of said d = record {
   kept_by = record {};
 }
 
-abbrev pub messages_in : Option (Result (List Message) ℕ) → Result (List Message) ℕ
+abbrev pub messages_in : Option Listed → Listed
 messages_in (Some messages) = messages
-messages_in None = Err 1
+messages_in None = Wrong 1
 
 -- the messages that the members say, or the place that is wrong
-abbrev pub trace_by : {R : Type 0} → Top R → Result (List Message) ℕ
-trace_by top = if top.only && is_some top.format then messages_in top.messages else Err 1
+abbrev pub trace_by : {R : Type 0} → Top R → Listed
+trace_by top = if top.only && is_some top.format then messages_in top.messages else Wrong 1

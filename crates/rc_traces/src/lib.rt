@@ -2,8 +2,10 @@
 //! members.
 #![tactic(auto)]
 
+mod codes;
 mod fields;
 pub mod limits;
+mod listed;
 mod lists;
 mod names;
 mod outlines;

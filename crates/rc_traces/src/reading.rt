@@ -1,16 +1,19 @@
-//! A trace is read as it comes: each message is kept, whole or without its entries, and what it was read from is
-//! dropped. Once one is wrong, none is kept. "Trace" in `docs/FORMATS.md` has the members.
+//! A trace is read as it comes: of each message its code is kept, whole or without its entries, and what it was read
+//! from is dropped. Once one is wrong, none is kept. "Trace" in `docs/FORMATS.md` has the members.
 
 ghost use Rattle.std.specs.Prelude.{◌≡◌, ℕ, ◌<◌, length, Ok, Err, IfOk};
 ghost use Rattle.rc_reading.specs.declared.faults.ReadFault.TheVariants.{OutOfMemory, BadInput};
 ghost use Rattle.rc_reading.specs.Scenario.{value_in};
+ghost use Rattle.rc_traces.specs.Listed.{listed};
 ghost use Rattle.rc_traces.specs.Trace.{of_text, of_value, reading};
 ghost use Rattle.rc_traces.specs.Outline.{outlined};
 
 use crate::fields::Fields;
+use crate::listed::Listed;
 use crate::outlines::Outline;
 use crate::whole::trace;
 use json::{Reader, Scratch};
+use rc_codec::DecodeFault;
 use rc_reading::ReadFault;
 use rc_reading::limits::MOST_BYTES;
 use rc_reading::lists::Said;
@@ -74,14 +77,26 @@ fn read_text<R: Said<Message> + Drop>(alloc: Global, text: &str) -> Result<Vec<M
     ensures ok { IfOk result (λ messages. of_text R.said text.now ≡ Ok messages.items) }
     ensures bad { (place : ℕ) → result ≡ Err (BadInput place) → of_text R.said text.now ≡ Err place }
 {
+    match read_codes::<R>(alloc, text)? {
+        Listed::Wrong(place) => Err(ReadFault::BadInput(place)),
+        Listed::Coded(codes) => match codes.decoded(alloc) {
+            Ok(messages) => Ok(messages),
+            Err(DecodeFault::OutOfMemory) => Err(ReadFault::OutOfMemory),
+            Err(DecodeFault::Malformed) => unreachable!(),
+        },
+    }
+}
+
+/// The same, with the messages as their codes. What the reader needs is let go of.
+fn read_codes<R: Said<Message> + Drop>(alloc: Global, text: &str) -> Result<Listed, ReadFault>
+    ensures ok { IfOk result (λ found. found ≡ listed (of_text R.said text.now)) }
+    ensures bad { (place : ℕ) → result ≡ Err (BadInput place) → of_text R.said text.now ≡ Err place }
+{
     let mut scratch = Scratch::new(alloc);
     let mut reader = Reader::new(text, &mut scratch)?;
-    let messages = trace::<R>(alloc, &mut reader, MOST_DEPTH)?;
+    let listed = trace::<R>(alloc, &mut reader, MOST_DEPTH)?;
     if let Some(_) = reader.next() {
         return Err(ReadFault::BadInput(0));
     }
-    match messages {
-        Ok(messages) => Ok(messages.into_vec()),
-        Err(place) => Err(ReadFault::BadInput(place)),
-    }
+    Ok(listed)
 }

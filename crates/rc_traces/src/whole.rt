@@ -2,22 +2,22 @@
 
 ghost use Rattle.std.specs.Prelude.{◌≡◌, ◌<◌, ℕ, Some, None, Err, IfOk};
 ghost use Rattle.rc_reading.specs.declared.faults.ReadFault.TheVariants.{BadInput};
+ghost use Rattle.rc_traces.specs.Listed.{listed};
 ghost use Rattle.rc_traces.specs.Trace.{trace_of};
 ghost use Rattle.rc_traces.specs.Whole.{top_named, top_noted, top_of, trace_by};
 ghost use Rattle.rc_reading.specs.Ahead.{data_at, says};
 
+use crate::codes::Codes;
+use crate::listed::Listed;
 use json::Reader;
 use rc_reading::ReadFault;
 use rc_reading::lists::{Said, read_list};
 use rc_reading::objects::{Object, read_object};
 use rc_reading::tokens::pass;
 use rc_reading::wanted::number;
-use rc_types::{Message, Seq};
+use rc_types::Message;
 use std::alloc::Global;
 use std::marker::PhantomData;
-
-/// The messages that were read, or the place of the first that is wrong.
-type Messages = Result<Seq<Message>, usize>;
 
 /// A member of a trace.
 #[derive(Clone, Copy)]
@@ -45,7 +45,7 @@ pub(crate) struct Top<R> {
     /// Whether a trace has all the members that have come.
     only: bool,
     format: Option<u64>,
-    messages: Option<Messages>,
+    messages: Option<Listed>,
     kept_by: PhantomData<R>,
 }
 
@@ -73,7 +73,8 @@ impl<R: Said<Message>> Object for Top<R> {
         match TopName::named(name) {
             Some(TopName::Format) => self.format = number(reader, depth, 1, 1)?,
             Some(TopName::Messages) => {
-                self.messages = read_list::<R, _>(Ok(Seq::new(alloc)), alloc, reader, depth)?;
+                let none = Listed::Coded(Codes::new(alloc));
+                self.messages = read_list::<R, _>(none, alloc, reader, depth)?;
             }
             None => {
                 self.only = false;
@@ -86,15 +87,15 @@ impl<R: Said<Message>> Object for Top<R> {
 
 impl<R> Top<R> {
     /// The messages that the members say, or the place that is wrong.
-    fn trace(self) -> Messages
+    fn trace(self) -> Listed
         ensures { result ≡ trace_by self }
     {
         if !self.only || self.format.is_none() {
-            return Err(1);
+            return Listed::Wrong(1);
         }
         match self.messages {
             Some(messages) => messages,
-            None => Err(1),
+            None => Listed::Wrong(1),
         }
     }
 }
@@ -104,10 +105,11 @@ pub(crate) fn trace<R: Said<Message> + Drop>(
     alloc: Global,
     reader: &mut Reader<'_>,
     depth: usize,
-) -> Result<Messages, ReadFault>
-    ensures ok { IfOk result (λ messages. says (trace_of R.said) depth reader.old ≡ Some (messages, reader.new)) }
+) -> Result<Listed, ReadFault>
+    ensures ok { IfOk result (λ found. says (λ d. listed (trace_of R.said d)) depth reader.old ≡ Some
+        (found, reader.new)) }
     ensures bad { (place : ℕ) → result ≡ Err (BadInput place) → (place ≡ 0) × (data_at depth reader.old ≡ None) }
 {
     let top: Option<Top<R>> = read_object(alloc, reader, depth)?;
-    Ok(top.map_or(Err(1), Top::trace))
+    Ok(top.map_or(Listed::Wrong(1), Top::trace))
 }
