@@ -1,11 +1,11 @@
-//! Runs whose events come from a seed.
+//! Worlds whose events come from a seed.
 
 ghost use Rattle.std.specs.Prelude.{◌≡◌, ◌≤◌, [], length, OnOk, IfOk};
 ghost use Rattle.rc_types.specs.declared.limits.TheConstants.{MAX_EVENTS};
 ghost use Rattle.rc_types.specs.declared.events.Event.TheVariants.{Start};
 ghost use Rattle.rc_reading.specs.declared.scenarios.ScenarioEvent.TheVariants.{Core};
 ghost use Rattle.rc_world.specs.Happened.{replayed};
-ghost use Rattle.rc_draw.specs.Draw.{beginning, played, begun, drawn_step, drawn_from, drawn_world, drawn};
+ghost use Rattle.rc_draw.specs.Draw.{beginning, played, begun, tried, drawn_step, drawn_from, drawn_world, drawn};
 ghost use Rattle.rc_draw.specs.Generator.{generator};
 
 use crate::choosing::event_of;
@@ -13,43 +13,39 @@ use crate::playing::{drawing_setup, play, settled};
 use crate::words::{Words, generator_of};
 use rc_reading::ScenarioEvent;
 use rc_runs::Run;
-use rc_types::{Event, Seq, ServerId, copied};
+use rc_types::{Event, Fault, Seq, ServerId, copied};
+use rc_world::World;
 use std::alloc::{AllocError, Global};
 
-/// The run of a drawing: hosts 0 to 4 are started and table 1 is created for the first server of host
+/// The world of a drawing: hosts 0 to 4 are started and table 1 is created for the first server of host
 /// 0, each followed by a pass over the messages; then for each step three words of the seed's
 /// generator choose an event, which is passed over where it can't happen. Masters have factor 2 and
-/// segments of 4, and free segments where `free` says so. The events are kept once, in the run's
-/// world.
+/// segments of 4, and free segments where `free` says so. The events are kept once, in the world.
 ///
 /// # Errors
 ///
 /// `OutOfMemory` (F1): memory was refused.
-pub fn drawn_run(
+pub fn drawn_world(
     alloc: Global,
     seed: u64,
     steps: usize,
     free: bool,
-) -> Result<Run<Global>, AllocError>
-    ensures world { IfOk result (λ run. replayed run ≡ drawn_world seed steps free) }
-    ensures events { IfOk result (λ run. run.events ≡ drawn seed steps free) }
-    ensures few { IfOk result (λ run. length run.events ≤ MAX_EVENTS) }
+) -> Result<World<Global>, AllocError>
+    ensures world { IfOk result (λ world. replayed world ≡ drawn_world seed steps free) }
+    ensures events { IfOk result (λ world. world.events ≡ drawn seed steps free) }
 {
-    let mut run = match begun(alloc, free) {
-        Ok(run) => run,
+    let mut world = match begun(alloc, free) {
+        Ok(world) => world,
         Err(fault) => return Err(fault),
     };
-    match draw_steps(alloc, &mut run, seed, steps) {
-        Ok(()) => {
-            let _world = run.world();
-            Ok(run)
-        }
+    match draw_steps(alloc, &mut world, seed, steps) {
+        Ok(()) => Ok(world),
         Err(fault) => Err(fault),
     }
 }
 
 /// The events of a drawing: those before its first step included, and those that were passed over
-/// left out. See [`drawn_run`].
+/// left out. See [`drawn_world`].
 ///
 /// # Errors
 ///
@@ -58,19 +54,20 @@ pub fn draw(alloc: Global, seed: u64, steps: usize, free: bool) -> Result<Vec<Ev
     ensures ok { IfOk result (λ events. events.items ≡ drawn seed steps free) }
     ensures few { IfOk result (λ events. length events.items ≤ MAX_EVENTS) }
 {
-    match drawn_run(alloc, seed, steps, free) {
-        Ok(run) => copied(alloc, run.world().events()),
+    match drawn_world(alloc, seed, steps, free) {
+        Ok(world) => copied(alloc, world.events()),
         Err(fault) => Err(fault),
     }
 }
 
-/// The run before the first step.
-fn begun(alloc: Global, free: bool) -> Result<Run<Global>, AllocError>
-    ensures { IfOk result (λ run. replayed run ≡ begun free) }
+/// The world before the first step.
+fn begun(alloc: Global, free: bool) -> Result<World<Global>, AllocError>
+    ensures world { IfOk result (λ world. replayed world ≡ begun free) }
+    ensures taken { IfOk result (λ world. (replayed world).events ≡ world.events) }
 {
     let mut run = Run::new(alloc, drawing_setup(alloc, free), alloc);
     match begin(alloc, &mut run) {
-        Ok(()) => Ok(run),
+        Ok(()) => Ok(run.into_world()),
         Err(fault) => Err(fault),
     }
 }
@@ -111,16 +108,18 @@ fn fresh_start(alloc: Global, host: u8) -> ScenarioEvent
 /// The steps.
 fn draw_steps(
     alloc: Global,
-    run: &mut Run<Global>,
+    world: &mut World<Global>,
     seed: u64,
     steps: usize,
 ) -> Result<(), AllocError>
-    ensures { OnOk result (replayed run.new ≡ drawn_from steps 0 (generator seed) (replayed run.old)) }
+    requires { (replayed world.old).events ≡ world.old.events }
+    ensures made { OnOk result (replayed world.new ≡ drawn_from steps 0 (generator seed) (replayed world.old)) }
+    ensures taken { OnOk result ((replayed world.new).events ≡ world.new.events) }
 {
     let mut generator = generator_of(seed);
     for number in 0..steps {
         let words = Words::take(&mut generator);
-        draw_step(alloc, run, number, words)?;
+        draw_step(alloc, world, number, words)?;
     }
     Ok(())
 }
@@ -128,14 +127,29 @@ fn draw_steps(
 /// One step, of this number.
 fn draw_step(
     alloc: Global,
-    run: &mut Run<Global>,
+    world: &mut World<Global>,
     number: usize,
     words: Words,
 ) -> Result<(), AllocError>
-    ensures { OnOk result (replayed run.new ≡ drawn_step (replayed run.old) number words) }
+    requires { (replayed world.old).events ≡ world.old.events }
+    ensures made { OnOk result (replayed world.new ≡ drawn_step (replayed world.old) number words) }
+    ensures taken { OnOk result ((replayed world.new).events ≡ world.new.events) }
 {
-    match event_of(alloc, run.world(), number, words)? {
-        Some(event) => play(alloc, run, &[ScenarioEvent::Core(event)]),
+    match event_of(alloc, world, number, words)? {
+        Some(event) => try_event(alloc, world, &event),
         None => Ok(()),
+    }
+}
+
+/// An event happens, or is passed over where it can't.
+fn try_event(alloc: Global, world: &mut World<Global>, event: &Event) -> Result<(), AllocError>
+    requires { (replayed world.old).events ≡ world.old.events }
+    ensures made { OnOk result (replayed world.new ≡ tried (replayed world.old) event.now) }
+    ensures taken { OnOk result ((replayed world.new).events ≡ world.new.events) }
+{
+    match world.take(alloc, event) {
+        Ok(()) | Err(Fault::BadEvent) => Ok(()),
+        // (only memory is left)
+        Err(_) => Err(AllocError),
     }
 }

@@ -10,5 +10,5 @@ mod playing;
 mod stopping;
 mod words;
 
-pub use drawing::{draw, drawn_run};
+pub use drawing::{draw, drawn_world};
 pub use stopping::{cut_each, stops};

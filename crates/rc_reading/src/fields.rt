@@ -1,6 +1,6 @@
 //! What the members of an event say, a member at a time.
 
-ghost use Rattle.std.specs.Prelude.{◌≡◌, ◌<◌, ℕ, length, Some, None, Err, IfOk, OnOk, OnErr, option_map};
+ghost use Rattle.std.specs.Prelude.{◌≡◌, ◌<◌, ℕ, [], ◌∷◌, length, Some, None, Err, IfOk, OnOk, OnErr, option_map};
 ghost use Rattle.rc_reading.specs.declared.faults.ReadFault.TheVariants.{BadInput};
 ghost use Rattle.rc_types.specs.declared.events.Event.TheVariants.{Start, Deliver, Create, Split};
 ghost use Rattle.rc_reading.specs.declared.scenarios.ScenarioEvent.TheVariants.{Settle};
@@ -46,13 +46,14 @@ pub(crate) enum MemberName {
 }
 
 impl MemberName {
-    /// The member of this name. What a long scenario has most of stands first.
+    /// The member of this name. What a long scenario has most of has one letter.
     fn named(name: &str) -> Option<MemberName>
         ensures { result ≡ member_named name.now }
     {
+        if let [letter] = name.as_bytes() {
+            return MemberName::of_letter(*letter);
+        }
         match name {
-            "e" => Some(MemberName::Event),
-            "n" => Some(MemberName::Number),
             "to" => Some(MemberName::To),
             "table" => Some(MemberName::Table),
             "key" => Some(MemberName::Key),
@@ -64,6 +65,17 @@ impl MemberName {
             "hosts" => Some(MemberName::Hosts),
             "owner" => Some(MemberName::Owner),
             "at" => Some(MemberName::At),
+            _ => None,
+        }
+    }
+
+    /// The member whose name is this letter.
+    fn of_letter(letter: u8) -> Option<MemberName>
+        ensures { result ≡ member_named (letter ∷ []) }
+    {
+        match letter {
+            b'e' => Some(MemberName::Event),
+            b'n' => Some(MemberName::Number),
             _ => None,
         }
     }

@@ -66,6 +66,15 @@ impl<A: Allocator + Clone> Run<A> {
         &self.world
     }
 
+    /// The world alone: what waits is forgotten.
+    pub fn into_world(self) -> World<A>
+        ensures world { result ≡ self }
+        ensures taken { (replayed self).events ≡ self.events }
+    {
+        let Run { world, mail: _ } = self;
+        world
+    }
+
     /// A copy of the run in which the servers of all hosts have stopped, where `World::stopped` gives one.
     ///
     /// # Errors

@@ -14,7 +14,7 @@ use crate::simulating::write_answer;
 use crate::staking::{OF_FUZZ, tell_stake};
 use crate::telling::tell_codes;
 use crate::verdicts::{Output, SimFault, Verdict};
-use rc_draw::drawn_run;
+use rc_draw::drawn_world;
 use std::alloc::{AllocError, Global};
 use std::io::Write;
 
@@ -57,11 +57,10 @@ fn drawn_answer<E: Write>(
     ensures ok { IfOk result (λ answer. Drawn seed steps free answer.verdict (string_bytes answer.text)) }
     ensures no_breach { IfOk result (λ answer. answer.verdict ≢ Breach) }
 {
-    match drawn_run(alloc, seed, steps, free) {
-        Ok(run) => {
-            let world = run.world();
+    match drawn_world(alloc, seed, steps, free) {
+        Ok(world) => {
             tell_codes(alloc, world.sent(), errors);
-            ended(alloc, world, Output::Report)
+            ended(alloc, &world, Output::Report)
         }
         Err(_) => Err(AllocError),
     }

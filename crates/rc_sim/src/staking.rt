@@ -2,7 +2,7 @@
 
 use crate::counted::Counted;
 use crate::outlets::write_all;
-use rc_draw::drawn_run;
+use rc_draw::drawn_world;
 use rc_report::report_of;
 use rc_types::Message;
 use std::alloc::Global;
@@ -46,10 +46,10 @@ pub(crate) fn tell_stake_of_drawn<E: Write>(
     steps: usize,
     errors: &mut Counted<E>,
 ) {
-    let Ok(run) = drawn_run(alloc, seed, steps, false) else {
+    let Ok(world) = drawn_world(alloc, seed, steps, false) else {
         return;
     };
-    tell_stake_of(alloc, run.world().sent(), OF_STOPS, errors);
+    tell_stake_of(alloc, world.sent(), OF_STOPS, errors);
 }
 
 /// Tells so of a run that is cut after each of its events, in which these messages were sent, as far as there is memory

@@ -1,4 +1,4 @@
-use Rattle.std.proofs.Common.{◌≡◌, ◌≤◌, ◌∙◌, ap, subst, sym, length, List}
+use Rattle.std.proofs.Common.{◌≡◌, ◌≤◌, ◌∙◌, subst, sym, length, List}
 use Rattle.std.proofs.lemmas.Result.{IfOk-weaker}
 use Rattle.rc_model.specs.Model.{Event, MAX_EVENTS}
 use Rattle.rc_draw.specs.Draw.{drawn}
@@ -8,7 +8,7 @@ pub returns-in-Ok-clause-ok : goal.returns-in-Ok-clause-ok
 returns-in-Ok-clause-ok c =
     IfOk-weaker c.copied.result (λ copies. copies.items ≡ c.events.result.now)
     (λ copies. copies.items ≡ drawn c.args.seed c.args.steps c.args.free)
-    (λ copies same. same ∙ (c.events.ensures.events ∙ (ap (λ world. world.events) c.world.ensures.world ∙ c.in-Ok.ensures.events)))
+    (λ copies same. same ∙ (c.events.ensures.events ∙ c.in-Ok.ensures.events))
     c.copied.ensures
 
 pub returns-in-Ok-clause-few : goal.returns-in-Ok-clause-few

@@ -1,24 +1,22 @@
-use Rattle.std.proofs.Common.{◌≡◌, ◌∙◌, Some, None, sym, ap}
+use Rattle.std.proofs.Common.{◌≡◌, ◌∙◌, Some, None, sym}
 use Rattle.rc_world.specs.Happened.{replayed}
 use Rattle.rc_draw.specs.Draw.{event_of, drawn_step}
-use Rattle.rc_draw.proofs.Played.{step_played, step_passed}
+use Rattle.rc_draw.proofs.Played.{step_tried, step_passed}
 use Rattle.rc_draw.proofs.drawing.draw_step.Goals as goal
 
-pub returns-in-Some : goal.returns-in-Some
+pub returns-in-Some-clause-made : goal.returns-in-Some-clause-made
 unfolding drawn_step
-returns-in-Some c =
-    let world = replayed c.args.run.now in
+returns-in-Some-clause-made c =
+    let world = replayed c.args.world.now in
     let same : Some c.in-Some.event ≡ event_of world c.args.number c.args.words =
-    sym c.in-Some.is ∙ c.in_ok-event.ensures
-    ∙ ap (λ w. event_of (replayed w) c.args.number c.args.words) c.world.ensures.world in
-    step_played c.play.result world (replayed c.play.new.run) c.in-Some.event
-    (event_of world c.args.number c.args.words) same c.play.ensures
+    sym c.in-Some.is ∙ c.in_ok-event.ensures in
+    step_tried c.try_event.result world (replayed c.try_event.new.world) c.in-Some.event
+    (event_of world c.args.number c.args.words) same c.try_event.ensures.made
 
-pub returns-in-None : goal.returns-in-None
+pub returns-in-None-clause-made : goal.returns-in-None-clause-made
 unfolding drawn_step
-returns-in-None c =
-    let world = replayed c.args.run.now in
+returns-in-None-clause-made c =
+    let world = replayed c.args.world.now in
     let same : None ≡ event_of world c.args.number c.args.words =
-    sym c.in-None.is ∙ c.in_ok-event.ensures
-    ∙ ap (λ w. event_of (replayed w) c.args.number c.args.words) c.world.ensures.world in
+    sym c.in-None.is ∙ c.in_ok-event.ensures in
     step_passed world (event_of world c.args.number c.args.words) same

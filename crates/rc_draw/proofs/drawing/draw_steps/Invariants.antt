@@ -6,5 +6,8 @@ use Rattle.rc_draw.proofs.drawing.draw_steps.Given as goal
 
 -- the steps that are left lead to the end
 abbrev pub invariant-loop-number : goal.invariant-loop-number
-invariant-loop-number l =
-    drawn_from (l.steps - l.number) l.number l.generator (replayed l.run) ≡ drawn_from l.steps 0 (generator l.seed) (replayed l.initial.run)
+invariant-loop-number l = record {
+  left : drawn_from (l.steps - l.number) l.number l.generator (replayed l.world)
+      ≡ drawn_from l.steps 0 (generator l.seed) (replayed l.initial.world);
+  taken : (replayed l.world).events ≡ l.world.events;
+}

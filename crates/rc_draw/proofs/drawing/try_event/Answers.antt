@@ -1,0 +1,11 @@
+use Rattle.rc_draw.proofs.Played.{happened_tried, passed_tried}
+use Rattle.rc_runs.proofs.Steppings.{taken_then}
+use Rattle.rc_draw.proofs.drawing.try_event.Goals as goal
+
+pub returns-in-Ok-clause-made : goal.returns-in-Ok-clause-made
+returns-in-Ok-clause-made c = happened_tried c.args.world.now c.take.new.self c.args.event.now c.requires
+    c.in-Ok.ensures.possible c.in-Ok.ensures.ok
+
+pub returns-in-Ok-clause-taken : goal.returns-in-Ok-clause-taken
+returns-in-Ok-clause-taken c = taken_then c.args.world.now c.take.new.self c.args.event.now c.requires
+    c.in-Ok.ensures.ok c.in-Ok.ensures.possible
