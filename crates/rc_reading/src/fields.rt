@@ -142,32 +142,70 @@ impl Only {
     }
 
     /// One more member has come; `None` is one that no event has.
-    fn narrowed(self, name: Option<MemberName>) -> Only
-        ensures { result ≡ narrowed name self }
+    fn narrow(&mut self, name: Option<MemberName>)
+        ensures { self.new ≡ narrowed name self.old }
     {
-        let mut only = Only::none();
+        let none = Only::none();
         match name {
-            Some(MemberName::Event) => only = self,
-            Some(MemberName::Host | MemberName::Kept) => only.start = self.start,
-            Some(MemberName::Id) => only.id = self.id,
+            Some(MemberName::Event) => {}
+            Some(MemberName::Host | MemberName::Kept) => {
+                *self = Only {
+                    start: self.start,
+                    ..none
+                };
+            }
+            Some(MemberName::Id) => *self = Only {
+                id: self.id,
+                ..none
+            },
             Some(MemberName::To | MemberName::Key) => {
-                only.write = self.write;
-                only.read = self.read;
+                *self = Only {
+                    write: self.write,
+                    read: self.read,
+                    ..none
+                };
             }
             Some(MemberName::Table) => {
-                only.write = self.write;
-                only.read = self.read;
-                only.create = self.create;
-                only.split = self.split;
+                *self = Only {
+                    write: self.write,
+                    read: self.read,
+                    create: self.create,
+                    split: self.split,
+                    ..none
+                };
             }
-            Some(MemberName::Value) => only.write = self.write,
-            Some(MemberName::Number) => only.deliver = self.deliver,
-            Some(MemberName::Kinds | MemberName::Hosts) => only.settle = self.settle,
-            Some(MemberName::Owner) => only.create = self.create,
-            Some(MemberName::At) => only.split = self.split,
-            None => {}
+            Some(MemberName::Value) => {
+                *self = Only {
+                    write: self.write,
+                    ..none
+                };
+            }
+            Some(MemberName::Number) => {
+                *self = Only {
+                    deliver: self.deliver,
+                    ..none
+                };
+            }
+            Some(MemberName::Kinds | MemberName::Hosts) => {
+                *self = Only {
+                    settle: self.settle,
+                    ..none
+                };
+            }
+            Some(MemberName::Owner) => {
+                *self = Only {
+                    create: self.create,
+                    ..none
+                };
+            }
+            Some(MemberName::At) => {
+                *self = Only {
+                    split: self.split,
+                    ..none
+                };
+            }
+            None => *self = none,
         }
-        only
     }
 }
 
@@ -264,7 +302,7 @@ impl Object for Fields {
         depth: usize,
     ) -> Result<(), ReadFault> {
         let name = MemberName::named(name);
-        self.only = self.only.narrowed(name);
+        self.only.narrow(name);
         match name {
             Some(MemberName::Event) => self.event = event(reader, depth)?,
             Some(MemberName::Host) => self.host = host(reader, depth)?,

@@ -71,14 +71,17 @@ impl Marks {
         }
     }
 
-    /// The least number from `from` on of a message that the pass delivers: mostly it is one of the next few, or none
-    /// where these are the last.
+    /// The least number from `from` on of a message that the pass delivers: once it has delivered one, mostly it is one
+    /// of the next few, or none where these are the last.
     pub(crate) fn next_due(&self, passing: &Passing, sent: &[Message], from: usize) -> Option<usize>
         ensures { (events : List Event) → Fits events sent.now self.now.delivered.items self.now.lines.items →
             result ≡ due_from passing.now events sent.now from }
     {
         if sent.len() <= from.saturating_add(NEAR) {
             return self.next_new(passing, sent, from);
+        }
+        if from == 0 {
+            return self.next_far(passing, sent, from);
         }
         match self.next_near(passing, sent, from) {
             Some(number) => Some(number),
@@ -139,6 +142,9 @@ impl Marks {
             IsLeast (is_due_by passing.now self.now.delivered.items sent.now) from
             (λ n. InLanes passing.now n (lanes ++ line.now ∷ [])) result }
     {
+        if line.numbers().is_empty() {
+            return least;
+        }
         if line.is_left_by(passing) {
             return least;
         }

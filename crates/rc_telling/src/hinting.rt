@@ -76,8 +76,40 @@ fn tell_hints(
     tell_unheard(&course, pen);
     tell_unstarted(&course, pen);
     tell_few(&course, pen, factors);
-    tell_stale(alloc, pen, messages);
-    tell_unrecovered(&course, alloc, pen, messages, waiting > 0);
+    let sent = Sent::among(messages);
+    if sent.reads {
+        tell_stale(alloc, pen, messages);
+    }
+    if sent.recoveries {
+        tell_unrecovered(&course, alloc, pen, messages, waiting > 0);
+    }
+}
+
+/// What a run has, of what is told only where there is some.
+#[derive(Clone, Copy)]
+struct Sent {
+    /// Reads that were answered.
+    reads: bool,
+    /// Attempts of a recovery.
+    recoveries: bool,
+}
+
+impl Sent {
+    /// What these messages have.
+    fn among(messages: &[Message]) -> Sent {
+        let mut sent = Sent {
+            reads: false,
+            recoveries: false,
+        };
+        for message in messages {
+            match &message.body {
+                Body::ReadOk { .. } => sent.reads = true,
+                Body::Gather { .. } => sent.recoveries = true,
+                _ => {}
+            }
+        }
+        sent
+    }
 }
 
 /// Recoveries that are not at their end, in a run at whose end messages wait, or none does.

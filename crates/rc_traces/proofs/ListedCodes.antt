@@ -23,7 +23,8 @@ more_listed : (all : Result (List Message) ℕ) (one : Option Message) → one_m
 more_listed (Err place) one = refl
 more_listed (Ok all) None = refl
 more_listed (Ok all) (Some one) =
-    ap₂ (λ bytes count. Coded (record { bytes = bytes; count = count })) (flat_map_more coded_message [] all one) (omega (arith, length-append all (one ∷ [])))
+    ap₂ (λ bytes count. Coded (record { bytes = bytes; count = count })) (flat_map_more coded_message [] all one)
+    (omega (arith, length-append all (one ∷ [])))
 
 pub each_listed : (said : Data → Option Message) (all : Result (List Message) ℕ) (ds : List Data) →
     each (takes_listed said) (listed all) ds ≡ option_map listed (each (takes_placed said) all ds)

@@ -63,7 +63,8 @@ impl Codes {
     ///
     /// `OutOfMemory` where memory was refused; `Malformed` where these are no codes of messages.
     pub(crate) fn decoded(&self, alloc: Global) -> Result<Vec<Message>, DecodeFault>
-        ensures ok { (all : List SpecMessage) → self.now ≡ codes_of all → IfOk result (λ messages. messages.items ≡ all) }
+        ensures ok { (all : List SpecMessage) → self.now ≡ codes_of all →
+            IfOk result (λ messages. messages.items ≡ all) }
         ensures good { (all : List SpecMessage) → self.now ≡ codes_of all → result ≢ Err Malformed }
     {
         let mut messages = Vec::with_capacity(alloc, self.count)?;

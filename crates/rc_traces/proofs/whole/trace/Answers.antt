@@ -13,5 +13,6 @@ read_object-requires g c = put_noted g.R.Said.said
 pub returns-clause-ok : goal.returns-clause-ok
 returns-clause-ok g c =
     let same : c.map_or.result ≡ trace_if c.in_ok-top.top = search rules in
-    rw same (says_as (if_object (top_of g.R.Said.said)) (λ d. listed (trace_of g.R.Said.said d)) trace_if (trace_found _ g.R.Said.said) _ _ _ _
-    c.in_ok-top.ensures.ok)
+    rw same
+    (says_as (if_object (top_of g.R.Said.said)) (λ d. listed (trace_of g.R.Said.said d)) trace_if
+    (trace_found _ g.R.Said.said) _ _ _ _ c.in_ok-top.ensures.ok)
