@@ -1,13 +1,13 @@
 -- Turns in the sequence of their places: what is found is over all that stands before.
-use Rattle.std.proofs.Common.{◌≡◌, ◌⊎◌, ℕ, ◌<◌, ◌≤◌, Bool, true, false, cond, nat_le}
+use Rattle.std.proofs.Common.{◌≡◌, ◌⊎◌, ℕ, suc, ◌<◌, ◌≤◌, Bool, true, false, cond, nat_le}
 use Rattle.std.proofs.Common.{List, [], ◌∷◌, Option, Some, None, refl, sym, ap, ◌∙◌, inl, inr, subst, arith, is_some}
 use Rattle.std.specs.declared.cmp.Ordering.{Ordering}
 use Rattle.std.specs.declared.cmp.Ordering.TheVariants.{Less, Equal, Greater}
 use Rattle.std.specs.Ordering.{nat_cmp, bool_cmp, ordering_then, is_eq}
 use Rattle.std.specs.BTreeMap.{BTreeMap, get, is_at}
 use Rattle.std.specs.BTreeSet.{BTreeSet, contains, Updates}
-use Rattle.std.specs.List.{list_any, AllByRecursion}
-use Rattle.std.specs.List.Sorted.{IsStrictlySortedBy}
+use Rattle.std.specs.List.{list_any, All}
+use Rattle.std.specs.BTreeMap.Range.{IsLtBy}
 use Rattle.std.specs.Map.{lookup}
 use Rattle.std.proofs.lemmas.Bool.{or_cases, false≢true}
 use Rattle.std.proofs.lemmas.Bool.Decides.{nat_tests}
@@ -142,18 +142,10 @@ taken_found order highs noted found finds turn key span bar is stands passed is_
 -- All turns, in sequence
 
 -- each turn to come is after this one
-all_after : (P : Turn → Type 0) (t : Turn) (ts : List Turn) → AllByRecursion P ts → In t ts → P t
-all_after P t [] all at = absurd at
-all_after P t (x ∷ ts) all (inl same) = subst P (sym same) all.0
-all_after P t (x ∷ ts) all (inr rest) = all_after P t ts all.1 rest
-
-sorted_after : (first t : Turn) (ts : List Turn) → IsStrictlySortedBy turn_order (first ∷ ts) → In t ts → turn_order first t ≡ Less
-unfolding IsStrictlySortedBy
-sorted_after first t ts sorted at = all_after (λ x. turn_order first x ≡ Less) t ts sorted.0 at
-
-sorted_rest : (first : Turn) (ts : List Turn) → IsStrictlySortedBy turn_order (first ∷ ts) → IsStrictlySortedBy turn_order ts
-unfolding IsStrictlySortedBy
-sorted_rest first ts sorted = sorted.1
+in_all : (P : Turn → Type 0) (t : Turn) (ts : List Turn) → All P ts → In t ts → P t
+in_all P t [] all at = absurd at
+in_all P t (x ∷ ts) all (inl same) = subst P (sym same) (all 0 x (omega arith))
+in_all P t (x ∷ ts) all (inr rest) = in_all P t ts (λ k d lt. all (suc k) d (omega (arith, lt))) rest
 
 place_before : (a b : Turn) → turn_order a b ≡ Less → a.place ≤ b.place
 place_before a b less = grind (arith, nat_tests)
@@ -161,7 +153,6 @@ place_before a b less = grind (arith, nat_tests)
 -- of each key its turn is to come, or it is noted; and the bars so far are over all that they are to be over
 pub record TurnsSoFar (order : BTreeMap ℕ Span) (highs : BTreeMap TermKey ℕ) (rest : List Turn) (noted : BTreeMap TermKey ℕ)
     (bars : BTreeMap TermKey (Option ℕ)) : Type 0 where
-  pub sorted : IsStrictlySortedBy turn_order rest
   pub waits : (key : TermKey) (v : ℕ) (span : Span) → is_level (high_at highs key) v ≡ true → get nat_cmp order key.term ≡ Some span →
       In (noting span key) rest ⊎ (is_level (high_at noted (of_all_terms key)) v ≡ true)
   pub over : AreOver order highs bars
@@ -200,13 +191,11 @@ turn_among t (first ∷ turns) e =
     by later (inl here) = inl (same_turn t first here)
     by later (inr there) = inr (later there)
 
-pub taking_begins : (order : BTreeMap ℕ Span) (highs : BTreeMap TermKey ℕ) (turns : BTreeSet Turn) (rest : List Turn)
+pub taking_begins : (order : BTreeMap ℕ Span) (highs : BTreeMap TermKey ℕ) (turns : BTreeSet Turn)
     (noted : BTreeMap TermKey ℕ) (bars : BTreeMap TermKey (Option ℕ)) → HasTurns order highs turns →
-    rest ≡ turns.keys → IsStrictlySortedBy turn_order turns.keys → bars.entries ≡ [] → TurnsSoFar order highs rest noted bars
-taking_begins order highs turns rest noted bars has all sorted none = record {
-  sorted = subst (λ (xs : List Turn). IsStrictlySortedBy turn_order xs) (sym all) sorted;
-  waits = λ key v span level stands. inl (subst (λ (xs : List Turn). In (noting span key) xs) (sym all)
-      (turn_among (noting span key) turns.keys (has.each key v span level stands)));
+    bars.entries ≡ [] → TurnsSoFar order highs turns.keys noted bars
+taking_begins order highs turns noted bars has none = record {
+  waits = λ key v span level stands. inl (turn_among (noting span key) turns.keys (has.each key v span level stands));
   over = record {
     each = λ key bar at.
         let found : ◌≡◌ {A = Option (Option ℕ)} (lookup (is_at (key_order key)) []) (Some bar) =
@@ -217,16 +206,13 @@ taking_begins order highs turns rest noted bars has all sorted none = record {
 
 pub taking_more : (order : BTreeMap ℕ Span) (highs : BTreeMap TermKey ℕ) (was rest : List Turn) (turn : Turn)
     (old new : BTreeMap TermKey ℕ) (found finds : BTreeMap TermKey (Option ℕ)) → was ≡ turn ∷ rest →
-    TurnsSoFar order highs was old found → TakesTurn order highs old new found finds turn → TurnsSoFar order highs rest new finds
-taking_more order highs was rest turn old new found finds split before takes = record {
-  sorted = sorted_rest turn rest sorted;
+    All (IsLtBy turn_order turn) rest → TurnsSoFar order highs was old found → TakesTurn order highs old new found finds turn →
+    TurnsSoFar order highs rest new finds
+taking_more order highs was rest turn old new found finds split after before takes = record {
   waits = λ key v span level stands. waits key v span level (comes key v span level stands);
   over = record { each = λ key bar at. over key bar (takes.bars key bar at) };
 }
   where
-    sorted : IsStrictlySortedBy turn_order (turn ∷ rest)
-    sorted = subst (λ (xs : List Turn). IsStrictlySortedBy turn_order xs) split before.sorted
-
     comes : (key : TermKey) (v : ℕ) (span : Span) → is_level (high_at highs key) v ≡ true → get nat_cmp order key.term ≡ Some span →
         In (noting span key) (turn ∷ rest) ⊎ (is_level (high_at old (of_all_terms key)) v ≡ true)
     comes key v span level stands = subst
@@ -251,7 +237,8 @@ taking_more order highs was rest turn old new found finds split before takes = r
     noted_before key v span less (inl (inl same)) =
         let place : span.place ≡ turn.place = ap (λ (t : Turn). t.place) same in absurd (omega (arith, place, less))
     noted_before key v span less (inl (inr later)) =
-        let above : turn.place ≤ span.place = place_before turn (noting span key) (sorted_after turn (noting span key) rest sorted later) in
+        let above : turn.place ≤ span.place =
+        place_before turn (noting span key) (in_all (IsLtBy turn_order turn) (noting span key) rest after later) in
         absurd (omega (arith, above, less))
     noted_before key v span less (inr is) = is
 

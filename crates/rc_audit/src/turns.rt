@@ -102,11 +102,12 @@ fn take_turn(
 fn over_all(alloc: Global, order: &Order, highs: &Highs) -> Result<Bars, AllocError>
     ensures { IfOk result (λ bars. AreOver order.now highs.now bars) }
 {
-    let turns = turns_of(alloc, order, highs)?;
+    let mut turns = turns_of(alloc, order, highs)?;
     let mut noted = BTreeMap::new(alloc);
     let mut bars = BTreeMap::new(alloc);
-    for turn in &turns {
-        take_turn(order, highs, &mut noted, &mut bars, turn)?;
+    // a turn that is taken leaves its room to the bars
+    while let Some(turn) = turns.pop_first() {
+        take_turn(order, highs, &mut noted, &mut bars, &turn)?;
     }
     Ok(bars)
 }

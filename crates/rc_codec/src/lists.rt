@@ -138,6 +138,9 @@ impl<T: Take + Drop> Take for Shared<T> {
     fn take(alloc: Global, bytes: &[u8]) -> Result<(Shared<T>, &[u8]), DecodeFault> {
         let (count, rest) = usize::take(alloc, bytes)?;
         let (items, rest) = take_each(alloc, count, rest)?;
+        if items.is_empty() {
+            return Ok((Shared::empty(), rest));
+        }
         Ok((Shared::from_vec(alloc, items)?, rest))
     }
 }
