@@ -67,6 +67,9 @@ class Edit:
             before, after = texts.get(file) or (file.read_text(encoding="utf-8"),) * 2
             if after.count(old) != 1:
                 raise Unfit(f"this stands {after.count(old)} times in {name}: {old.strip()}")
+            own = name.split("/")[0] + "::"
+            if own in new and own not in old:
+                raise Unfit(f"a path in {name} begins with the crate's own name, and not with crate::")
             texts[file] = before, after.replace(old, new)
         return texts
 
