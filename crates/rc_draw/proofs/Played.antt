@@ -28,12 +28,15 @@ pub happened_tried : (world after : Happened) (event : Event) → (replayed worl
     can_happen world event ≡ true → after ≡ with_events world (event ∷ []) → replayed after ≡ tried (replayed world) event
 happened_tried world after event taken can made =
     let room : nat_lt (length world.events) 200000 ≡ true = grind (arith, room_of world event can) in
-    rw (made, taken, room) (replayed_more world event)
+    ap replayed made ∙ replayed_more world event
+    ∙ sym (ap (λ events. if nat_lt (length events) 200000 then step (replayed world) event else replayed world) taken
+    ∙ ap (λ b. if b then step (replayed world) event else replayed world) room)
 
-pub passed_tried : (world : Happened) (event : Event) → (replayed world).events ≡ world.events →
-    can_happen world event ≡ false → replayed world ≡ tried (replayed world) event
-passed_tried world event taken can =
-    by_tests (nat_lt (length world.events) 200000) (is_possible (replayed world) event) can refl
+pub passed_tried : (world after : Happened) (event : Event) → (replayed world).events ≡ world.events →
+    after ≡ world → can_happen world event ≡ false → replayed after ≡ tried (replayed world) event
+passed_tried world after event taken same can =
+    ap replayed same
+    ∙ by_tests (nat_lt (length world.events) 200000) (is_possible (replayed world) event) can refl
     ∙ ap (λ events. if nat_lt (length events) 200000 then step (replayed world) event else replayed world) (sym taken)
   where
     by_tests : (room possible : Bool) → (room && possible) ≡ false → is_possible (replayed world) event ≡ possible →

@@ -148,7 +148,8 @@ fn try_event(alloc: Global, world: &mut World<Global>, event: &Event) -> Result<
     ensures taken { OnOk result ((replayed world.new).events ≡ world.new.events) }
 {
     match world.take(alloc, event) {
-        Ok(()) | Err(Fault::BadEvent) => Ok(()),
+        Ok(()) => Ok(()),
+        Err(Fault::BadEvent) => Ok(()),
         // (only memory is left)
         Err(_) => Err(AllocError),
     }
