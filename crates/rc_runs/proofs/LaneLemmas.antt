@@ -214,9 +214,13 @@ least_left due from passing lane lanes best left least =
     before n (inl found) = found
     before n (inr last) = absurd (true≢false (sym left ∙ last.0))
 
+in_none : (n : ℕ) (numbers : List ℕ) → length numbers ≡ 0 → In n numbers → ⊥
+in_none n [] none found = found
+in_none n (first ∷ numbers) none found = omega (arith, none)
+
 -- where the lane has no number
 pub least_empty : (due : ℕ → Bool) (from : ℕ) (passing : Passing) (lane : Lane) (lanes : List Lane) (best : Option ℕ)
-    → lane.numbers ≡ [] → IsLeast due from (λ n. InLanes passing n lanes) best
+    → length lane.numbers ≡ 0 → IsLeast due from (λ n. InLanes passing n lanes) best
     → IsLeast due from (λ n. InLanes passing n (lanes ++ lane ∷ [])) best
 least_empty due from passing lane lanes best none least =
     least_wider due from (λ n. InLanes passing n lanes) (λ n. InLanes passing n (lanes ++ lane ∷ [])) best
@@ -225,7 +229,7 @@ least_empty due from passing lane lanes best none least =
     before : (n : ℕ) → InLanes passing n lanes ⊎ ((is_lane_left passing lane.kind lane.to ≡ false) × In n lane.numbers)
         → InLanes passing n lanes
     before n (inl found) = found
-    before n (inr last) = absurd (subst (In n) none last.1)
+    before n (inr last) = absurd (in_none n lane.numbers none last.1)
 
 least_of : (due : ℕ → Bool) (from : ℕ) (P Q R : ℕ → Type 0) → ((n : ℕ) → R n → P n ⊎ Q n) → (one other : Option ℕ)
     → IsLeast due from (λ n. P n) one → IsLeast due from (λ n. Q n) other → IsLeast due from (λ n. R n) (earlier_of one other)

@@ -1,4 +1,4 @@
-use Rattle.std.proofs.Common.{ℕ, Option, sym, ◌∙◌, subst, ◌++◌, ◌∷◌, []}
+use Rattle.std.proofs.Common.{ℕ, Option, length, sym, ap, ◌∙◌, subst, ◌++◌, ◌∷◌, [], arith}
 use Rattle.rc_runs.specs.Lanes.{IsLeast, InLanes}
 use Rattle.rc_runs.specs.Waiting.{is_due_by}
 use Rattle.rc_runs.proofs.LaneLemmas.{least_empty, least_left, least_more}
@@ -7,7 +7,7 @@ use Rattle.rc_runs.proofs.marks.Marks.or_in.Goals as goal
 pub returns-then-is_empty : goal.returns-then-is_empty
 returns-then-is_empty c high lanes rise least =
     least_empty (is_due_by c.args.passing.now c.args.self.now.delivered.items c.args.sent.now) c.args.from
-    c.args.passing.now c.args.line.now lanes c.args.least (grind arith) least
+    c.args.passing.now c.args.line.now lanes c.args.least (grind (arith, ap length c.numbers.ensures)) least
 
 pub returns-then-is_left_by : goal.returns-then-is_left_by
 returns-then-is_left_by c high lanes rise least =
