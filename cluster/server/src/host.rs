@@ -25,7 +25,7 @@ const FEW: u64 = 16;
 const MANY: u64 = 128;
 
 /// After so much was taken since the last sync, the next one begins, though more has come.
-const MUCH: u64 = 192;
+const MUCH: u64 = 96;
 
 /// How often a server says that it lives.
 const BEAT: Duration = Duration::from_millis(100);
