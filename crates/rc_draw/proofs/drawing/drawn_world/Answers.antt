@@ -4,11 +4,11 @@ use Rattle.rc_draw.proofs.drawing.drawn_world.Goals as goal
 
 pub returns-in-Ok-draw_steps-clause-world : goal.returns-in-Ok-draw_steps-clause-world
 returns-in-Ok-draw_steps-clause-world c =
-    drawn_all c.args.seed c.args.steps c.args.free (replayed c.in-Ok.world') (replayed c.draw_steps.new.world)
+    drawn_all c.args.seed c.args.steps c.args.free (replayed c.in-Ok.world) (replayed c.draw_steps.new.world)
     c.in-Ok.ensures.world c.in-Ok-draw_steps.ensures.made
 
 pub returns-in-Ok-draw_steps-clause-events : goal.returns-in-Ok-draw_steps-clause-events
 returns-in-Ok-draw_steps-clause-events c =
     drawn_events c.args.seed c.args.steps c.args.free c.draw_steps.new.world c.in-Ok-draw_steps.ensures.taken
-    (drawn_all c.args.seed c.args.steps c.args.free (replayed c.in-Ok.world') (replayed c.draw_steps.new.world)
+    (drawn_all c.args.seed c.args.steps c.args.free (replayed c.in-Ok.world) (replayed c.draw_steps.new.world)
     c.in-Ok.ensures.world c.in-Ok-draw_steps.ensures.made)
