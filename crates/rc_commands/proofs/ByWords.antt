@@ -29,7 +29,7 @@ bare each.stops = Some (asked.Stops 1 300 false)
 bare each.threads = Some (asked.Threads 4 10)
 bare each.explore = Some (asked.Explore (record { seed = 1; steps = 2000; hosts = 5; factor = 2; segment = 2; free = false })
     false false false)
-bare each.log = Some (asked.Log false)
+bare each.log = Some (asked.Log false false)
 bare each.picture = Some (asked.Picture false)
 bare each.explain = Some (asked.Explain None false)
 bare each.shrink = None

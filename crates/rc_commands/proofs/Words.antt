@@ -162,7 +162,7 @@ level_of each.stops e = level_by _ (sizes_and (a_flag (codes "explored") ∷ [])
 level_of each.threads e = level_by _ (an_option (codes "hosts") ∷ an_option (codes "writes") ∷ []) refl (λ x. refl) refl refl
 level_of each.explore e = level_by _ (sizes_and (a_flag (codes "save") ∷ an_option (codes "seeds") ∷ a_flag (codes "progress")
     ∷ an_option (codes "until") ∷ [])) refl (λ x. refl) refl refl
-level_of each.log e = level_by _ (a_flag (codes "json") ∷ []) refl (λ x. refl) refl refl
+level_of each.log e = level_by _ (a_flag (codes "json") ∷ a_flag (codes "whole") ∷ []) refl (λ x. refl) refl refl
 level_of each.picture e = level_by _ (a_flag (codes "mermaid") ∷ []) refl (λ x. refl) refl refl
 level_of each.explain e = absurd (true≢false e)
 level_of each.shrink e = level_by _ (an_option (codes "keep") ∷ []) refl (λ x. refl) refl refl

@@ -200,7 +200,7 @@ abbrev pub shrink_in : List Row → Option Asked
 shrink_in rows = option_map asked.Shrink (first_of (codes "keep") rows)
 
 abbrev pub log_in : List Row → Option Asked
-log_in rows = Some (asked.Log (has_flag (codes "json") rows))
+log_in rows = Some (asked.Log (has_flag (codes "json") rows) (has_flag (codes "whole") rows))
 
 abbrev pub picture_in : List Row → Option Asked
 picture_in rows = Some (asked.Picture (has_flag (codes "mermaid") rows))
@@ -324,7 +324,7 @@ options_of name =
     else (if bytes_eq (codes "stops") name then stopping
     else (if bytes_eq (codes "threads") name then codes "hosts" ∷ codes "writes" ∷ []
     else (if bytes_eq (codes "explore") name then exploring
-    else (if bytes_eq (codes "log") name then codes "json" ∷ []
+    else (if bytes_eq (codes "log") name then codes "json" ∷ codes "whole" ∷ []
     else (if bytes_eq (codes "picture") name then codes "mermaid" ∷ []
     else (if bytes_eq (codes "shrink") name then codes "keep" ∷ []
     else (if bytes_eq (codes "heal") name then codes "power-cycle" ∷ [] else [])))))))))

@@ -69,7 +69,7 @@ abbrev pub shrink : App
 shrink = with_rule (new_app (codes "shrink")) (option (codes "keep"))
 
 abbrev pub log : App
-log = with_rule (new_app (codes "log")) (flag (codes "json"))
+log = with_rule (with_rule (new_app (codes "log")) (flag (codes "json"))) (flag (codes "whole"))
 
 abbrev pub picture : App
 picture = with_rule (new_app (codes "picture")) (flag (codes "mermaid"))

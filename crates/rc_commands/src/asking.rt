@@ -107,9 +107,11 @@ pub enum Asked {
     Shrink {
         keep: Seq<u8>,
     },
-    /// Replay a scenario, and tell each event and each message; as JSON, where `json` says so.
+    /// Replay a scenario, and tell each event and each message; as JSON, where `json` says so; and long lists whole,
+    /// where `whole` does.
     Log {
         json: bool,
+        whole: bool,
     },
     /// Replay a scenario, and draw the run as a page; or for Mermaid, where `mermaid` says so.
     Picture {
@@ -155,7 +157,7 @@ pub fn asked_for(alloc: Global, words: &[String]) -> Result<Asked, AllocError>
         → a ≡ Asked.Explore (record { seed = 1; steps = 2000; hosts = 5; factor = 2; segment = 2; free = false })
         false false false) }
     ensures log { IfOk result
-        (λ a. is_alone (codes "log") (map string_bytes words.now) ≡ true → a ≡ Asked.Log false) }
+        (λ a. is_alone (codes "log") (map string_bytes words.now) ≡ true → a ≡ Asked.Log false false) }
     ensures picture { IfOk result
         (λ a. is_alone (codes "picture") (map string_bytes words.now) ≡ true → a ≡ Asked.Picture false) }
     ensures heal { IfOk result
@@ -252,6 +254,7 @@ fn command_named<'a>(name: &str, given: &ArgMatches<'a>) -> Result<Asked, BadWor
         "check" => Ok(Asked::Check),
         "log" => Ok(Asked::Log {
             json: has_flag(given, "json"),
+            whole: has_flag(given, "whole"),
         }),
         "picture" => Ok(Asked::Picture {
             mermaid: has_flag(given, "mermaid"),

@@ -352,7 +352,7 @@ fn shrink<'a>(alloc: Global) -> Result<Command<'a>, AllocError>
     ))
 }
 
-/// `log` with its flag.
+/// `log` with its flags.
 fn log<'a>(alloc: Global) -> Result<Command<'a>, AllocError>
     ensures { IfOk result (IsBuiltAs spec.log) }
 {
@@ -362,7 +362,12 @@ fn log<'a>(alloc: Global) -> Result<Command<'a>, AllocError>
         "Replays a scenario that it reads from standard input, and tells each event and each message",
         "Example: ramseg log < examples/first-write.json",
     )
-    .arg(flag(alloc, "json", "Tells it as one JSON value"))
+    .arg(flag(alloc, "json", "Tells it as one JSON value"))?
+    .arg(flag(
+        alloc,
+        "whole",
+        "Tells all of long lists, digests and values, in place of the first and how many more there are",
+    ))
 }
 
 /// `picture` with its flag.

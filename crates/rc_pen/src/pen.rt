@@ -44,6 +44,8 @@ pub enum Piece {
 pub struct Pen {
     text: String,
     spelling: Spelling,
+    /// Whether long lists are told whole.
+    whole: bool,
     refused: bool,
 }
 
@@ -53,8 +55,19 @@ impl Pen {
         Pen {
             text: String::new(alloc),
             spelling,
+            whole: false,
             refused: false,
         }
+    }
+
+    /// From here on long lists are told whole, or not.
+    pub fn tell_whole(&mut self, whole: bool) {
+        self.whole = whole;
+    }
+
+    /// How many of a list are told one by one, of which mostly so many are.
+    pub fn most(&self, usual: usize) -> usize {
+        if self.whole { usize::MAX } else { usual }
     }
 
     /// What else wanted memory: where it was refused, the pen writes nothing more.

@@ -188,7 +188,9 @@ fn done<H: thread::Threads + Wait + Sync, R: Read, W: Write, E: Write>(
             seek(alloc, &options, &search, writer, errors)
         }
         Asked::Shrink { keep } => shrink(alloc, keep.as_slice(), reader, writer, errors),
-        Asked::Log { json } => narrate(alloc, Telling::of_log(json), reader, writer, errors),
+        Asked::Log { json, whole } => {
+            narrate(alloc, Telling::of_log(json, whole), reader, writer, errors)
+        }
         Asked::Picture { mermaid } => {
             narrate(alloc, Telling::of_picture(mermaid), reader, writer, errors)
         }

@@ -6,6 +6,8 @@ use rc_types::{
     Body, Code, Entry, Event, Kind, Message, Part, PlanRow, Row, Seq, ServerId, Shared,
 };
 
+// What is told of a message where it is not told whole.
+
 /// How many entries of a message are told one by one.
 const MOST_ENTRIES: usize = 4;
 
@@ -74,10 +76,11 @@ fn tell_start(pen: &mut Pen, host: u8, kept: &Seq<(ServerId, u16)>, started: Opt
     if !kept.is_empty() {
         pen.say(" kept");
     }
-    for (id, seg) in kept.as_slice().iter().take(MOST_ROWS) {
+    let most = pen.most(MOST_ROWS);
+    for (id, seg) in kept.as_slice().iter().take(most) {
         pen.say_all(" %:%", &[Piece::Id(*id), Piece::U16(*seg)]);
     }
-    tell_more(pen, kept.len(), MOST_ROWS);
+    tell_more(pen, kept.len(), most);
 }
 
 /// What a message says.
@@ -297,19 +300,21 @@ pub(crate) fn tell_code(pen: &mut Pen, code: Code) {
 /// Who is on the server list, and who of them is up.
 fn tell_list(pen: &mut Pen, version: u32, rows: &Shared<(ServerId, bool)>) {
     pen.number("version ", u64::from(version));
-    for (id, up) in rows.as_slice().iter().take(MOST_ROWS) {
+    let most = pen.most(MOST_ROWS);
+    for (id, up) in rows.as_slice().iter().take(most) {
         pen.say_all(" %% up| down|", &[Piece::Id(*id), Piece::Flag(*up)]);
     }
-    tell_more(pen, rows.len(), MOST_ROWS);
+    tell_more(pen, rows.len(), most);
 }
 
 /// The segments of a digest.
 fn tell_digest(pen: &mut Pen, digest: &Shared<u16>) {
     pen.say(" digest");
-    for seg in digest.as_slice().iter().take(MOST_SEGMENTS) {
+    let most = pen.most(MOST_SEGMENTS);
+    for seg in digest.as_slice().iter().take(most) {
         pen.number(" ", u64::from(*seg));
     }
-    tell_more(pen, digest.len(), MOST_SEGMENTS);
+    tell_more(pen, digest.len(), most);
 }
 
 /// How many more there are than were told.
@@ -329,10 +334,11 @@ fn tell_replicas(pen: &mut Pen, attempt: u32, rows: &Seq<Row>) {
             Piece::Flag(rows.len() == 1),
         ],
     );
-    for (place, row) in rows.as_slice().iter().take(MOST_ROWS).enumerate() {
+    let most = pen.most(MOST_ROWS);
+    for (place, row) in rows.as_slice().iter().take(most).enumerate() {
         tell_row(pen, place, row);
     }
-    tell_more(pen, rows.len(), MOST_ROWS);
+    tell_more(pen, rows.len(), most);
 }
 
 /// One of them.
@@ -345,10 +351,11 @@ fn tell_row(pen: &mut Pen, place: usize, row: &Row) {
 /// The head and the rows of a plan.
 fn tell_plan(pen: &mut Pen, head: u16, rows: &Seq<PlanRow>) {
     pen.say_all(" head % rows", &[Piece::U16(head)]);
-    for row in rows.as_slice().iter().take(MOST_ROWS) {
+    let most = pen.most(MOST_ROWS);
+    for row in rows.as_slice().iter().take(most) {
         tell_plan_row(pen, row);
     }
-    tell_more(pen, rows.len(), MOST_ROWS);
+    tell_more(pen, rows.len(), most);
 }
 
 /// A row of a plan: segment, holder and length.
@@ -367,11 +374,12 @@ fn tell_plan_row(pen: &mut Pen, row: &PlanRow) {
 fn tell_parts(pen: &mut Pen, parts: &Seq<Part>) {
     pen.say(", ");
     tell_count(pen, parts.len(), " part", " parts");
-    for (place, part) in parts.as_slice().iter().take(MOST_ROWS).enumerate() {
+    let most = pen.most(MOST_ROWS);
+    for (place, part) in parts.as_slice().iter().take(most).enumerate() {
         pen.either(place == 0, ": ", "; ");
         tell_part(pen, part);
     }
-    tell_more(pen, parts.len(), MOST_ROWS);
+    tell_more(pen, parts.len(), most);
 }
 
 /// One part.
@@ -408,11 +416,12 @@ fn tell_data(pen: &mut Pen, attempt: u32, seg: u16, term: u32) {
 /// How many entries there are, and what the first of them are.
 fn tell_entries(pen: &mut Pen, entries: &Seq<Entry>) {
     tell_count(pen, entries.len(), " entry", " entries");
-    for (place, entry) in entries.as_slice().iter().take(MOST_ENTRIES).enumerate() {
+    let most = pen.most(MOST_ENTRIES);
+    for (place, entry) in entries.as_slice().iter().take(most).enumerate() {
         pen.either(place == 0, ": ", "; ");
         tell_entry(pen, entry);
     }
-    if entries.len() > MOST_ENTRIES {
+    if entries.len() > most {
         pen.say("; ..");
     }
 }
@@ -443,7 +452,7 @@ fn tell_value(pen: &mut Pen, value: Option<&Shared<u8>>) {
         None => pen.say(" no value"),
         Some(value) => {
             let bytes = value.as_slice();
-            if bytes.len() <= MOST_BYTES && bytes.iter().all(|byte| is_plain(*byte)) {
+            if bytes.len() <= pen.most(MOST_BYTES) && bytes.iter().all(|byte| is_plain(*byte)) {
                 tell_letters(pen, bytes);
             } else {
                 tell_bytes(pen, bytes);
@@ -465,10 +474,11 @@ fn tell_letters(pen: &mut Pen, bytes: &[u8]) {
 fn tell_bytes(pen: &mut Pen, bytes: &[u8]) {
     pen.say(" ");
     tell_count(pen, bytes.len(), " byte 0x", " bytes 0x");
-    for byte in bytes.iter().take(MOST_BYTES) {
+    let most = pen.most(MOST_BYTES);
+    for byte in bytes.iter().take(most) {
         pen.byte(*byte);
     }
-    if bytes.len() > MOST_BYTES {
+    if bytes.len() > most {
         pen.say("..");
     }
 }

@@ -14,14 +14,15 @@ use rc_pen::{Pen, Piece, Spelling};
 use rc_types::{Addr, Event, Kind, Message};
 use std::alloc::{AllocError, Global};
 
-/// The story as one JSON value. Keys and versions are texts, since many readers of JSON round great numbers. No `<`
-/// stands in it, so that it can stand in a page.
+/// The story as one JSON value, with long lists `whole`, or as a log tells them. Keys and versions are texts, since many
+/// readers of JSON round great numbers. No `<` stands in it, so that it can stand in a page.
 ///
 /// # Errors
 ///
 /// Memory was refused.
-pub fn log_json(alloc: Global, story: &Story<'_>) -> Result<String, AllocError> {
+pub fn log_json(alloc: Global, story: &Story<'_>, whole: bool) -> Result<String, AllocError> {
     let mut pen = Pen::new(alloc, Spelling::Json);
+    pen.tell_whole(whole);
     put_story(alloc, &mut pen, story);
     pen.end()
 }

@@ -15,13 +15,15 @@ use rc_types::{Addr, Body, Event, Message};
 use std::alloc::{AllocError, Global};
 
 /// The story as text: a line for each event of the world with its place in the scenario, below it a line for each
-/// message that it sent, and then how things stand at the end.
+/// message that it sent, and then how things stand at the end. Where it is not told `whole`, of long lists just the first
+/// are, and how many more there are.
 ///
 /// # Errors
 ///
 /// Memory was refused.
-pub fn log(alloc: Global, story: &Story<'_>) -> Result<String, AllocError> {
+pub fn log(alloc: Global, story: &Story<'_>, whole: bool) -> Result<String, AllocError> {
     let mut pen = Pen::new(alloc, Spelling::Plain);
+    pen.tell_whole(whole);
     tell_turns(&mut pen, story);
     let mut ending = Ending::new(alloc);
     pen.take(ending.note_all(story));
