@@ -13,7 +13,7 @@ _ramseg() {
     run) words="--format --heap --help --output --expect" ;;
     trace) words="--help --output" ;;
     audit) words="--format --help --output" ;;
-    log) words="--json --help --output" ;;
+    log) words="--json --whole --help --output" ;;
     picture) words="--mermaid --help --output" ;;
     fuzz) words="--format --seed --steps --free --help" ;;
     stops) words="--format --seed --steps --hosts --factor --segment --free --explored --help" ;;
