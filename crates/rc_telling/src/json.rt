@@ -14,8 +14,8 @@ use rc_pen::{Pen, Piece, Spelling};
 use rc_types::{Addr, Event, Kind, Message};
 use std::alloc::{AllocError, Global};
 
-/// The story as one JSON value, with long lists `whole`, or as a log tells them. Keys and versions are texts, since many
-/// readers of JSON round great numbers. No `<` stands in it, so that it can stand in a page.
+/// The story as one JSON value, with long lists `whole`, or as a log tells them. Keys and versions are texts, since
+/// many readers of JSON round great numbers. No `<` stands in it, so that it can stand in a page.
 ///
 /// # Errors
 ///

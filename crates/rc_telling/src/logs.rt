@@ -15,8 +15,8 @@ use rc_types::{Addr, Body, Event, Message};
 use std::alloc::{AllocError, Global};
 
 /// The story as text: a line for each event of the world with its place in the scenario, below it a line for each
-/// message that it sent, and then how things stand at the end. Where it is not told `whole`, of long lists just the first
-/// are, and how many more there are.
+/// message that it sent, and then how things stand at the end. Where it is not told `whole`, of long lists just the
+/// first are, and how many more there are.
 ///
 /// # Errors
 ///
