@@ -29,7 +29,7 @@ complete -c ramseg -n '__fish_seen_subcommand_from audit' -l format -x -d 'Print
 complete -c ramseg -n '__fish_seen_subcommand_from audit' -l help -d 'Print help'
 complete -c ramseg -n '__fish_seen_subcommand_from audit' -l output -r -d 'Writes what is told of each file into a folder'
 complete -c ramseg -n '__fish_seen_subcommand_from log' -l json -d 'Tells it as one JSON value'
-complete -c ramseg -n '__fish_seen_subcommand_from log' -l whole -d 'Tells all of long lists, digests and values, in place of the first and how many more there are'
+complete -c ramseg -n '__fish_seen_subcommand_from log' -l whole -d 'Tells all of the lists, digests and values of messages and starts, not just the first of them'
 complete -c ramseg -n '__fish_seen_subcommand_from log' -l help -d 'Print help'
 complete -c ramseg -n '__fish_seen_subcommand_from log' -l output -r -d 'Writes what is told of each file into a folder'
 complete -c ramseg -n '__fish_seen_subcommand_from picture' -l mermaid -d 'Draws a sequence diagram as text for Mermaid in place of the page'

@@ -11,12 +11,13 @@ the script that tries the edit:
 
 A file is named from the crate in whose folder the edit lies: crates/CRATE/must-fail (which the gate reads, and which
 has no such lines), wrong/bodies/CRATE, wrong/rules/CRATE. An edit of wrong/code is one of several crates: its files are
-named from crates/.
+named from crates/. A path of the crate that is edited begins with `crate::`, not with its name.
 
 usage: python3 scripts/parts/edits.py EDIT CRATES     puts the edit into the copies of crates in the folder CRATES
 """
 
 import pathlib
+import re
 import sys
 
 sys.path.append(str(pathlib.Path(__file__).resolve().parents[1]))
@@ -67,8 +68,8 @@ class Edit:
             before, after = texts.get(file) or (file.read_text(encoding="utf-8"),) * 2
             if after.count(old) != 1:
                 raise Unfit(f"this stands {after.count(old)} times in {name}: {old.strip()}")
-            own = name.split("/")[0] + "::"
-            if own in new and own not in old:
+            own = re.compile(rf"(?<![\w:]){re.escape(name.split('/')[0])}::")
+            if own.search(new) and not own.search(old):
                 raise Unfit(f"a path in {name} begins with the crate's own name, and not with crate::")
             texts[file] = before, after.replace(old, new)
         return texts

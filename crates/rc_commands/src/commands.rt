@@ -366,7 +366,7 @@ fn log<'a>(alloc: Global) -> Result<Command<'a>, AllocError>
     .arg(flag(
         alloc,
         "whole",
-        "Tells all of long lists, digests and values, in place of the first and how many more there are",
+        "Tells all of the lists, digests and values of messages and starts, not just the first of them",
     ))
 }
 

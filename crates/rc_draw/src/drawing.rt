@@ -18,9 +18,9 @@ use rc_world::World;
 use std::alloc::{AllocError, Global};
 
 /// The world of a drawing: hosts 0 to 4 are started and table 1 is created for the first server of host
-/// 0, each followed by a pass over the messages; then for each step three words of the seed's
+/// 0, each followed by a pass over the messages. Then for each step three words of the seed's
 /// generator choose an event, which is passed over where it can't happen. Masters have factor 2 and
-/// segments of 4, and free segments where `free` says so. The events are kept once, in the world.
+/// segments of 4, and free segments where `free` says so.
 ///
 /// # Errors
 ///
@@ -33,13 +33,17 @@ pub fn drawn_world(
 ) -> Result<World<Global>, AllocError>
     ensures world { IfOk result (λ world. replayed world ≡ drawn_world seed steps free) }
     ensures events { IfOk result (λ world. world.events ≡ drawn seed steps free) }
+    ensures few { IfOk result (λ world. length world.events ≤ MAX_EVENTS) }
 {
     let mut world = match begun(alloc, free) {
         Ok(world) => world,
         Err(fault) => return Err(fault),
     };
     match draw_steps(alloc, &mut world, seed, steps) {
-        Ok(()) => Ok(world),
+        Ok(()) => {
+            let _events = world.events();
+            Ok(world)
+        }
         Err(fault) => Err(fault),
     }
 }

@@ -1,5 +1,5 @@
-//! Drawn events: runs whose events come from a seed. After a beginning that is the same for all, three
-//! words of a generator choose each event. And power failure after each event of such a run.
+//! Drawn events: worlds whose events come from a seed. After a beginning that is the same for all, three
+//! words of a generator choose each event. And power failure after each event of such a world.
 #![tactic(auto)]
 
 mod choosing;

@@ -25,10 +25,10 @@ use std::io::{Read, Write};
 /// How the story of a run is told.
 #[derive(Clone, Copy)]
 pub enum Telling {
-    /// In lines for a reader, with long lists whole or cut.
-    Log(bool),
-    /// As one JSON value, with long lists whole or cut.
-    Json(bool),
+    /// In lines for a reader; long lists whole, where `whole` says so.
+    Log { whole: bool },
+    /// As one JSON value; likewise.
+    Json { whole: bool },
     /// As a page for a browser.
     Page,
     /// As a sequence diagram for Mermaid.
@@ -41,9 +41,9 @@ impl Telling {
     /// As `log` tells it, with or without its flags.
     pub(crate) fn of_log(json: bool, whole: bool) -> Telling {
         if json {
-            Telling::Json(whole)
+            Telling::Json { whole }
         } else {
-            Telling::Log(whole)
+            Telling::Log { whole }
         }
     }
 
@@ -145,8 +145,8 @@ fn verdict_of(stopped: Option<(usize, Code)>) -> Verdict
 /// The story as it is to be told.
 fn text_of(alloc: Global, story: &Story<'_>, telling: Telling) -> Result<String, AllocError> {
     match telling {
-        Telling::Log(whole) => log(alloc, story, whole),
-        Telling::Json(whole) => log_json(alloc, story, whole),
+        Telling::Log { whole } => log(alloc, story, whole),
+        Telling::Json { whole } => log_json(alloc, story, whole),
         Telling::Page => page(alloc, story),
         Telling::Mermaid => mermaid(alloc, story),
         Telling::History => history_lines(alloc, story.messages),
