@@ -18,4 +18,4 @@ returns-in-Ok-draw_steps-clause-events c =
 pub returns-in-Ok-draw_steps-clause-few : goal.returns-in-Ok-draw_steps-clause-few
 returns-in-Ok-draw_steps-clause-few c =
     let P : List Event → Type 0 = λ events. length events ≤ MAX_EVENTS in
-    subst P c.events.ensures.events c.events.ensures.few
+    subst P c.events-events.ensures.events c.events-events.ensures.few
