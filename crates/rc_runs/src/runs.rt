@@ -204,8 +204,8 @@ impl<A: Allocator + Clone> Run<A> {
     }
 
     /// The events of a scenario, one after another. Else the place of the one at which the run
-    /// stopped comes back, with the fault: F18 where it was not possible, F1 where memory was refused. The onlooker sees
-    /// what was sent after each event.
+    /// stopped comes back, with the fault: F18 where it was not possible, F1 where memory was refused. The onlooker
+    /// sees what was sent after each event.
     pub fn play_all<W: Onlooker>(
         &mut self,
         alloc: Global,
