@@ -16,7 +16,6 @@ pub mod laws;
 mod lines;
 mod mail;
 mod marks;
-mod onlookers;
 mod passing;
 pub mod recoveries;
 pub mod rolls;
@@ -25,6 +24,5 @@ pub mod worked;
 pub mod wrong;
 
 pub use mail::Mail;
-pub use onlookers::Onlooker;
 pub use passing::Passing;
 pub use runs::Run;

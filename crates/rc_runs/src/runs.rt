@@ -13,7 +13,6 @@ ghost use Rattle.rc_runs.specs.Runs.{one_event, scenario_event};
 ghost use Rattle.rc_runs.specs.Steps.{GoesOn, StopsIn, RunsThrough, StopsAt};
 
 use crate::mail::Mail;
-use crate::onlookers::Onlooker;
 use crate::passing::Passing;
 use rc_reading::ScenarioEvent;
 use rc_types::{Event, Fault, Message, Setup};
@@ -156,12 +155,7 @@ impl<A: Allocator + Clone> Run<A> {
 
     /// One pass over the messages. Where it stops, the messages before the one that could not be
     /// delivered are.
-    fn settle<W: Onlooker>(
-        &mut self,
-        alloc: Global,
-        passing: &Passing,
-        onlooker: &mut W,
-    ) -> Result<(), Fault>
+    fn settle(&mut self, alloc: Global, passing: &Passing) -> Result<(), Fault>
         ensures ok { OnOk result (GoesOn (λ most. settles most passing.now) self.old self.new) }
         ensures err { IfErr result (λ fault. StopsIn (λ most. settles most passing.now) fault self.old self.new) }
         ensures fault { IfErr result (λ fault. (fault ≡ OutOfMemory) ⊎ (fault ≡ BadEvent)) }
@@ -172,18 +166,12 @@ impl<A: Allocator + Clone> Run<A> {
         let mut from = 0;
         while let Some(number) = self.next_due(passing, from) {
             from = self.deliver(alloc, number)?;
-            onlooker.look(self.world.sent());
         }
         Ok(())
     }
 
     /// One event of a scenario.
-    fn play<W: Onlooker>(
-        &mut self,
-        alloc: Global,
-        event: &ScenarioEvent,
-        onlooker: &mut W,
-    ) -> Result<(), Fault>
+    fn play(&mut self, alloc: Global, event: &ScenarioEvent) -> Result<(), Fault>
         ensures ok { OnOk result (GoesOn (λ most world. scenario_event most world event.now) self.old self.new) }
         ensures err { IfErr result (λ fault. StopsIn (λ most world. scenario_event most world event.now) fault
             self.old self.new) }
@@ -198,29 +186,26 @@ impl<A: Allocator + Clone> Run<A> {
                     kinds: *kinds,
                     hosts: *hosts,
                 };
-                self.settle(alloc, &passing, onlooker)
+                self.settle(alloc, &passing)
             }
         }
     }
 
     /// The events of a scenario, one after another. Else the place of the one at which the run
-    /// stopped comes back, with the fault: F18 where it was not possible, F1 where memory was refused. The onlooker
-    /// sees what was sent after each event.
-    pub fn play_all<W: Onlooker>(
+    /// stopped comes back, with the fault: F18 where it was not possible, F1 where memory was refused.
+    pub fn play_all(
         &mut self,
         alloc: Global,
         events: &[ScenarioEvent],
-        onlooker: &mut W,
     ) -> Result<(), (usize, Fault)>
         ensures ok { OnOk result (RunsThrough events.now self.old self.new) }
         ensures err { IfErr result (λ stop. StopsAt events.now stop.0 stop.1 self.old self.new) }
         ensures fault { IfErr result (λ stop. (stop.1 ≡ OutOfMemory) ⊎ (stop.1 ≡ BadEvent)) }
     {
         for (place, event) in events.iter().enumerate() {
-            if let Err(fault) = self.play(alloc, event, onlooker) {
+            if let Err(fault) = self.play(alloc, event) {
                 return Err((place, fault));
             }
-            onlooker.look(self.world.sent());
         }
         Ok(())
     }

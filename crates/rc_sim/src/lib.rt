@@ -16,7 +16,6 @@ mod histories;
 mod narrating;
 mod outlets;
 mod playing;
-mod scales;
 mod seeking;
 mod shrinking;
 mod simulating;
