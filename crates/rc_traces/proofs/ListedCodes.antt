@@ -1,20 +1,17 @@
 -- Messages as their codes: what is added to them, and what is read back.
-use Rattle.std.proofs.Common.{◌≡◌, ℕ, ◌+◌, ◌-◌, ◌<◌, List, [], ◌∷◌, ◌++◌, length, Option, Some, None, Result, Ok, Err, refl, ap}
-use Rattle.std.proofs.Common.{◌∙◌, sym, arith, length-append, append_assoc, option_map, ap₂, ◌⊎◌, inl, inr}
-use Rattle.std.proofs.Common.{drop}
+use Rattle.std.proofs.Common.{◌≡◌, ℕ, ◌-◌, ◌<◌, List, [], ◌∷◌, ◌++◌, length, Option, Some, None, Result, Ok, Err}
+use Rattle.std.proofs.Common.{refl, ap, ap₂, ◌∙◌, sym, arith, length-append, append_assoc, option_map, ◌⊎◌, inl, inr, drop}
 use Rattle.std.proofs.Math.Seq.{drop-append_seam}
 use Rattle.std.specs.List.{flat_map}
 use Rattle.std.proofs.lemmas.List.{flat_map_more}
 use Rattle.serde_json.specs.Data.{Data}
 use Rattle.rc_types.specs.declared.messages.Message.{Message}
-use Rattle.rc_codec.specs.Claims.{IsFront, DecodesFront, BeginsWithNone}
+use Rattle.rc_codec.specs.Claims.{DecodesFront}
 use Rattle.rc_codec.specs.Spelling.{coded_message}
 use Rattle.rc_codec.specs.declared.faults.DecodeFault.{DecodeFault}
 use Rattle.rc_codec.specs.declared.faults.DecodeFault.TheVariants.{OutOfMemory, Malformed}
 use Rattle.rc_reading.specs.All.{each, placed, takes_placed}
-use Rattle.rc_traces.specs.declared.listed.Listed.{Listed}
-use Rattle.rc_traces.specs.declared.listed.Listed.TheVariants.{Coded, Wrong}
-use Rattle.rc_traces.specs.Codes.{codes_of}
+use Rattle.rc_traces.specs.declared.listed.Listed.TheVariants.{Coded}
 use Rattle.rc_traces.specs.Listed.{listed, one_more, takes_listed}
 
 -- What is added
