@@ -1,3 +1,2 @@
-pub mod AnswerLemmas
 pub mod PairLemmas
 pub mod TermLemmas

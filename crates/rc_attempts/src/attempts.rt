@@ -71,7 +71,7 @@ impl Decision {
     }
 
     /// The part of this term among those of this recovery master.
-    pub fn part_in(&self, id: ServerId, term: u32) -> Option<Part>
+    pub(crate) fn part_in(&self, id: ServerId, term: u32) -> Option<Part>
         ensures { result ≡ part_in id term (Some self.now) }
     {
         if self.rising {
@@ -201,7 +201,7 @@ impl Attempt {
     }
 
     /// The part of this term that was given to this recovery master.
-    pub fn part_in(&self, id: ServerId, term: u32) -> Option<Part>
+    pub(crate) fn part_in(&self, id: ServerId, term: u32) -> Option<Part>
         ensures { result ≡ part_in id term self.now.decided }
     {
         match &self.decided {

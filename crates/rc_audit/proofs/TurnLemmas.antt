@@ -141,7 +141,7 @@ taken_found order highs noted found finds turn key span bar is stands passed is_
 
 -- All turns, in sequence
 
--- each turn to come is after this one
+-- what all of a list are, each in it is
 in_all : (P : Turn → Type 0) (t : Turn) (ts : List Turn) → All P ts → In t ts → P t
 in_all P t [] all at = absurd at
 in_all P t (x ∷ ts) all (inl same) = subst P (sym same) (all 0 x (omega arith))

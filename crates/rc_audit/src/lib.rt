@@ -10,8 +10,9 @@
 #![tactic(auto)]
 
 ghost use Rattle.std.specs.Prelude.{◌≡◌, [], false, IfOk};
+ghost use Rattle.std.specs.Option.{option_or};
 ghost use Rattle.rc_model.specs.Recovered.{accepted};
-ghost use Rattle.rc_model.specs.Breach.{breach, or_else, missing_of, invented_of};
+ghost use Rattle.rc_model.specs.Breach.{breach, missing_of, invented_of};
 
 mod bars;
 mod circles;
@@ -75,8 +76,8 @@ pub fn audit(alloc: Global, messages: &[Message]) -> Result<Option<Breach>, Allo
 /// The first breach of a recovery: a write that is missing, or else a place that is invented. What was sent is sorted
 /// only where there is a recovery.
 fn lost_or_invented(alloc: Global, messages: &[Message]) -> Result<Option<Breach>, AllocError>
-    ensures { IfOk result (λ found. found ≡
-        or_else (missing_of messages.now (accepted messages.now)) (invented_of messages.now (accepted messages.now))) }
+    ensures { IfOk result (λ found. found ≡ option_or (missing_of messages.now (accepted messages.now))
+        (invented_of messages.now (accepted messages.now))) }
 {
     if !has_recovery(messages) {
         return Ok(None);

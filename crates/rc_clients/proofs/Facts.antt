@@ -9,11 +9,13 @@ use Rattle.std.specs.BTreeMap.{BTreeMap, get, is_at}
 use Rattle.std.specs.Prelude.{nat_lt, slice_get, option_and_then}
 use Rattle.std.proofs.lemmas.Bool.Decides.{nat_tests}
 use Rattle.std.proofs.lemmas.Option.{slice_get_within}
-use Rattle.rc_clients.specs.declared.events.Request.TheVariants as request
+use Rattle.rc_clients.specs.declared.events.Request.{Request}
 use Rattle.rc_clients.specs.declared.events.ClientEvent.{ClientEvent}
 use Rattle.rc_clients.specs.declared.events.ClientEvent.TheVariants.{Invoked, Written, Shown, Failed}
+use Rattle.rc_clients.specs.declared.operations.Kind.{Kind}
+use Rattle.rc_clients.specs.declared.operations.Kind.TheVariants as kind
 use Rattle.rc_clients.specs.declared.operations.Operation.{Operation}
-use Rattle.rc_clients.specs.Operations.{answered_by, operation_at, write_by, read_by, IsOperation}
+use Rattle.rc_clients.specs.Operations.{asks_for, operation_of, answered_by, operation_at, IsOperation}
 use Rattle.rc_clients.specs.Evidence.{key_at, key_in, key_of}
 
 -- what is known of the operation that is answered at a moment
@@ -38,41 +40,33 @@ told history moment op e = by (slice_get history moment) e
     under : (i : ℕ) → nat_lt i moment ≡ true → i < moment
     under i t = grind (arith, nat_tests)
 
-    write : (i v : ℕ) (b : Bool) → nat_lt i moment ≡ b → (asked : Option ClientEvent) → slice_get history i ≡ asked →
-        cond b (option_and_then (write_by i moment v) asked) None ≡ Some op → IsTold history moment op
-    write i v false t asked s e = cc
-    write i v true t None s e = cc
-    write i v true t (Some (Invoked table key (request.Write value))) s e =
+    asked : (k : Kind) (i v table key : ℕ) (request : Request) (b : Bool) →
+        slice_get history i ≡ Some (Invoked table key request) → i < moment →
+        cond b (Some (record { kind = k; table = table; key = key; version = v; invocation = i; response = moment })) None ≡
+        Some op → IsTold history moment op
+    asked k i v table key request false s below e = cc
+    asked k i v table key request true s below e =
         subst (λ o. IsTold history moment o) (some_same _ op e) (record {
           response_is = refl;
-          asked_before = under i t;
-          key_is = key_asked history i (Invoked table key (request.Write value)) s;
+          asked_before = below;
+          key_is = key_asked history i (Invoked table key request) s;
         })
-    write i v true t (Some (Invoked table key request.Read)) s e = cc
-    write i v true t (Some (Written a b)) s e = cc
-    write i v true t (Some (Shown a b c)) s e = cc
-    write i v true t (Some (Failed a)) s e = cc
 
-    read : (i v : ℕ) (b : Bool) → nat_lt i moment ≡ b → (asked : Option ClientEvent) → slice_get history i ≡ asked →
-        cond b (option_and_then (read_by i moment v) asked) None ≡ Some op → IsTold history moment op
-    read i v false t asked s e = cc
-    read i v true t None s e = cc
-    read i v true t (Some (Invoked table key request.Read)) s e =
-        subst (λ o. IsTold history moment o) (some_same _ op e) (record {
-          response_is = refl;
-          asked_before = under i t;
-          key_is = key_asked history i (Invoked table key request.Read) s;
-        })
-    read i v true t (Some (Invoked table key (request.Write value))) s e = cc
-    read i v true t (Some (Written a b)) s e = cc
-    read i v true t (Some (Shown a b c)) s e = cc
-    read i v true t (Some (Failed a)) s e = cc
+    answers : (k : Kind) (i v : ℕ) (b : Bool) → nat_lt i moment ≡ b → (event : Option ClientEvent) → slice_get history i ≡ event →
+        cond b (option_and_then (operation_of k i moment v) event) None ≡ Some op → IsTold history moment op
+    answers k i v false t event s e = cc
+    answers k i v true t None s e = cc
+    answers k i v true t (Some (Invoked table key request)) s e =
+        asked k i v table key request (asks_for k request) s (under i t) e
+    answers k i v true t (Some (Written a b)) s e = cc
+    answers k i v true t (Some (Shown a b c)) s e = cc
+    answers k i v true t (Some (Failed a)) s e = cc
 
     by : (o : Option ClientEvent) → option_and_then (answered_by history moment) o ≡ Some op → IsTold history moment op
     by None e = cc
     by (Some (Invoked table key request)) e = cc
-    by (Some (Written i v)) e = write i v (nat_lt i moment) refl (slice_get history i) refl e
-    by (Some (Shown i v x)) e = read i v (nat_lt i moment) refl (slice_get history i) refl e
+    by (Some (Written i v)) e = answers kind.Write i v (nat_lt i moment) refl (slice_get history i) refl e
+    by (Some (Shown i v x)) e = answers kind.Read i v (nat_lt i moment) refl (slice_get history i) refl e
     by (Some (Failed i)) e = cc
 
 -- an operation stands within its history

@@ -29,7 +29,7 @@ pub use events::{ClientEvent, Request};
 pub use judging::{Violation, check, violations_refute};
 pub use lines::LineFault;
 pub use messages::{History, history_of};
-pub use operations::{Kind, Operation, operation_at};
+pub use operations::{Kind, Operation};
 pub use reading::{HistoryFault, ReadHistory, read_history};
 pub use telling::judgement_text;
 pub use writing::history_text;

@@ -15,6 +15,18 @@ pub enum Kind {
     Read,
 }
 
+impl Kind {
+    /// Whether the request is of this kind.
+    fn is_of(self, request: &Request) -> bool
+        ensures { result ≡ spec.asks_for self request.now }
+    {
+        match (self, request) {
+            (Kind::Write, Request::Write(_)) | (Kind::Read, Request::Read) => true,
+            _ => false,
+        }
+    }
+}
+
 /// An operation that was answered.
 #[derive(Clone, Copy)]
 pub struct Operation {
@@ -34,32 +46,32 @@ pub struct Operation {
 
 /// The operation that the event at this moment answers, if it answers one whose invocation stands before it.
 #[tactic(auto, unfolding(crate::specs::Operations::operation_at))]
-pub fn operation_at(history: &[ClientEvent], moment: usize) -> Option<Operation>
+pub(crate) fn operation_at(history: &[ClientEvent], moment: usize) -> Option<Operation>
     ensures { result ≡ spec.operation_at history.now moment }
 {
     match history.get(moment)? {
         ClientEvent::Written {
             invocation,
             version,
-        } => write_by(history, *invocation, moment, *version),
+        } => answered(history, Kind::Write, *invocation, moment, *version),
         ClientEvent::Shown {
             invocation,
             version,
             ..
-        } => read_by(history, *invocation, moment, *version),
+        } => answered(history, Kind::Read, *invocation, moment, *version),
         _ => None,
     }
 }
 
-/// The write of this invocation, which got this version.
-fn write_by(
+/// The operation of this kind and of this invocation, if that stands before the response, which tells this version.
+fn answered(
     history: &[ClientEvent],
+    kind: Kind,
     invocation: usize,
     response: usize,
     version: u64,
 ) -> Option<Operation>
-    ensures { result ≡ (if nat_lt invocation response then
-        option_and_then (spec.write_by invocation response version) (slice_get history.now invocation) else None) }
+    ensures { result ≡ spec.answered history.now kind invocation response version }
 {
     if invocation >= response {
         return None;
@@ -68,39 +80,9 @@ fn write_by(
         ClientEvent::Invoked {
             table,
             key,
-            request: Request::Write(_),
-        } => Some(Operation {
-            kind: Kind::Write,
-            table: *table,
-            key: *key,
-            version,
-            invocation,
-            response,
-        }),
-        _ => None,
-    }
-}
-
-/// The read of this invocation, which showed this version.
-fn read_by(
-    history: &[ClientEvent],
-    invocation: usize,
-    response: usize,
-    version: u64,
-) -> Option<Operation>
-    ensures { result ≡ (if nat_lt invocation response then
-        option_and_then (spec.read_by invocation response version) (slice_get history.now invocation) else None) }
-{
-    if invocation >= response {
-        return None;
-    }
-    match history.get(invocation)? {
-        ClientEvent::Invoked {
-            table,
-            key,
-            request: Request::Read,
-        } => Some(Operation {
-            kind: Kind::Read,
+            request,
+        } if kind.is_of(request) => Some(Operation {
+            kind,
             table: *table,
             key: *key,
             version,
@@ -113,7 +95,7 @@ fn read_by(
 
 /// What an operation wrote or showed.
 #[tactic(auto, unfolding(crate::specs::Operations::value_of))]
-pub fn value_of<'a>(history: &'a [ClientEvent], operation: &Operation) -> Option<&'a [u8]>
+pub(crate) fn value_of<'a>(history: &'a [ClientEvent], operation: &Operation) -> Option<&'a [u8]>
     ensures { option_map (λ s. s.now) result ≡ spec.value_of history.now operation.now }
 {
     let moment = match operation.kind {

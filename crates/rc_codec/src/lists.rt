@@ -139,6 +139,7 @@ impl<T: Take + Drop> Take for Shared<T> {
         let (count, rest) = usize::take(alloc, bytes)?;
         let (items, rest) = take_each(alloc, count, rest)?;
         if items.is_empty() {
+            // an empty list takes no memory
             return Ok((Shared::empty(), rest));
         }
         Ok((Shared::from_vec(alloc, items)?, rest))

@@ -3,7 +3,7 @@
 ghost use Rattle.std.specs.Prelude.{◌≡◌, ◌≢◌, ◌↔◌, Some, None, true, false, map, codes, string_bytes, IfOk};
 ghost use Rattle.std.specs.Prelude.{option_map, MatchResult, option_and_then, List, ℕ, ◌≤◌};
 ghost use Rattle.clap.specs.Faults.{fault_of};
-ghost use Rattle.clap.specs.Words.{app_of, found_of, kind_of, rows_of, subcommand_rows_of};
+ghost use Rattle.clap.specs.Words.{found_of, kind_of, rows_of, subcommand_rows_of};
 ghost use Rattle.rc_commands.specs.Asking.{IsInRange, Tells, as_command, asked_in, asks_for_text, audit_in};
 ghost use Rattle.rc_commands.specs.Asking.{command_in, drawn_in, explain_in, explained_in, explore_in, fuzz_in};
 ghost use Rattle.rc_commands.specs.Asking.{fuzz_line, heap_line, is_alone, is_plain, is_request, is_text, named_in};

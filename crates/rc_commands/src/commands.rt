@@ -1,6 +1,6 @@
 //! The program's commands and their options, for `clap`.
 
-ghost use Rattle.std.specs.Prelude.{◌≡◌, IfOk, codes, false};
+ghost use Rattle.std.specs.Prelude.{◌≡◌, IfOk, false};
 ghost use Rattle.clap.specs.Words.{App, app_of, new_app, rule_of, with_subcommand};
 ghost use Rattle.rc_commands.specs.Commands as spec;
 ghost use Rattle.rc_commands.specs.Commands.{IsBuiltAs, ramseg};

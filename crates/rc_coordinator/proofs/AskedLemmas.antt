@@ -8,7 +8,8 @@ use Rattle.std.proofs.lemmas.Bool.Decides.{nat_tests}
 use Rattle.std.proofs.lemmas.Option.{slice_get_within, slice_get-get_or, none-some, same_Some}
 use Rattle.std.proofs.lemmas.List.{length-append}
 use Rattle.std.proofs.lemmas.List.Folds.{list_any-append}
-use Rattle.rc_model.specs.Model.{ServerId, Grant, Row, same_id, up, GivenPart, Decision, Attempt, new_attempt, is_undecided, is_gathering}
+use Rattle.std.specs.Prelude.{is_none}
+use Rattle.rc_model.specs.Model.{ServerId, Grant, Row, same_id, up, GivenPart, Decision, Attempt, new_attempt, is_gathering}
 use Rattle.rc_model.specs.Model.{parts_of, plan_messages, attempt_at, is_current, with_answer, is_granted_term, asks_again, asks_again_of}
 use Rattle.rc_model.specs.Coordinator.{Coordinator}
 use Rattle.rc_model.specs.CoordinatorStep as step
@@ -224,7 +225,7 @@ pub answered-waits : {T E : Type 0} (result : Result T E) (current : Current) (g
 answered-waits (Ok value) current grants number was changed from rows ok err e = ap (waits current grants number) (sym ok) ∙ e
 answered-waits (Err fault) current grants number was changed from rows ok err e = ap (waits current grants number) (sym err) ∙ e
 
-undecided-open : (grants : List Grant) (decided : Option Decision) → is_undecided decided ≡ true → is_open grants decided ≡ true
+undecided-open : (grants : List Grant) (decided : Option Decision) → is_none decided ≡ true → is_open grants decided ≡ true
 undecided-open grants None e = refl
 undecided-open grants (Some decision) e = absurd (true≢false (sym e))
 

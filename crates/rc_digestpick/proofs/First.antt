@@ -3,7 +3,9 @@ use Rattle.std.proofs.Common.{◌≡◌, ℕ, ◌+◌, ◌<◌, Bool, cond, List
 use Rattle.std.proofs.Common.{length, get_or, refl, sym, ap, ◌∙◌, append_assoc}
 use Rattle.std.proofs.lemmas.List.{take_more}
 use Rattle.std.proofs.lemmas.List.Elements.{filter-append}
-use Rattle.rc_model.specs.Model.{ServerId, Row, HeldRow, rows_of, held_rows, first_by, first_by_from}
+use Rattle.std.specs.List.{fold}
+use Rattle.rc_model.specs.Pick.{better}
+use Rattle.rc_model.specs.Model.{ServerId, Row, HeldRow, rows_of, held_rows, first_by}
 use Rattle.rc_digestpick.specs.Held.{first_after}
 
 pub rows_of-append : (holder : ServerId) (xs ys : List Row) → rows_of holder (xs ++ ys) ≡ rows_of holder xs ++ rows_of holder ys
@@ -16,7 +18,7 @@ held_rows-append (x ∷ xs) ys =
     ap (λ rows. rows_of x.0 x.1 ++ rows) (held_rows-append xs ys) ∙ sym (append_assoc (rows_of x.0 x.1) (held_rows xs) (held_rows ys))
 
 pub first_by_from-append : (before : HeldRow → HeldRow → Bool) (best : HeldRow) (xs ys : List HeldRow) →
-    first_by_from before best (xs ++ ys) ≡ first_by_from before (first_by_from before best xs) ys
+    fold (better before) best (xs ++ ys) ≡ fold (better before) (fold (better before) best xs) ys
 first_by_from-append before best [] ys = refl
 first_by_from-append before best (x ∷ xs) ys = first_by_from-append before (cond (before x best) x best) xs ys
 

@@ -1,7 +1,9 @@
 -- A row where it lies, as `rc_model` sees it, and the first of some rows after others.
 use Rattle.std.specs.Prelude.{ℕ, Bool, List, filter, Option, Some, None}
+use Rattle.std.specs.List.{fold}
+use Rattle.rc_model.specs.Pick.{better}
 use Rattle.rc_types.specs.declared.ids.Pair.{Pair}
-use Rattle.rc_model.specs.Pick.{HeldRow, first_by, first_by_from, head_first, closed_first, is_open_valid, is_valid_of}
+use Rattle.rc_model.specs.Pick.{HeldRow, first_by, head_first, closed_first, is_open_valid, is_valid_of}
 use Rattle.rc_digestpick.specs.declared.held.Held.{Held}
 
 -- the row itself, with its backup
@@ -11,7 +13,7 @@ held_row held = record { holder = held.holder; row = held.row.now }
 -- the first of the best so far and of these rows
 abbrev pub first_after : (HeldRow → HeldRow → Bool) → Option HeldRow → List HeldRow → Option HeldRow
 first_after before None rows = first_by before rows
-first_after before (Some best) rows = Some (first_by_from before best rows)
+first_after before (Some best) rows = Some (fold (better before) best rows)
 
 -- the head row of the best so far and of these rows; not the first open segment of a log, which has this name in the
 -- rules that a master follows up with

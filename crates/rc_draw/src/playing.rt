@@ -40,7 +40,7 @@ pub(crate) fn play(
 ) -> Result<(), AllocError>
     ensures { OnOk result (replayed run.new ≡ played (replayed run.old) events.now) }
 {
-    match run.play_all(alloc, events) {
+    match run.play_all(alloc, events, &mut ()) {
         Ok(()) => {
             let _world = run.world();
             Ok(())

@@ -25,11 +25,12 @@ use Rattle.rc_keeping.proofs.Loaded.{loaded-is-same}
 use Rattle.rc_files.specs.Standing.{works_at, AllWritten, node_next, node_given, FilesMakeAnew}
 use Rattle.rc_files.specs.Standing.{OneMoreIsWritten, FewerStandForFewer, StopsMakeEqual, SavesStandForAll}
 use Rattle.rc_history.specs.Remade.{stopped}
-use Rattle.rc_model.specs.Nodes.{is_some_master, server_of}
+use Rattle.rc_model.specs.Nodes.{server_of}
 use Rattle.rc_model.specs.Master.{Master}
 use Rattle.rc_types.specs.declared.ids.ServerId.{ServerId}
 use Rattle.std.proofs.Common.{Option, Some, None, append_assoc}
 use Rattle.std.proofs.lemmas.List.{append-nil}
+use Rattle.std.specs.Prelude.{is_some}
 use Rattle.rc_keeping.proofs.ComingBack.{refusals-come-back}
 
 apart : (b : Bool) (x y : HostNode) → cond b (TheHost x) (TheHost y) ≡ TheHost (cond b x y)
@@ -181,7 +182,7 @@ one-more-is-written setup name saved before works journal node given stands same
 
 -- A stop
 
-stops-both : (base : HostNode) (one other : Option Master) → is_some_master one ≡ is_some_master other →
+stops-both : (base : HostNode) (one other : Option Master) → is_some one ≡ is_some other →
     node_after (TheHost (record base { master = one })) (stops (TheHost (record base { master = one })))
     ≡ node_after (TheHost (record base { master = other })) (stops (TheHost (record base { master = other })))
 stops-both base None None both = refl

@@ -1,11 +1,11 @@
 -- Segments whose lost members nobody of a list can replace.
 use Rattle.std.proofs.Common.{◌≡◌, ◌⊎◌, inl, inr, ℕ, Bool, true, false, cond, not, ◌||◌, List, [], ◌∷◌, map, filter, Option}
-use Rattle.std.proofs.Common.{Some, None, is_none, Result, Ok, Err, OnOk, is_ok, refl, ap, sym, ◌∙◌}
+use Rattle.std.proofs.Common.{Some, None, is_none, option_map, option_and_then, Result, Ok, Err, OnOk, is_ok, refl, ap, sym, ◌∙◌}
 use Rattle.std.proofs.Math.Path.{fun_ext}
 use Rattle.std.proofs.lemmas.Bool.{and_parts, and_from, cond_both, false≢true}
 use Rattle.rc_types.specs.declared.faults.Fault.TheVariants.{OutOfMemory}
 use Rattle.rc_model.specs.Model.{ServerId, Member, Fault, NoBackups, ServerList, has_crashed, Config, told_with, told_if_heard, is_heard}
-use Rattle.rc_model.specs.Model.{lost_if_crashed, with_lost, staying, first_free, and_then, substitutes, substitutes_for, candidates}
+use Rattle.rc_model.specs.Model.{lost_if_crashed, with_lost, staying, first_free, substitutes, substitutes_for, candidates}
 use Rattle.rc_model.specs.Model.{refills_with, refill, lose, Segment, Log, refills, opens_change, loses}
 use Rattle.rc_headroll.specs.Watching.{are_marked, is_helpless}
 use Rattle.rc_headroll.proofs.ConcernedLemmas.{config-same}
@@ -55,7 +55,8 @@ module _ (from : ServerId) (len : ℕ) (closed : Bool) where
   substitutes-told ids taken [] = refl
   substitutes-told ids taken (member ∷ members) =
       let same = ap (λ (found : List ServerId → Option (List ServerId)).
-      cond member.lost (and_then (first_free ids taken) (λ id. found (id ∷ taken))) (found taken))
+      cond member.lost
+      (option_and_then (λ id. option_map (λ rest. id ∷ rest) (found (id ∷ taken))) (first_free ids taken)) (found taken))
       (fun_ext (λ (others : List ServerId). substitutes-told ids others members)) in
       either-way member (λ m. substitutes ids taken (m ∷ tells members) ≡ substitutes ids taken (member ∷ members)) same same
 

@@ -21,7 +21,7 @@ use std::alloc::{AllocError, Global};
 impl LogHead {
     /// Why nothing can be appended, if so: F3 where the phase isn't Writing, or the head is full and
     /// not the last segment; F6 where the last segment is full.
-    pub fn append_fault(&self) -> Option<Fault>
+    pub(crate) fn append_fault(&self) -> Option<Fault>
         ensures { result ≡ append_fault (log_of self.now) }
     {
         if !self.is_writing() {

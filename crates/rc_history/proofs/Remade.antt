@@ -1,8 +1,9 @@
 -- A node is made anew from what was kept of its works.
 use Rattle.std.proofs.Common.{◌≡◌, Bool, true, false, cond, List, [], ◌∷◌, filter, Option, Some, None, refl, sym, ap, ◌∙◌, subst}
+use Rattle.std.specs.Prelude.{is_some}
 use Rattle.rc_model.specs.Model.{Addr, Server, Outside, Message, Body, Fetch, is_server, Backup, backup_takes, Master, master_takes, Work}
 use Rattle.rc_model.specs.Model.{Take, Create, Split, HostNode, host_step, coordinator_step, is_for_backup, with_backup, with_master}
-use Rattle.rc_model.specs.Model.{server_takes, server_of, takes_if_running, ticks_if_running, is_some_master, host_after}
+use Rattle.rc_model.specs.Model.{server_takes, server_of, takes_if_running, ticks_if_running, host_after}
 use Rattle.rc_model.specs.Model.{coordinator_after}
 use Rattle.rc_types.specs.declared.ids.Addr.TheVariants.{Coordinator as AtCoordinator}
 use Rattle.rc_model.specs.Coordinator.{Coordinator}
@@ -42,7 +43,7 @@ server-unkept host master message running unkept =
           ap (λ (b : Backup). stopped (record host { backup = b }))
           (unkept-backup host.backup message.from message.body unkept for_backup);
     })
-    (λ _. record { runs = sym (ap is_some_master running); rest = refl })
+    (λ _. record { runs = sym (ap is_some running); rest = refl })
 
 takes-unkept : (host : HostNode) (running : Option Master) (message : Message) → host.master ≡ running →
     changes_backup message.body ≡ false →
@@ -54,7 +55,7 @@ takes-unkept host (Some master) message is unkept =
 
 ticks-unkept : (host : HostNode) (running : Option Master) → host.master ≡ running → SameButMaster (ticks_if_running host running).0 host
 ticks-unkept host None is = same-same host
-ticks-unkept host (Some master) is = record { runs = sym (ap is_some_master is); rest = refl }
+ticks-unkept host (Some master) is = record { runs = sym (ap is_some is); rest = refl }
 
 step-unkept : (host : HostNode) (work : Work) → host_keeps work ≡ false → SameButMaster (host_step host work).0 host
 step-unkept host (Take message) unkept = takes-unkept host host.master message refl unkept
@@ -107,7 +108,7 @@ running-same host one other (Decide id) = record { runs = refl; rest = refl }
 running-same host one other (Create table owner) = record { runs = refl; rest = refl }
 running-same host one other (Split table at) = record { runs = refl; rest = refl }
 
-either-same : (host : HostNode) (one other : Option Master) (work : Work) → is_some_master one ≡ is_some_master other →
+either-same : (host : HostNode) (one other : Option Master) (work : Work) → is_some one ≡ is_some other →
     SameButMaster (host_step (record host { master = one }) work).0 (host_step (record host { master = other }) work).0
 either-same host None None work both = same-same (host_step (record host { master = None }) work).0
 either-same host None (Some other) work both = true_false (sym both)

@@ -1,9 +1,10 @@
 -- A node comes back from what it keeps, whatever of it is refused.
 use Rattle.std.specs.Prelude.{◌&&◌, nat_lt}
 use Rattle.std.proofs.Common.{◌≡◌, ℕ, Bool, true, false, cond, List, [], ◌∷◌, filter, Option, Some, None, refl, sym, ap, ◌∙◌, subst}
+use Rattle.std.specs.Prelude.{is_some}
 use Rattle.rc_model.specs.Model.{Server, ServerId, MAX_HOSTS, Message, is_server, backup_takes, Master, master_takes, HostNode}
 use Rattle.rc_model.specs.Model.{coordinator_step, server_of, runs, is_for_backup, with_backup, with_master, server_takes}
-use Rattle.rc_model.specs.Model.{takes_if_running, is_some_master}
+use Rattle.rc_model.specs.Model.{takes_if_running}
 use Rattle.rc_model.specs.Coordinator.{Coordinator}
 use Rattle.rc_model.specs.Works.{host_after as after_all}
 use Rattle.rc_model.proofs.Tests.{either, true_false}
@@ -65,7 +66,7 @@ running-same host one other (work.Decide id) = record { runs = refl; rest = refl
 running-same host one other (work.Create table owner) = record { runs = refl; rest = refl }
 running-same host one other (work.Split table at) = record { runs = refl; rest = refl }
 
-either-same : (host : HostNode) (one other : Option Master) (given : NodeWork) → is_some_master one ≡ is_some_master other →
+either-same : (host : HostNode) (one other : Option Master) (given : NodeWork) → is_some one ≡ is_some other →
     SameButMaster (host_after_work (record host { master = one }) given).0 (host_after_work (record host { master = other }) given).0
 either-same host None None given both = same-same (host_after_work (record host { master = None }) given).0
 either-same host None (Some other) given both = true_false (sym both)

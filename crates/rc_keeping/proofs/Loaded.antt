@@ -3,7 +3,8 @@
 use Rattle.std.proofs.Common.{◌≡◌, ◌<◌, ◌≤◌, Bool, true, false, cond, Some, None, List, [], ◌∷◌}
 use Rattle.std.proofs.Common.{◌++◌, drop, ℕ, refl, sym, ap, ◌∙◌, subst, arith}
 use Rattle.std.proofs.lemmas.List.{drop_at}
-use Rattle.rc_model.specs.Model.{Master, new_master, is_some_master, runs}
+use Rattle.std.specs.Prelude.{is_some}
+use Rattle.rc_model.specs.Model.{Master, new_master, runs}
 use Rattle.rc_history.specs.Remade.{SameButMaster}
 use Rattle.rc_coordinator.specs.Book.{Book, coordinator_of}
 use Rattle.rc_world.specs.HostView.{HostData, host_of}
@@ -21,7 +22,7 @@ use Rattle.rc_keeping.specs.Saved.{Saved, HostSave, CoordinatorSave, saved_of, n
 use Rattle.rc_keeping.specs.SaveClaims.{IsLoaded, SavesAreNoRecords, LoadedIsSame, LoadedGoesOn, HostsComeBack}
 use Rattle.rc_keeping.specs.SaveClaims.{LoadedIsTheSaved, CoordinatorsComeBack}
 
-runs-where : (b : Bool) (master : Master) → is_some_master (cond b (Some master) None) ≡ b
+runs-where : (b : Bool) (master : Master) → is_some (cond b (Some master) None) ≡ b
 runs-where true master = refl
 runs-where false master = refl
 

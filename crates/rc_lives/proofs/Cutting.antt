@@ -4,6 +4,7 @@ use Rattle.std.proofs.Common.{filter}
 use Rattle.std.proofs.Common.{take, nat_le, nat_lt, Option, Some, None, refl, sym, ap, ◌∙◌, subst, arith, length-append}
 use Rattle.std.proofs.lemmas.List.{take_at, take_all, take-append-le}
 use Rattle.std.proofs.lemmas.Bool.{leb-true, leb-false, le-leb, lt-leb, and_parts, and_right}
+use Rattle.std.specs.Prelude.{is_some}
 use Rattle.rc_types.specs.declared.messages.Message.{Message}
 use Rattle.rc_types.specs.declared.messages.Body.{Body}
 use Rattle.rc_types.specs.declared.limits.TheConstants.{MAX_HOSTS}
@@ -11,7 +12,6 @@ use Rattle.rc_model.specs.MasterStep.{master_ticks}
 use Rattle.rc_model.specs.Model.{Backup, Master, master_takes, backup_takes, is_server, Work, Take, Create, Split, HostNode, host_step}
 use Rattle.rc_model.specs.Model.{host_can}
 use Rattle.rc_model.specs.Model.{is_for_backup, with_backup, with_master, server_takes, server_of, Fetch, takes_if_running}
-use Rattle.rc_model.specs.Model.{is_some_master}
 use Rattle.rc_model.specs.Nodes.{Ask, Tick, Stop, Start, Suspect, Decide, runs, is_running_at}
 use Rattle.rc_model.specs.World.{NodeName, TheHost}
 use Rattle.rc_model.proofs.Tests.{either, true_false}
@@ -41,12 +41,12 @@ server-runs host m message is =
     either (λ after. runs after.0 ≡ true) (is_for_backup message.body)
     (with_backup host (backup_takes host.backup message.from message.body))
     (with_master host (master_takes m message.from message.body))
-    (λ _. ap is_some_master is) (λ _. refl)
+    (λ _. ap is_some is) (λ _. refl)
 
 takes-runs : (host : HostNode) (running : Option Master) (message : Message) → host.master ≡ running →
     runs (takes_if_running host running message).0 ≡ true → runs host ≡ true
 takes-runs host None message is so = so
-takes-runs host (Some m) message is so = ap is_some_master is
+takes-runs host (Some m) message is so = ap is_some is
 
 runs-before : (host : HostNode) (work : Work) → is_start work ≡ false → runs (host_step host work).0 ≡ true → runs host ≡ true
 runs-before host (Take message) plain so = takes-runs host host.master message refl so
@@ -55,7 +55,7 @@ runs-before host (Tick addr) plain so = by host.master refl so
     by : (running : Option Master) → host.master ≡ running → runs (host_step (record host { master = running }) (Tick addr)).0
         ≡ true → runs host ≡ true
     by None is so = true_false (sym so)
-    by (Some m) is so = ap is_some_master is
+    by (Some m) is so = ap is_some is
 runs-before host (Stop id) plain so = true_false (sym so)
 runs-before host (Start kept) plain so = true_false plain
 runs-before host (Ask to body) plain so = so

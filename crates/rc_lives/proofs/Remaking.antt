@@ -2,11 +2,12 @@
 use Rattle.std.proofs.Common.{◌≡◌, ℕ, true, false, List, [], ◌∷◌, filter, Option}
 use Rattle.std.proofs.Common.{Some, None}
 use Rattle.std.proofs.Common.{refl, sym, ap, ◌∙◌, subst}
+use Rattle.std.specs.Prelude.{is_some}
 use Rattle.rc_types.specs.declared.events.Setup.{Setup}
 use Rattle.rc_types.specs.declared.messages.Message.{Message}
 use Rattle.rc_model.specs.Model.{Master, master_takes, backup_takes, is_server, Work, Take, Create, Split, HostNode, host_step}
 use Rattle.rc_model.specs.Model.{is_for_backup, with_backup, with_master, server_takes, server_of, takes_if_running, ticks_if_running}
-use Rattle.rc_model.specs.Model.{is_some_master, host_after, coordinator_after, coordinator_step}
+use Rattle.rc_model.specs.Model.{host_after, coordinator_after, coordinator_step}
 use Rattle.rc_model.specs.Coordinator.{Coordinator, new_coordinator}
 use Rattle.rc_model.specs.Nodes.{Ask, Tick, Stop, Start, Suspect, Decide, runs, new_host, master_setup}
 use Rattle.rc_model.specs.World.{NodeName, TheOutside, TheCoordinator, TheHost}
@@ -43,11 +44,11 @@ takes-runs host (Some m) message is =
     either (λ after. runs after.0 ≡ runs host) (is_server (server_of host) message.to) (server_takes host m message) (host, [])
     (λ _. either (λ after. runs after.0 ≡ runs host) (is_for_backup message.body)
     (with_backup host (backup_takes host.backup message.from message.body))
-    (with_master host (master_takes m message.from message.body)) (λ _. refl) (λ _. sym (ap is_some_master is))) (λ _. refl)
+    (with_master host (master_takes m message.from message.body)) (λ _. refl) (λ _. sym (ap is_some is))) (λ _. refl)
 
 ticks-runs : (host : HostNode) (running : Option Master) → host.master ≡ running → runs (ticks_if_running host running).0 ≡ runs host
 ticks-runs host None is = refl
-ticks-runs host (Some m) is = sym (ap is_some_master is)
+ticks-runs host (Some m) is = sym (ap is_some is)
 
 abbrev RestsZero : Life → Type 0
 RestsZero life = node_runs life.node ≡ false → life.started ≡ 0
@@ -100,7 +101,7 @@ pub record Ends (name : NodeName) (one other : Life) : Type 0 where
   pub deeds : stop_deeds name one (stops one.node) ≡ stop_deeds name other (stops other.node)
 
 ends-both : (name : NodeName) (base : HostNode) (one other : Option Master) (journal : List Work) (started : ℕ) →
-    is_some_master one ≡ is_some_master other → (is_some_master other ≡ false → started ≡ 0) →
+    is_some one ≡ is_some other → (is_some other ≡ false → started ≡ 0) →
     Ends name (record { node = node.TheHost (record base { master = one }); journal = journal; started = 0 })
     (record { node = node.TheHost (record base { master = other }); journal = journal; started = started })
 ends-both name base None None journal started both zero = record {

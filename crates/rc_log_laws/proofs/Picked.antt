@@ -2,8 +2,10 @@
 use Rattle.std.proofs.Common.{◌≡◌, ◌⊎◌, ℕ, Bool, true, false, cond, not, List, [], ◌∷◌, filter, nat_eq, Option}
 use Rattle.std.proofs.Common.{Some, None, Result, Ok, Err, refl, sym, ap, ◌∙◌, subst, inl, inr}
 use Rattle.std.proofs.lemmas.Bool.{eqb-true, and_parts, not-true}
+use Rattle.std.specs.List.{fold}
+use Rattle.rc_model.specs.Pick.{better}
 use Rattle.rc_model.specs.Model.{ServerId, Pair, Row, PlanRow, Fault, HeldRow, rows_of, held_rows, is_valid, is_open_valid, is_valid_of}
-use Rattle.rc_model.specs.Model.{head_first, closed_first, first_by_from, first_by, head_row, row_of, ascending, plan_row}
+use Rattle.rc_model.specs.Model.{head_first, closed_first, first_by, head_row, row_of, ascending, plan_row}
 use Rattle.rc_model.specs.Model.{taken_row, row_then, taken_rows, plan_of, pick_by, pick, In}
 use Rattle.rc_types.specs.declared.rows.Plan.{Plan}
 use Rattle.rc_model.proofs.Members.{In-append, In-filter}
@@ -13,14 +15,14 @@ use Rattle.rc_model.proofs.Tests.{either}
 -- The first by an order is one of the list
 
 first_by_from-in : (before : HeldRow → HeldRow → Bool) (best : HeldRow) (rows : List HeldRow) →
-    In (first_by_from before best rows) (best ∷ rows)
+    In (fold (better before) best rows) (best ∷ rows)
 first_by_from-in before best [] = inl refl
 first_by_from-in before best (row ∷ rows) =
-    either (λ next. (next ≡ best) ⊎ (next ≡ row) → In (first_by_from before next rows) (best ∷ row ∷ rows)) (before row best) row best
+    either (λ next. (next ≡ best) ⊎ (next ≡ row) → In (fold (better before) next rows) (best ∷ row ∷ rows)) (before row best) row best
     (λ _ which. by row which (first_by_from-in before row rows)) (λ _ which. by best which (first_by_from-in before best rows)) which
   where
-    by : (next : HeldRow) → (next ≡ best) ⊎ (next ≡ row) → In (first_by_from before next rows) (next ∷ rows) →
-        In (first_by_from before next rows) (best ∷ row ∷ rows)
+    by : (next : HeldRow) → (next ≡ best) ⊎ (next ≡ row) → In (fold (better before) next rows) (next ∷ rows) →
+        In (fold (better before) next rows) (best ∷ row ∷ rows)
     by next (inl is_best) (inl e) = inl (e ∙ is_best)
     by next (inr is_row) (inl e) = inr (inl (e ∙ is_row))
     by next which (inr rest) = inr (inr rest)
@@ -31,7 +33,7 @@ first_by_from-in before best (row ∷ rows) =
 first_by-in : (before : HeldRow → HeldRow → Bool) (rows : List HeldRow) (row : HeldRow) → first_by before rows ≡ Some row → In row rows
 first_by-in before [] row e = cc
 first_by-in before (best ∷ rows) row e =
-    let same : first_by_from before best rows ≡ row = cc in subst (λ one. In one (best ∷ rows)) same (first_by_from-in before best rows)
+    let same : fold (better before) best rows ≡ row = cc in subst (λ one. In one (best ∷ rows)) same (first_by_from-in before best rows)
 
 -- A held row is one of an answer
 

@@ -3,9 +3,10 @@ use Rattle.std.proofs.Common.{◌≡◌, ◌⊎◌, ℕ, ◌+◌, ◌-◌, ◌<�
 use Rattle.std.proofs.Common.{Option, Some, None, Result, Ok, Err, refl, sym, ap, subst, inl, inr, arith}
 use Rattle.std.specs.List.{list_any}
 use Rattle.std.proofs.lemmas.Bool.{and_parts, eqb-true, eq-eqb, ltb-true}
+use Rattle.rc_model.specs.Heads.{opened_on}
 use Rattle.rc_model.specs.Model.{ServerId, Opening, Closing, Writing, Fault, ServerList, Config, lose, refill, noted, committed_at}
 use Rattle.rc_model.specs.Model.{Segment, new_segment, under_new_epoch, is_ready, Log, head_of, old_head_of, has_old_head, with_segment}
-use Rattle.rc_model.specs.Model.{has_segment, is_opening, is_closing, opens_head, opened_first, next_digest, rolled, with_config, stored}
+use Rattle.rc_model.specs.Model.{has_segment, is_opening, is_closing, opens_head, next_digest, with_config, stored}
 use Rattle.rc_model.specs.Model.{commit_noted, opens_change, refills, loses, may_start, may_write, left_out, with_freed, starts}
 use Rattle.rc_model.specs.Model.{closes_old, writes_on, In}
 use Rattle.rc_model.proofs.Members.{In-append, In-filter}
@@ -179,7 +180,7 @@ stays-opens log digest ids may within freed good = record {
                 out.upto in let below : s < out.head = out.below in omega (arith, upto, below, same)
             new (inr old) = out.lacks log.head out.upto (omega arith) old
 
-pub stays-first_opened : (log : Log) (chosen : Option (List ServerId)) → log.head ≡ 0 → Stays log (opened_first log chosen).0
+pub stays-first_opened : (log : Log) (chosen : Option (List ServerId)) → log.head ≡ 0 → Stays log (opened_on log (1 ∷ []) chosen).0
 stays-first_opened log None none = stays-refl log
 stays-first_opened log (Some ids) none = stays-opens log (1 ∷ []) ids (inr none) (λ t at. inl (first t at))
   where
@@ -188,7 +189,7 @@ stays-first_opened log (Some ids) none = stays-opens log (1 ∷ []) ids (inr non
     first t (inr never) = absurd never
 
 pub stays-rolled : (log : Log) (dead : List ℕ) (chosen : Option (List ServerId)) → log.phase ≡ Writing →
-    Stays log (rolled log dead chosen).0
+    Stays log (opened_on log (next_digest log dead) chosen).0
 stays-rolled log dead None writing = stays-refl log
 stays-rolled log dead (Some ids) writing = stays-opens log (next_digest log dead) ids (inl writing) within
   where

@@ -1,6 +1,6 @@
 -- A Decide that is refused, where all hosts have answered, means that a segment is gone.
 use Rattle.std.proofs.Common.{◌≡◌, ◌⊎◌, ℕ, Bool, true, cond, nat_eq, List, [], ◌∷◌, Option, Some, Result, Ok, Err}
-use Rattle.std.proofs.Common.{refl, sym, ap, ◌∙◌, subst, inl, inr}
+use Rattle.std.proofs.Common.{◌||◌, false, refl, sym, ap, ◌∙◌, subst, inl, inr}
 use Rattle.std.proofs.lemmas.Bool.{eqb-true}
 use Rattle.rc_model.specs.Model.{ServerId, Addr, Server, Outside, Row, Part, Setup, Event, Fault, NotReady, StaleAttempt, Message, Replicas}
 use Rattle.rc_model.specs.Model.{to_coordinator, coordinator_refuses, same_id, Replica, replica_of, row_of_replica, rows_of_replicas}
@@ -67,9 +67,12 @@ held_rows-has (reply ∷ replies) y rows row (inr rest) among =
 answer-of : (y : ServerId) (replies : List (ServerId × List Row)) → has_answered y replies ≡ true → (rows : List Row) × In (y, rows) replies
 answer-of y [] e = true_false (sym e)
 answer-of y (reply ∷ replies) e =
-    either (λ (b : Bool). b ≡ true → (rows : List Row) × In (y, rows) (reply ∷ replies)) (same_id y reply.0) true (has_answered y replies)
-    (λ same _. (reply.1, inl (ap (λ (id : ServerId). (id, reply.1)) (same_id-true y reply.0 same))))
-    (λ _ rest. (let found = answer-of y replies rest in (found.0, inr found.1))) e
+    by (same_id y reply.0) refl (λ rest. answer-of y replies rest) e
+  where
+    by : (b : Bool) → same_id y reply.0 ≡ b → (has_answered y replies ≡ true → (rows : List Row) × In (y, rows) replies) →
+        (b || has_answered y replies) ≡ true → (rows : List Row) × In (y, rows) (reply ∷ replies)
+    by true same _ _ = (reply.1, inl (ap (λ (id : ServerId). (id, reply.1)) (same_id-true y reply.0 same)))
+    by false _ others rest = let found = others rest in (found.0, inr found.1)
 
 -- The refusal
 

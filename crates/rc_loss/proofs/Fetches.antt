@@ -2,6 +2,7 @@
 use Rattle.std.proofs.Common.{◌≡◌, ℕ, Bool, true, cond, nat_le, List, [], ◌∷◌, filter, take, length, Option, Some, None}
 use Rattle.std.proofs.Common.{refl, sym, ap, ◌∙◌, subst, arith}
 use Rattle.std.proofs.lemmas.Bool.{and_parts, le-leb}
+use Rattle.std.specs.Prelude.{is_some}
 use Rattle.rc_model.specs.Model.{ServerId, Server, Row, PlanRow, Part, Setup, Event, Fetch, Data, Replicas}
 use Rattle.rc_model.specs.Model.{to_coordinator, between, Replica, Attempt, Master, replica_of, rows_of_replicas, is_in_part}
 use Rattle.rc_model.specs.Model.{row_of_replica, data_of, answers_fetch, HostNode, Take, host_step, runs, server_of, is_running_at}
@@ -10,7 +11,6 @@ use Rattle.rc_types.specs.declared.messages.Body.TheVariants.{Plan as PlanBody}
 use Rattle.rc_types.specs.declared.ids.Addr.TheVariants.{Coordinator as AtCoordinator}
 use Rattle.rc_types.specs.declared.rows.Plan.{Plan}
 use Rattle.rc_model.specs.Ids.{is_server}
-use Rattle.rc_model.specs.Nodes.{is_some_master}
 use Rattle.rc_model.proofs.Ids.{same_id-true}
 use Rattle.rc_model.proofs.Tests.{true_false}
 use Rattle.rc_step_laws.specs.All.{IsAnswer, IsOf, IsPlan, held_at}
@@ -22,7 +22,7 @@ use Rattle.rc_loss.proofs.Asked.{answers-are-now}
 use Rattle.rc_loss.specs.FetchClaims.{IsPlannedRow, HasItsData, FetchesAreAnswered}
 
 -- a host that runs has a master
-master-of : (found : Option Master) → is_some_master found ≡ true → (master : Master) × (found ≡ Some master)
+master-of : (found : Option Master) → is_some found ≡ true → (master : Master) × (found ≡ Some master)
 master-of None e = true_false (sym e)
 master-of (Some master) e = (master, refl)
 

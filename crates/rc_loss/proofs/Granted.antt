@@ -2,6 +2,7 @@
 use Rattle.std.proofs.Common.{◌≡◌, ℕ, Bool, true, false, not, cond, ◌&&◌, List, [], ◌∷◌, ◌++◌, filter, take, Option, Some, None}
 use Rattle.std.proofs.Common.{refl, sym, ap, ◌∙◌, subst}
 use Rattle.std.proofs.lemmas.Bool.{and_parts}
+use Rattle.std.specs.Prelude.{is_some}
 use Rattle.rc_model.specs.Model.{ServerId, Addr, Server, Setup, Event, Message, Body, Recovered, Enlist, to_coordinator, is_up}
 use Rattle.rc_model.specs.Model.{Part, PartState, LogPlace, Log, Master, Task, owns_term, replayed_at, durable_replayed, places_of}
 use Rattle.rc_model.specs.Model.{then_does, obeys_list, ticks, goes_on, HostNode, host_step, runs, server_of}
@@ -13,7 +14,7 @@ use Rattle.rc_model.specs.MasterStep.{master_ticks}
 use Rattle.rc_model.specs.MasterTick.{reminds_open, reminds_shut, commits_again, fetches_again, recovered_again, ready_again}
 use Rattle.rc_model.specs.MasterTick.{awaits_grant, reminds}
 use Rattle.rc_model.specs.Log.{numbers_to}
-use Rattle.rc_model.specs.Nodes.{Tick, is_some_master, ticks_if_running}
+use Rattle.rc_model.specs.Nodes.{Tick, ticks_if_running}
 use Rattle.rc_model.proofs.Ids.{same_id-true}
 use Rattle.rc_model.proofs.LogSteps.{obeys-leads}
 use Rattle.rc_model.proofs.Members.{In-left, In-right, filter-In, map-In}
@@ -136,7 +137,7 @@ module _ (master : Master) (state : PartState) where
 
 -- All of it
 
-a-master : (found : Option Master) → is_some_master found ≡ true → (master : Master) × (found ≡ Some master)
+a-master : (found : Option Master) → is_some found ≡ true → (master : Master) × (found ≡ Some master)
 a-master None e = true_false (sym e)
 a-master (Some master) e = (master, refl)
 

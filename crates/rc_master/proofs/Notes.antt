@@ -5,11 +5,12 @@ use Rattle.std.proofs.Common.{refl, sym, ap, ◌∙◌, subst, arith}
 use Rattle.std.proofs.lemmas.List.{append-nil, map-append, length-map}
 use Rattle.std.proofs.lemmas.Bool.{and_parts, ltb-true, ne_eqb}
 use Rattle.std.proofs.Math.Numerals.{add-one}
+use Rattle.rc_model.specs.Heads.{opened_on}
 use Rattle.rc_model.specs.Model.{ServerId, Entry, Fault, LogFull, Rolling, Writing, LAST_SEGMENT, put, ServerList, Config, choose, noted}
 use Rattle.rc_model.specs.Model.{committed_at, lose, refill, Segment, new_segment, is_ready, with_closes_sent, Log, LogPlace}
 use Rattle.rc_model.specs.Model.{head_of, old_head_of, has_old_head, has_segment, with_segment, places_in, places_to, places_of}
 use Rattle.rc_model.specs.Model.{entries_of, numbers_to, durable_now, is_closing, is_writing, is_full, append_fault, opens_head, appends}
-use Rattle.rc_model.specs.Model.{next_digest, rolled, begin_roll, with_config, stored, commit_noted, opens_change, refills, loses, shuts}
+use Rattle.rc_model.specs.Model.{next_digest, begin_roll, with_config, stored, commit_noted, opens_change, refills, loses, shuts}
 use Rattle.rc_model.specs.Model.{with_shut, may_start, may_write, left_out, starts, closes_old, writes_on, close_marked}
 use Rattle.rc_model.specs.Model.{PartState, Task, replayed_at}
 use Rattle.rc_model.proofs.Tests.{either, true_false}
@@ -137,7 +138,7 @@ opened-is : (log : Log) (digest : List ℕ) (ids : List ServerId) → IsOpened l
 opened-is log digest ids = record { same = same-opened log digest ids; head = refl }
 
 rolled-is : (log new : Log) (dead : List ℕ) (chosen : Option (List ServerId)) (began : Bool) →
-    rolled log dead chosen ≡ (new, Ok began) → IsOpened log new
+    opened_on log (next_digest log dead) chosen ≡ (new, Ok began) → IsOpened log new
 rolled-is log new dead None began e = err_ok (ap (λ (r : Log × Result Bool Fault). r.1) e)
 rolled-is log new dead (Some ids) began e =
     subst (IsOpened log) (ap (λ (r : Log × Result Bool Fault). r.0) e) (opened-is log (next_digest log dead) ids)
@@ -147,7 +148,7 @@ pub roll-is : (servers : ServerList) (dead : List ℕ) (log new : Log) (began : 
     begin_roll servers dead log ≡ (new, Ok began) → IsOpened log new
 roll-is servers dead log new began =
     either (λ (r : Log × Result Bool Fault). r ≡ (new, Ok began) → IsOpened log new) (nat_lt log.head LAST_SEGMENT)
-    (rolled log dead (choose (log.head + 1) log.own log.factor servers)) (log, Err LogFull)
+    (opened_on log (next_digest log dead) (choose (log.head + 1) log.own log.factor servers)) (log, Err LogFull)
     (λ _ e. rolled-is log new dead (choose (log.head + 1) log.own log.factor servers) began e)
     (λ _ e. err_ok (ap (λ (r : Log × Result Bool Fault). r.1) e))
 

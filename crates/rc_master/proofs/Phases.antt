@@ -4,10 +4,11 @@ use Rattle.std.proofs.Common.{None, is_some, Result, IfOk, OnOk, refl, sym, ap, 
 use Rattle.std.specs.Option.{unwrap_or}
 use Rattle.std.specs.List.{list_any}
 use Rattle.std.proofs.lemmas.Bool.{and_parts}
+use Rattle.std.specs.Option.{option_or}
 use Rattle.rc_model.specs.Model.{Phase, Opening, Closing, Writing, Message, Free, Config, Segment, has_unclosed, is_ready, all_placed}
 use Rattle.rc_model.specs.Model.{Log, head_of, old_head_of, has_old_head, with_segment, is_opening, is_closing, shuts, with_shut}
 use Rattle.rc_model.specs.Model.{may_start, may_close, may_write, left_out, with_freed, starts, closes_old, writes_on, Master}
-use Rattle.rc_model.specs.Model.{with_log, to_ids, ids_of, not_lost, to_unlost, frees_segments, close_is_due, when, or_rule}
+use Rattle.rc_model.specs.Model.{with_log, to_ids, ids_of, not_lost, to_unlost, frees_segments, close_is_due, when}
 use Rattle.rc_model.specs.Model.{follows_closing, follow_up, marks_shut}
 use Rattle.rc_model.proofs.Tests.{either, true_false}
 use Rattle.rc_model.proofs.LogParts.{marked, with_freed-marked, marked-alone}
@@ -77,8 +78,8 @@ module _ (master : Master) (log : Log) (first second third : Log) (ready frees :
   goes s c w = cond s (Some first) (cond c (Some second) (cond w (Some third) None))
 
   rules : Bool → Bool → Bool → Option (Master × List Message)
-  rules s c w = or_rule (when s (with_log (with_log master log) first, ready))
-      (or_rule (when c (with_log (with_log master log) second, [])) (when w (with_log (with_log master log) third, frees)))
+  rules s c w = option_or (when s (with_log (with_log master log) first, ready))
+      (option_or (when c (with_log (with_log master log) second, [])) (when w (with_log (with_log master log) third, frees)))
 
   goes-did : (s c w : Bool) → is_some (goes s c w) ≡ did (rules s c w)
   unfolding goes rules
@@ -183,7 +184,7 @@ closing-not_opening Writing e = true_false (sym e)
 
 third-first : (s c d : Bool) (one two three : Master × List Message) (rest : Option (Master × List Message)) →
     s ≡ false → c ≡ false → d ≡ true →
-    or_rule (when s one) (or_rule (when c two) (or_rule (when d three) rest)) ≡ when d three
+    option_or (when s one) (option_or (when c two) (option_or (when d three) rest)) ≡ when d three
 third-first false false true one two three rest a b e = refl
 third-first true c d one two three rest a b e = true_false a
 third-first false true d one two three rest a b e = true_false b
@@ -202,8 +203,8 @@ due-first master due =
 
 without-third : (s c d w : Bool) (one two three four : Master × List Message) (rest : Option (Master × List Message)) →
     d ≡ false →
-    or_rule (when s one) (or_rule (when c two) (or_rule (when d three) (or_rule (when w four) rest)))
-    ≡ or_rule (or_rule (when s one) (or_rule (when c two) (when w four))) rest
+    option_or (when s one) (option_or (when c two) (option_or (when d three) (option_or (when w four) rest)))
+    ≡ option_or (option_or (when s one) (option_or (when c two) (when w four))) rest
 without-third true c false w one two three four rest e = refl
 without-third false true false w one two three four rest e = refl
 without-third false false false true one two three four rest e = refl
@@ -212,19 +213,19 @@ without-third s c true w one two three four rest e = true_false e
 
 -- where none is due, the rules of the phase come before the others
 pub undue-rules : (master : Master) → close_is_due master.log ≡ false →
-    follow_up master ≡ or_rule (follows_phase master) (follows_rest master)
+    follow_up master ≡ option_or (follows_phase master) (follows_rest master)
 undue-rules master undue =
     without-third (may_start master.log) (may_close master.log) (close_is_due master.log) (may_write master.log) _ _ _ _
     (follows_rest master) undue
 
 -- What one rule, or another, did
 
-pub done-first : (master : Master) (all one rest : Option (Master × List Message)) → all ≡ or_rule one rest → true ≡ did one →
+pub done-first : (master : Master) (all one rest : Option (Master × List Message)) → all ≡ option_or one rest → true ≡ did one →
     (did all ≡ did one) × (or_still master all ≡ or_still master one)
 done-first master all None rest is applied = true_false applied
 done-first master all (Some done) rest is applied = (ap did is, ap (or_still master) is)
 
-pub done-rest : (master : Master) (all one rest : Option (Master × List Message)) → all ≡ or_rule one rest → false ≡ did one →
+pub done-rest : (master : Master) (all one rest : Option (Master × List Message)) → all ≡ option_or one rest → false ≡ did one →
     (one ≡ None) × (all ≡ rest)
 done-rest master all None rest is applied = (refl, is)
 done-rest master all (Some done) rest is applied = true_false (sym applied)
@@ -261,7 +262,7 @@ due-all master due = sym (due-first (marks_shut master) (due-marked master.log �
 
 -- where none is due, and the phase went on
 module _ (master : Master) (undue : close_is_due master.log ≡ false) where
-  all-rules : follow_up (marks_shut master) ≡ or_rule (follows_phase (marks_shut master)) (follows_rest (marks_shut master))
+  all-rules : follow_up (marks_shut master) ≡ option_or (follows_phase (marks_shut master)) (follows_rest (marks_shut master))
   all-rules = undue-rules (marks_shut master) (due-marked master.log ∙ undue)
 
   pub went-did : true ≡ did (follows_phase (marks_shut master)) → true ≡ did (follow_up (marks_shut master))

@@ -1,9 +1,10 @@
 -- A master that follows no rule stays as it is, and so does one that is granted a range.
 use Rattle.std.proofs.Common.{◌≡◌, ◌≢◌, ℕ, zero, suc, ◌<◌, Bool, true, false, cond, List, [], ◌∷◌, ◌++◌, Option, Some}
 use Rattle.std.proofs.Common.{None, Result, Ok, Err, OnOk, OnErr, refl, sym, ap, ◌∙◌, subst, arith}
+use Rattle.std.specs.Option.{option_or}
 use Rattle.rc_model.specs.Model.{Entry, Fault, GrantedRange, Message, Log, is_writing, is_full, begin_roll, may_start, may_close}
 use Rattle.rc_model.specs.Model.{may_write, Ownership, grant, owns_term, to_answer, after_replay, Master, MasterSetup, new_master}
-use Rattle.rc_model.specs.Model.{durable_replayed, dead_segments, appends_entry, when, or_rule, follow_up, follows_start, follows_placed}
+use Rattle.rc_model.specs.Model.{durable_replayed, dead_segments, appends_entry, when, follow_up, follows_start, follows_placed}
 use Rattle.rc_model.specs.Model.{follows_closing, follows_shut, follows_change, follows_stored, follows_data, follows_replay, first_open}
 use Rattle.rc_model.specs.Model.{wants_commit, commits, commits_open, close_is_due, rolls_for_replay, replays, answers_part, marks_shut}
 use Rattle.rc_model.specs.Model.{further, followed, measure, goes_on, ServerId, Addr, Body, then_does, master_takes_first, deposed_takes}
@@ -46,7 +47,7 @@ did-when : (b : Bool) (one other : Master × List Message) → did (when b one) 
 did-when true one other = refl
 did-when false one other = refl
 
-did-or : (a b c d : Option (Master × List Message)) → did a ≡ did c → did b ≡ did d → did (or_rule a b) ≡ did (or_rule c d)
+did-or : (a b c d : Option (Master × List Message)) → did a ≡ did c → did b ≡ did d → did (option_or a b) ≡ did (option_or c d)
 did-or None b None d e f = f
 did-or None b (Some x) d e f = true_false (sym e)
 did-or (Some x) b None d e f = true_false e

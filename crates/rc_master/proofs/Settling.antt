@@ -2,7 +2,8 @@
 use Rattle.std.proofs.Common.{◌≡◌, ◌≢◌, ℕ, zero, suc, ◌+◌, ◌-◌, ◌<◌, ◌≤◌, true, false, List, [], ◌++◌, drop, get_or}
 use Rattle.std.proofs.Common.{Option, Some, None, refl, sym, ap, ◌∙◌, subst, arith, append_assoc}
 use Rattle.std.proofs.lemmas.List.{append-nil, drop_more}
-use Rattle.rc_model.specs.Model.{Message, Log, with_segment, old_head_of, shuts, Master, or_rule, follows_change, follows_stored}
+use Rattle.std.specs.Option.{option_or}
+use Rattle.rc_model.specs.Model.{Message, Log, with_segment, old_head_of, shuts, Master, follows_change, follows_stored}
 use Rattle.rc_model.specs.Model.{follows_data, follows_replay, follow_up}
 use Rattle.rc_model.specs.Model.{marks_shut, further, followed, measure}
 use Rattle.rc_model.proofs.Tests.{either, true_false}
@@ -154,20 +155,20 @@ round-end start now next before sent more way applied state sends =
 
 -- Rules in their order, of which the first that applies is made
 
-or-none : (one : Option (Master × List Message)) → or_rule one None ≡ one
+or-none : (one : Option (Master × List Message)) → option_or one None ≡ one
 or-none None = refl
 or-none (Some done) = refl
 
 pub first-of-all : (master : Master) → first_of RULES master ≡ follows_rest master
 first-of-all master =
-    ap (λ last. or_rule (follows_change master) (or_rule (follows_stored master) (or_rule (follows_data master) last)))
+    ap (λ last. option_or (follows_change master) (option_or (follows_stored master) (option_or (follows_data master) last)))
     (or-none (follows_replay master))
 
 abbrev pub rule_at : ℕ → Rule
 rule_at i = get_or RULES i rule.Change
 
 from-here : (i : ℕ) (master : Master) → i < 4 → first_of (drop i RULES) master ≡ follows_rest master →
-    or_rule (does (rule_at i) master) (first_of (drop (i + 1) RULES) master) ≡ follows_rest master
+    option_or (does (rule_at i) master) (first_of (drop (i + 1) RULES) master) ≡ follows_rest master
 from-here i master inside left = sym (ap (λ rules. first_of rules master) (drop_more RULES i rule.Change inside)) ∙ left
 
 -- what was done is what the first rule that applies does
@@ -177,7 +178,7 @@ pub record IsFirst (start next : Master) (before sent : List Message) : Type 0 w
   pub sends : sent ≡ before ++ (or_still start (follows_rest start)).1
 
 applies : (start next : Master) (before sent : List Message) (one rest : Option (Master × List Message)) →
-    or_rule one rest ≡ follows_rest start → true ≡ did one → next ≡ (or_still start one).0 → sent ≡ before ++ (or_still start one).1 →
+    option_or one rest ≡ follows_rest start → true ≡ did one → next ≡ (or_still start one).0 → sent ≡ before ++ (or_still start one).1 →
     IsFirst start next before sent
 applies start next before sent None rest left is state sends = true_false is
 applies start next before sent (Some done) rest left is state sends = record {
@@ -203,7 +204,7 @@ pub record IsStill (start next : Master) (before sent : List Message) (rest : Op
   pub left : rest ≡ follows_rest start
 
 fails : (start next : Master) (before sent : List Message) (one rest : Option (Master × List Message)) →
-    or_rule one rest ≡ follows_rest start → false ≡ did one → next ≡ (or_still start one).0 → sent ≡ before ++ (or_still start one).1 →
+    option_or one rest ≡ follows_rest start → false ≡ did one → next ≡ (or_still start one).0 → sent ≡ before ++ (or_still start one).1 →
     IsStill start next before sent rest
 fails start next before sent None rest left isn't state sends = record { same = state; sends = sends ∙ append-nil before; left = left }
 fails start next before sent (Some done) rest left isn't state sends = true_false (sym isn't)

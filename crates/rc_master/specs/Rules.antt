@@ -1,5 +1,6 @@
 -- Rules that may not apply, and the rules until none applies.
 use Rattle.std.specs.Prelude.{Bool, true, false, if◌then◌else◌, List, [], ◌∷◌, Option, Some, None}
+use Rattle.std.specs.Option.{option_or}
 use Rattle.rc_types.specs.declared.messages.Message.{Message}
 use Rattle.rc_types.specs.declared.messages.Body.TheVariants.{Ready}
 use Rattle.rc_types.specs.declared.kept.Phase.{Phase}
@@ -8,7 +9,7 @@ use Rattle.rc_model.specs.Messages.{to_coordinator}
 use Rattle.rc_model.specs.Log.{Log, is_writing}
 use Rattle.rc_model.specs.Heads.{begin_roll, left_out}
 use Rattle.rc_model.specs.Master.{Master, dead_segments}
-use Rattle.rc_model.specs.FollowUps.{or_rule, follows_start, follows_placed, follows_shut}
+use Rattle.rc_model.specs.FollowUps.{follows_start, follows_placed, follows_shut}
 use Rattle.rc_model.specs.FollowUps.{frees_segments, follows_change, follows_stored, rolls_for_replay, follows_data}
 use Rattle.rc_model.specs.FollowUps.{follows_replay, followed, measure}
 use Rattle.rc_master.specs.declared.following.Rule.{Rule}
@@ -26,12 +27,12 @@ or_still master (Some done) = done
 
 -- the phase goes on, by the first, the second or the fourth rule: the first of them that applies
 abbrev pub follows_phase : Master → Option (Master × List Message)
-follows_phase master = or_rule (follows_start master) (or_rule (follows_placed master) (follows_shut master))
+follows_phase master = option_or (follows_start master) (option_or (follows_placed master) (follows_shut master))
 
 -- the rules after that of the phase
 abbrev pub follows_rest : Master → Option (Master × List Message)
 follows_rest master =
-    or_rule (follows_change master) (or_rule (follows_stored master) (or_rule (follows_data master)
+    option_or (follows_change master) (option_or (follows_stored master) (option_or (follows_data master)
     (follows_replay master)))
 
 -- what a master tells once the phase has gone on: that it is ready, where the first head writes ..
@@ -54,7 +55,7 @@ does rule.Replay master = follows_replay master
 -- the first of these rules that applies
 abbrev pub first_of : List Rule → Master → Option (Master × List Message)
 first_of [] master = None
-first_of (one ∷ rules) master = or_rule (does one master) (first_of rules master)
+first_of (one ∷ rules) master = option_or (does one master) (first_of rules master)
 
 -- what a full head means to a replay
 abbrev pub full_replays : Master → Option (Master × List Message)

@@ -2,9 +2,10 @@
 use Rattle.std.proofs.Common.{◌≡◌, ℕ, zero, suc, ◌+◌, Bool, true, false, not, ◌||◌, nat_eq, nat_lt, List, [], ◌∷◌, ◌++◌, map, filter}
 use Rattle.std.proofs.Common.{Option, Some, None, Result, Ok, Err, slice_get, refl, sym, ap, ◌∙◌, subst}
 use Rattle.std.specs.List.{list_any}
+use Rattle.rc_model.specs.Heads.{opened_on}
 use Rattle.rc_model.specs.Model.{ServerId, Fault, EpochsExhausted, LogFull, Member, LAST_SEGMENT, LAST_EPOCH, ServerList, Config}
 use Rattle.rc_model.specs.Model.{new_member, changed, changes_to, replaced, with_lost, any_lost, substitutes_for, lose, noted, choose}
-use Rattle.rc_model.specs.Model.{Segment, new_segment, Log, head_of, next_digest, rolled, begin_roll, Master, dead_segments}
+use Rattle.rc_model.specs.Model.{Segment, new_segment, Log, head_of, next_digest, begin_roll, Master, dead_segments}
 use Rattle.rc_model.proofs.Tests.{either, true_false}
 use Rattle.rc_model.proofs.Tables.{put-same}
 
@@ -66,7 +67,7 @@ all-stay head (seg ∷ digest) =
 abbrev DigestKept : Log → Log × Result Bool Fault → Type 0
 DigestKept old answer = (began : Bool) → answer.1 ≡ Ok began → (head_of answer.0).digest ≡ (head_of old).digest ++ (old.head + 1) ∷ []
 
-kept-rolled : (old : Log) (chosen : Option (List ServerId)) → DigestKept old (rolled old [] chosen)
+kept-rolled : (old : Log) (chosen : Option (List ServerId)) → DigestKept old (opened_on old (next_digest old []) chosen)
 kept-rolled old None began e = cc
 kept-rolled old (Some ids) began e =
     ap (λ (s : Segment). s.digest) (put-same old.segments (old.head + 1) (new_segment (old.head + 1) (next_digest old []) ids))
@@ -75,7 +76,7 @@ kept-rolled old (Some ids) began e =
 kept-begun : (old : Log) (servers : ServerList) → DigestKept old (begin_roll servers [] old)
 kept-begun old servers =
     either (DigestKept old) (nat_lt old.head LAST_SEGMENT)
-    (rolled old [] (choose (old.head + 1) old.own old.factor servers)) (old, Err LogFull)
+    (opened_on old (next_digest old []) (choose (old.head + 1) old.own old.factor servers)) (old, Err LogFull)
     (λ _. kept-rolled old (choose (old.head + 1) old.own old.factor servers)) (λ _ began e. cc)
 
 -- a master that frees nothing keeps the whole digest

@@ -4,12 +4,13 @@ use Rattle.std.proofs.Common.{slice_get, Option, Some, None, Result, Ok, Err, re
 use Rattle.std.proofs.lemmas.Bool.{and_parts, not-false}
 use Rattle.std.proofs.lemmas.Bool.Decides.{nat_tests}
 use Rattle.std.proofs.lemmas.List.{append-nil}
+use Rattle.std.specs.Prelude.{is_none}
 use Rattle.rc_model.specs.Model.{ServerId, Pair, Addr, Server, Row, Part, Tablet, Grant, Fault, Deposed, StaleGeneration, StaleAttempt}
 use Rattle.rc_model.specs.Model.{NotReady, NoTable, BadSplit, TableExists, TooManyTablets, Recovering, Message, Body, Enlist, Ready}
 use Rattle.rc_model.specs.Model.{Commit, CommitOk, Replicas, Recovered, Gather, SplitOk, put_id, from_coordinator, to_each}
 use Rattle.rc_model.specs.Model.{coordinator_refuses, coordinator_tells, is_up, has_crashed, is_newest, enlisted, up, holds, has_table}
 use Rattle.rc_model.specs.Model.{tablet_of, split_at, marked_crashed, has_range, assigned, pick, greater_pair, Attempt, Decision}
-use Rattle.rc_model.specs.Model.{is_undecided, has_answered, is_gathering, parts_of, plan_message, plan_messages, refuses_server}
+use Rattle.rc_model.specs.Model.{has_answered, is_gathering, parts_of, plan_message, plan_messages, refuses_server}
 use Rattle.rc_model.specs.Model.{list_body, spreads_list, begins_attempt, has_tablets, begins_if_needed, attempt_at, with_attempt}
 use Rattle.rc_model.specs.Model.{up_of_host, follows_generation, enlists, notes_ready, with_crashed, suspects, spreads_then_begins}
 use Rattle.rc_model.specs.Model.{commits_pair, is_current, with_answer, keeps_answer_in, ready_ids, decision_of, decides_on, decides_with}
@@ -104,7 +105,7 @@ pub record Moves (c : Coordinator) (H : Addr → Body → Type 0) (N M : Coordin
 -- Lists and numbers
 
 -- what isn't decided has no decision
-undecided-none : (decided : Option Decision) → is_undecided decided ≡ true → decided ≡ None
+undecided-none : (decided : Option Decision) → is_none decided ≡ true → decided ≡ None
 undecided-none None e = refl
 undecided-none (Some decision) e = cc
 

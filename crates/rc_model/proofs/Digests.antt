@@ -3,8 +3,9 @@ use Rattle.std.proofs.Common.{◌≡◌, ℕ, zero, suc, ◌+◌, ◌<◌, Bool,
 use Rattle.std.proofs.Common.{map, filter, Option, Some, None, Result, Ok, Err, slice_get, refl, sym, ap, ◌∙◌, subst}
 use Rattle.std.specs.List.{list_any, list_all}
 use Rattle.std.proofs.lemmas.Bool.{and_parts, eqb-true, ltb-true, or_left, or_right, or_parts, not-false}
+use Rattle.rc_model.specs.Heads.{opened_on}
 use Rattle.rc_model.specs.Model.{ServerId, Entry, Fault, LogFull, LAST_SEGMENT, ServerList, choose, Segment, new_segment, Log, head_of}
-use Rattle.rc_model.specs.Model.{next_digest, rolled, begin_roll, is_of, is_outdated, is_dead, Master, durable_entries, is_dead_segment}
+use Rattle.rc_model.specs.Model.{next_digest, begin_roll, is_of, is_outdated, is_dead, Master, durable_entries, is_dead_segment}
 use Rattle.rc_model.specs.Model.{dead_segments}
 use Rattle.rc_model.proofs.Tests.{either, true_false}
 use Rattle.rc_model.proofs.Tables.{put-same}
@@ -99,17 +100,18 @@ abbrev LeavesDead : Log → List ℕ → ℕ → Log × Result Bool Fault → Ty
 LeavesDead old dead seg answer = (began : Bool) → answer.1 ≡ Ok began → list_any (nat_eq seg) (head_of old).digest ≡ true →
     list_any (nat_eq seg) (head_of answer.0).digest ≡ false → (list_any (nat_eq seg) dead ≡ true) × (nat_eq seg old.head ≡ false)
 
-leaves-rolled : (old : Log) (dead : List ℕ) (seg : ℕ) (chosen : Option (List ServerId)) → LeavesDead old dead seg (rolled old dead chosen)
+leaves-rolled : (old : Log) (dead : List ℕ) (seg : ℕ) (chosen : Option (List ServerId)) →
+    LeavesDead old dead seg (opened_on old (next_digest old dead) chosen)
 leaves-rolled old dead seg None began e there gone = cc
 leaves-rolled old dead seg (Some ids) began e there gone =
-    let digest : (head_of (rolled old dead (Some ids)).0).digest ≡ next_digest old dead =
+    let digest : (head_of (opened_on old (next_digest old dead) (Some ids)).0).digest ≡ next_digest old dead =
     ap (λ (s : Segment). s.digest) (put-same old.segments (old.head + 1) (new_segment (old.head + 1) (next_digest old dead) ids)) in
     left-dead old dead seg there (ap (list_any (nat_eq seg)) (sym digest) ∙ gone)
 
 leaves-begun : (old : Log) (servers : ServerList) (dead : List ℕ) (seg : ℕ) → LeavesDead old dead seg (begin_roll servers dead old)
 leaves-begun old servers dead seg =
     either (LeavesDead old dead seg) (nat_lt old.head LAST_SEGMENT)
-    (rolled old dead (choose (old.head + 1) old.own old.factor servers)) (old, Err LogFull)
+    (opened_on old (next_digest old dead) (choose (old.head + 1) old.own old.factor servers)) (old, Err LogFull)
     (λ _. leaves-rolled old dead seg (choose (old.head + 1) old.own old.factor servers)) (λ _ began e there gone. cc)
 
 -- a number in the list of the dead segments is that of a dead one

@@ -3,11 +3,12 @@ use Rattle.std.proofs.Common.{◌≡◌, ◌⊎◌, ℕ, zero, suc, ◌+◌, ◌
 use Rattle.std.proofs.Common.{nat_lt, nat_le, slice_get, Option, Some, None, refl, sym, ap, ◌∙◌, subst, inl, inr, arith}
 use Rattle.std.proofs.lemmas.Bool.{eqb-true, eq-eqb, ltb-true, lt-ltb, leb-true, le-leb, and_parts, and_from, or_cases, or_left, or_right}
 use Rattle.std.proofs.lemmas.Bool.{or_from, or_parts, not-false, not_from_true, true_from_ne_false, false_from_ne_true}
+use Rattle.std.specs.Option.{option_or}
 use Rattle.rc_model.specs.Model.{ServerId, Entry, PlanRow, Message, Body, Place, Append, Breach, Missing, Invented, Version, is_server}
 use Rattle.rc_model.specs.Model.{ascending, entry_at, made, Ack, acknowledged, all_acknowledged, Accepted, accepted, reach, is_recovered}
 use Rattle.rc_model.specs.Model.{is_earlier, grants_of, same_numbers, same_value, same_entry, is_of_ack, agrees, all_agree, is_greater}
 use Rattle.rc_model.specs.Model.{has_greater, holds_greater, is_superseded, is_missing, first_missing, all_same, is_one_entry}
-use Rattle.rc_model.specs.Model.{first_invented_from, or_else, first_invented, segments_of, falls, first_fall, missing_of, invented_of}
+use Rattle.rc_model.specs.Model.{first_invented_from, first_invented, segments_of, falls, first_fall, missing_of, invented_of}
 use Rattle.rc_model.specs.Model.{falls_of, breach, In, IsHeld, IsOfAck, IsSuperseded, IsThere, IsOneEntry, RisesOver, Headline}
 use Rattle.rc_model.specs.Model.{NothingDroppedIsNothingMissing, NoBreachIsTheHeadline}
 use Rattle.rc_model.proofs.Befores.{is_before-finds, is_before-found}
@@ -275,12 +276,12 @@ some_or-none : (b : Bool) (breach : Breach) (rest : Option Breach) → b ≡ fal
 some_or-none true breach rest e is = cc
 some_or-none false breach rest e is = is
 
-or_else-parts : (one other : Option Breach) → or_else one other ≡ None → (one ≡ None) × (other ≡ None)
+or_else-parts : (one other : Option Breach) → option_or one other ≡ None → (one ≡ None) × (other ≡ None)
 or_else-parts None other e = (refl, e)
 or_else-parts (Some breach) other e = cc
 
-or_else-none : (one other : Option Breach) → one ≡ None → other ≡ None → or_else one other ≡ None
-or_else-none one other p q = ap (λ found. or_else found other) p ∙ q
+or_else-none : (one other : Option Breach) → one ≡ None → other ≡ None → option_or one other ≡ None
+or_else-none one other p q = ap (λ found. option_or found other) p ∙ q
 
 first_missing-each : (sent : List Message) (plan : Accepted) (acks : List Ack) → first_missing sent plan acks ≡ None →
     (ack : Ack) → In ack acks → IsThere sent plan ack
@@ -589,7 +590,7 @@ falls_of-none sent (first ∷ acks) each =
 headline-of : (sent : List Message) → breach sent ≡ None → Headline sent
 headline-of sent e =
     let one = or_else-parts (missing_of sent (accepted sent))
-    (or_else (invented_of sent (accepted sent)) (falls_of sent (all_acknowledged sent))) e in
+    (option_or (invented_of sent (accepted sent)) (falls_of sent (all_acknowledged sent))) e in
     let two = or_else-parts (invented_of sent (accepted sent)) (falls_of sent (all_acknowledged sent)) one.1 in
     record {
       there = λ plan p ack q. missing_of-each sent (accepted sent) one.0 plan (WasAccepted-in sent plan p) ack
@@ -601,7 +602,7 @@ headline-of sent e =
 
 breach-none : (sent : List Message) → Headline sent → breach sent ≡ None
 breach-none sent p =
-    or_else-none (missing_of sent (accepted sent)) (or_else (invented_of sent (accepted sent)) (falls_of sent (all_acknowledged sent)))
+    or_else-none (missing_of sent (accepted sent)) (option_or (invented_of sent (accepted sent)) (falls_of sent (all_acknowledged sent)))
     (missing_of-none sent (accepted sent) (λ plan at ack from. p.there plan (WasAccepted-from sent plan at) ack
     (HasAcknowledged-from sent plan.master ack from)))
     (or_else-none (invented_of sent (accepted sent)) (falls_of sent (all_acknowledged sent))

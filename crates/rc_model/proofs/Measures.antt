@@ -9,16 +9,19 @@ use Rattle.std.proofs.lemmas.Bool.Decides.{nat_tests}
 use Rattle.std.proofs.Math.Numerals.{add-one}
 use Rattle.std.proofs.Math.Path.{fun_ext}
 use Rattle.std.specs.List.{list_any}
+use Rattle.std.specs.Option.{option_or}
+use Rattle.std.specs.Prelude.{drop}
+use Rattle.rc_model.specs.Heads.{opened_on}
 use Rattle.rc_model.specs.Model.{ServerId, Entry, Member, Phase, Opening, Closing, Writing, Message, Ready, LogFull, ServerList}
 use Rattle.rc_model.specs.Model.{to_coordinator, LAST_SEGMENT, same_id, has_id, put, Config, new_config, all_placed, choose, candidates}
 use Rattle.rc_model.specs.Model.{Segment, new_segment, with_entry, is_ready, has_unclosed, with_closes_sent, Log, head_of, with_segment}
 use Rattle.rc_model.specs.Model.{old_head_of, has_old_head, places_to, places_in, places_of, numbers_to, durable_now, is_opening}
-use Rattle.rc_model.specs.Model.{is_closing, is_writing, opens_head, next_digest, rolled, begin_roll, is_full, appends, shuts, with_shut}
-use Rattle.rc_model.specs.Model.{may_start, may_close, may_write, left_out, starts, closes_old, writes_on, PartState, without_first}
+use Rattle.rc_model.specs.Model.{is_closing, is_writing, opens_head, next_digest, begin_roll, is_full, appends, shuts, with_shut}
+use Rattle.rc_model.specs.Model.{may_start, may_close, may_write, left_out, starts, closes_old, writes_on, PartState}
 use Rattle.rc_model.specs.Model.{after_replay, is_to_answer, is_complete, answered_in, Master, ids_of, with_log, durable_replayed}
 use Rattle.rc_model.specs.Model.{dead_segments, appends_entry, when, follow_up, follows_start, follows_placed, close_is_due, close_marked}
 use Rattle.rc_model.specs.Model.{follows_closing, follows_shut, first_open, wants_commit, commits, commits_open, follows_change}
-use Rattle.rc_model.specs.Model.{follows_stored, rolls_for_replay, replays, follows_data, answers_part, follows_replay, or_rule}
+use Rattle.rc_model.specs.Model.{follows_stored, rolls_for_replay, replays, follows_data, answers_part, follows_replay}
 use Rattle.rc_model.specs.Model.{marks_shut, further, followed, rank, one_if, closes_unsent, commits_unsent, parts_unanswered, measure}
 use Rattle.rc_model.specs.Model.{goes_on}
 use Rattle.rc_model.proofs.Ids.{same_id-refl}
@@ -39,7 +42,7 @@ AllLower old None = Unit {0}
 AllLower old (Some done) = Lowers old done.0
 
 lower-or : (old : Master) (one other : Option (Master × List Message)) → AllLower old one → AllLower old other →
-    AllLower old (or_rule one other)
+    AllLower old (option_or one other)
 lower-or old (Some done) other p q = p
 lower-or old None other p q = q
 
@@ -318,7 +321,7 @@ lowers-opened master digest ids some writes =
 
 lowers-chosen : (master : Master) (chosen : Option (List ServerId)) → is_writing master.log.phase ≡ true →
     ((ids : List ServerId) → chosen ≡ Some ids → 0 < length ids) →
-    AllLower master (rolls_for_replay master (rolled master.log (dead_segments master) chosen))
+    AllLower master (rolls_for_replay master (opened_on master.log (next_digest master.log (dead_segments master)) chosen))
 lowers-chosen master None writes some = tt
 lowers-chosen master (Some ids) writes some =
     lowers-opened master (next_digest master.log (dead_segments master)) ids (some ids refl) writes
@@ -340,7 +343,8 @@ lowers-roll : (master : Master) → master.log.factor ≢ 0 → is_writing maste
     AllLower master (rolls_for_replay master (begin_roll master.known (dead_segments master) master.log))
 lowers-roll master factor writes =
     either (λ answer. AllLower master (rolls_for_replay master answer)) (nat_lt master.log.head LAST_SEGMENT)
-    (rolled master.log (dead_segments master) (choose (master.log.head + 1) master.log.own master.log.factor master.known))
+    (opened_on master.log (next_digest master.log (dead_segments master))
+    (choose (master.log.head + 1) master.log.own master.log.factor master.known))
     (master.log, Err LogFull)
     (λ _. lowers-chosen master (choose (master.log.head + 1) master.log.own master.log.factor master.known) writes
     (λ ids e. let n : length ids ≡ master.log.factor = choose-length (master.log.head + 1) master.log.own
@@ -399,7 +403,7 @@ lowers-append master entry entries waits writes =
     let places : length (places_to new master.log.head) ≤ length (places_to old master.log.head) + 1 =
     one-more old master.log.head grown (omega arith) in
     let all : length master.ownership.replay ≡ length entries + 1 = ap length waits ∙ omega arith in
-    let rest : length (after_replay master.ownership).replay ≡ length entries = ap (λ replay. length (without_first replay)) waits in
+    let rest : length (after_replay master.ownership).replay ≡ length entries = ap (λ replay. length (drop 1 replay)) waits in
     record { lower = omega arith; factor = refl }
 
 lowers-replay : (master : Master) (replay : List Entry) → master.ownership.replay ≡ replay → master.log.factor ≢ 0 →

@@ -2,8 +2,10 @@
 use Rattle.std.proofs.Common.{◌≡◌, ◌⊎◌, inl, inr, ℕ, ◌+◌, true, false, ◌&&◌, ◌||◌, nat_eq, nat_lt, List, [], ◌∷◌}
 use Rattle.std.proofs.Common.{Option, Some, None, Err, refl, sym, ap, ◌∙◌}
 use Rattle.std.proofs.lemmas.Bool.{and_parts, or_right}
+use Rattle.rc_model.specs.Heads.{next_digest}
+use Rattle.rc_model.specs.Heads.{opened_on}
 use Rattle.rc_model.specs.Model.{ServerId, Entry, LogFull, Opening, Writing, Message, LAST_SEGMENT, all_placed, choose, is_ready, Log}
-use Rattle.rc_model.specs.Model.{head_of, old_head_of, has_old_head, is_opening, is_closing, is_writing, rolled, begin_roll, is_full}
+use Rattle.rc_model.specs.Model.{head_of, old_head_of, has_old_head, is_opening, is_closing, is_writing, begin_roll, is_full}
 use Rattle.rc_model.specs.Model.{may_start, may_close, may_write, left_out, with_freed, writes_on, after_replay, to_answer, Master}
 use Rattle.rc_model.specs.Model.{durable_replayed, dead_segments, appends_entry, follow_up, follows_start, follows_placed, close_is_due}
 use Rattle.rc_model.specs.Model.{follows_closing, follows_shut, first_open, wants_commit, commits, commits_open, rolls_for_replay}
@@ -25,7 +27,7 @@ keeps-change master (Some seg) =
     done-when (KeepsPhaseDone master) (wants_commit (master.log.segments seg)) (commits master seg) (λ _. record { phase = inl refl })
 
 keeps-roll : (master : Master) (chosen : Option (List ServerId)) →
-    AllDone (KeepsPhaseDone master) (rolls_for_replay master (rolled master.log (dead_segments master) chosen))
+    AllDone (KeepsPhaseDone master) (rolls_for_replay master (opened_on master.log (next_digest master.log (dead_segments master)) chosen))
 keeps-roll master None = tt
 keeps-roll master (Some ids) = record { phase = inr refl }
 
@@ -34,7 +36,7 @@ keeps-full : (master : Master) →
     (rolls_for_replay master (begin_roll master.known (dead_segments master) master.log))
 keeps-full master =
     either (λ answer. AllDone (KeepsPhaseDone master) (rolls_for_replay master answer)) (nat_lt master.log.head LAST_SEGMENT)
-    (rolled master.log (dead_segments master) (choose (master.log.head + 1) master.log.own master.log.factor
+    (opened_on master.log (next_digest master.log (dead_segments master)) (choose (master.log.head + 1) master.log.own master.log.factor
     master.known)) (master.log, Err LogFull)
     (λ _. keeps-roll master (choose (master.log.head + 1) master.log.own master.log.factor master.known)) (λ _. tt)
 

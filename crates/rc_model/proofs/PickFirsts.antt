@@ -4,7 +4,9 @@ use Rattle.std.specs.Bool.{Decides}
 use Rattle.std.specs.List.{All}
 use Rattle.std.proofs.lemmas.Bool.{false≢true}
 use Rattle.std.proofs.lemmas.List.Elements.{All-nil, All-cons, All-head, All-tail}
-use Rattle.rc_model.specs.Pick.{HeldRow, first_by, first_by_from}
+use Rattle.std.specs.List.{fold}
+use Rattle.rc_model.specs.Pick.{better}
+use Rattle.rc_model.specs.Pick.{HeldRow, first_by}
 use Rattle.rc_model.specs.PickOrders.{IsFirst}
 
 -- what holds of each element holds of this one
@@ -93,7 +95,7 @@ module _ (before : HeldRow → HeldRow → Bool) (ComesBefore : HeldRow → Held
                 (All-cons (λ row. ComesBefore first row) x es over (All-tail (λ row. ComesBefore first row) e es all));
           }
 
-  first_by_from_first : (best : HeldRow) (rows : List HeldRow) → IsFirst ComesBefore (best ∷ rows) (first_by_from before best rows)
+  first_by_from_first : (best : HeldRow) (rows : List HeldRow) → IsFirst ComesBefore (best ∷ rows) (fold (better before) best rows)
   first_by_from_first best [] = record {
     earlier = [];
     later = [];
@@ -104,10 +106,10 @@ module _ (before : HeldRow → HeldRow → Bool) (ComesBefore : HeldRow → Held
   first_by_from_first best (x ∷ xs) = at (before x best) refl (λ b. first_by_from_first b xs)
     where
       at : (b : Bool) → before x best ≡ b →
-          ((from : HeldRow) → IsFirst ComesBefore (from ∷ xs) (first_by_from before from xs)) →
-          IsFirst ComesBefore (best ∷ x ∷ xs) (first_by_from before (cond b x best) xs)
-      at true is rest = replaced best x xs (first_by_from before x xs) ((tells x best).0 is) (rest x)
-      at false is rest = kept best x xs (first_by_from before best xs) (not_before x best is) (rest best)
+          ((from : HeldRow) → IsFirst ComesBefore (from ∷ xs) (fold (better before) from xs)) →
+          IsFirst ComesBefore (best ∷ x ∷ xs) (fold (better before) (cond b x best) xs)
+      at true is rest = replaced best x xs (fold (better before) x xs) ((tells x best).0 is) (rest x)
+      at false is rest = kept best x xs (fold (better before) best xs) (not_before x best is) (rest best)
 
   -- there is one first row
   same_first : (e : List HeldRow) (a : HeldRow) (l : List HeldRow) (f : List HeldRow) (b : HeldRow) (m : List HeldRow) →
@@ -131,7 +133,7 @@ module _ (before : HeldRow → HeldRow → Bool) (ComesBefore : HeldRow → Held
 
   pub first_by_first : (rows : List HeldRow) (first : HeldRow) → first_by before rows ≡ Some first → IsFirst ComesBefore rows first
   first_by_first [] first is = absurd cc
-  first_by_first (row ∷ rows) first is = let same : first_by_from before row rows ≡ first =
+  first_by_first (row ∷ rows) first is = let same : fold (better before) row rows ≡ first =
       cc in subst (IsFirst ComesBefore (row ∷ rows)) same (first_by_from_first row rows)
 
   pub first_by_from_IsFirst : (rows : List HeldRow) (first : HeldRow) → IsFirst ComesBefore rows first → first_by before rows ≡ Some first
@@ -141,4 +143,4 @@ module _ (before : HeldRow → HeldRow → Bool) (ComesBefore : HeldRow → Held
       at [] place = cc
       at (e ∷ es) place = cc
   first_by_from_IsFirst (row ∷ rows) first is =
-      ap Some (one_first (row ∷ rows) (first_by_from before row rows) first (first_by_from_first row rows) is)
+      ap Some (one_first (row ∷ rows) (fold (better before) row rows) first (first_by_from_first row rows) is)

@@ -2,11 +2,12 @@
 use Rattle.std.proofs.Common.{◌≡◌, ℕ, zero, suc, ◌+◌, ◌-◌, ◌<◌, not, Bool, true, false, cond, nat_lt, nat_eq, ◌&&◌, List, [], ◌∷◌}
 use Rattle.std.proofs.Common.{◌++◌, map, filter, length, Option, Some, None, Result, Ok, Err, refl, inl, inr}
 use Rattle.std.proofs.lemmas.Bool.{and_parts, eqb-true, ltb-true}
+use Rattle.rc_model.specs.Heads.{opened_on}
 use Rattle.rc_model.specs.Model.{ServerId, Addr, Server, Entry, Part, PlanRow, Fault, NotOwner, Rolling, ValueTooLong, Deposed, LogFull}
 use Rattle.rc_model.specs.Model.{NoBackups, Message, Body, Write, Read, Stored, CommitOk, Refused, Data, Own, Close, Ready, Enlist}
 use Rattle.rc_model.specs.Model.{Recovered, LAST_SEGMENT, to_coordinator, ServerList, newer_than, is_up, from_rows, choose, is_unclosed}
-use Rattle.rc_model.specs.Model.{Log, with_segment, old_head_of, numbers_to, is_writing, durable_now, opens_head, opened_first}
-use Rattle.rc_model.specs.Model.{open_first, is_full, appends, next_digest, rolled, begin_roll, stored, commit_noted, loses, shuts}
+use Rattle.rc_model.specs.Model.{Log, with_segment, old_head_of, numbers_to, is_writing, durable_now, opens_head}
+use Rattle.rc_model.specs.Model.{open_first, is_full, appends, next_digest, begin_roll, stored, commit_noted, loses, shuts}
 use Rattle.rc_model.specs.Model.{may_start, may_close, may_write, left_out, starts, closes_old, writes_on, knows_term, term_of}
 use Rattle.rc_model.specs.Model.{begin_part, put_data, grant, after_replay, to_answer, after_answer, Master, Task, with_log}
 use Rattle.rc_model.specs.Model.{durable_replayed, to_ids, ids_of, place_of, places_head, appends_entry, dead_segments, refused}
@@ -136,13 +137,14 @@ roll-cases : (master : Master) (P : Log × Result Bool Fault → Type 0) → ((f
     P (begin_roll master.known (dead_segments master) master.log)
 roll-cases master P none opened =
     either P (nat_lt master.log.head LAST_SEGMENT)
-    (rolled master.log (dead_segments master) (choose (master.log.head + 1) master.log.own master.log.factor master.known))
+    (opened_on master.log (next_digest master.log (dead_segments master))
+    (choose (master.log.head + 1) master.log.own master.log.factor master.known))
     (master.log, Err LogFull)
     (λ room. by (choose (master.log.head + 1) master.log.own master.log.factor master.known) refl
     (ltb-true master.log.head LAST_SEGMENT room)) (λ _. none LogFull)
   where
     by : (chosen : Option (List ServerId)) → choose (master.log.head + 1) master.log.own master.log.factor master.known ≡ chosen →
-        master.log.head < LAST_SEGMENT → P (rolled master.log (dead_segments master) chosen)
+        master.log.head < LAST_SEGMENT → P (opened_on master.log (next_digest master.log (dead_segments master)) chosen)
     by None e room = none NoBackups
     by (Some ids) e room = opened ids room e
 
@@ -234,7 +236,7 @@ module _ (R : Master → Master × List Message → Type 0) (joined : Joined R) 
       kept-then master (replaces_lost master seg) (replaces_lost_of segs) (kept-lost l master seg) (kept-lost_of l segs)
 
   kept-first : Listed R → (master : Master) (chosen : Option (List ServerId)) → master.log.head ≡ 0 →
-      choose 1 master.log.own master.log.factor master.known ≡ chosen → R master (opens_first master (opened_first master.log chosen))
+      choose 1 master.log.own master.log.factor master.known ≡ chosen → R master (opens_first master (opened_on master.log (1 ∷ []) chosen))
   kept-first l master None none e = joined.still master
   kept-first l master (Some ids) none e = l.opens master ids none e
 

@@ -1,6 +1,8 @@
 -- Attempts to recover a crashed master: the answers that are gathered for one, and what is decided on them.
-use Rattle.std.specs.Prelude.{ℕ, ◌+◌, ◌%◌, Bool, true, false, if◌then◌else◌, List, [], ◌∷◌, ◌++◌, length, Option}
-use Rattle.std.specs.Prelude.{Some, None, slice_get}
+use Rattle.std.specs.Prelude.{ℕ, ◌+◌, ◌%◌, Bool, if◌then◌else◌, List, [], ◌∷◌, length, Option}
+use Rattle.std.specs.Prelude.{None, slice_get}
+use Rattle.std.specs.List.{list_any, flat_map, cons_option}
+use Rattle.std.specs.Prelude.{is_none, option_map}
 use Rattle.rc_types.specs.declared.ids.ServerId.{ServerId}
 use Rattle.rc_types.specs.declared.rows.Row.{Row}
 use Rattle.rc_types.specs.declared.rows.Plan.{Plan}
@@ -33,15 +35,10 @@ new_attempt master = record { master = master; replies = []; decided = None }
 
 -- the id has answered already
 abbrev pub has_answered : ServerId → List (ServerId × List Row) → Bool
-has_answered id [] = false
-has_answered id (reply ∷ replies) = if same_id id reply.0 then true else has_answered id replies
-
-abbrev pub is_undecided : Option Decision → Bool
-is_undecided None = true
-is_undecided (Some decision) = false
+has_answered id replies = list_any (λ reply. same_id id reply.0) replies
 
 abbrev pub is_gathering : Attempt → Bool
-is_gathering attempt = is_undecided attempt.decided
+is_gathering attempt = is_none attempt.decided
 
 -- the part of a tablet, under a fresh term
 abbrev pub part_of : Tablet → ℕ → Part
@@ -55,8 +52,7 @@ part_of tablet term = record {
 
 -- a part for this id, before others
 abbrev pub given_to : Option ServerId → Part → List GivenPart → List GivenPart
-given_to None part others = others
-given_to (Some id) part others = record { to = id; part = part } ∷ others
+given_to to part others = cons_option (option_map (λ id. record { to = id; part = part }) to) others
 
 -- the tablets go to the ready ids in turn, from this place on, each under the next term
 abbrev pub gives_parts : List ServerId → ℕ → ℕ → List Tablet → List GivenPart
@@ -77,6 +73,5 @@ plan_message number master plan id (part ∷ parts) =
 
 -- the plan to each of these that has a part
 abbrev pub plan_messages : ℕ → ServerId → Decision → List ServerId → List Message
-plan_messages number master decision [] = []
-plan_messages number master decision (id ∷ ids) =
-    plan_message number master decision.plan id (parts_of id decision.parts) ++ plan_messages number master decision ids
+plan_messages number master decision ids =
+    flat_map (λ id. plan_message number master decision.plan id (parts_of id decision.parts)) ids

@@ -1,6 +1,6 @@
 -- A backup: what it keeps of each master's log, the masters that it has fenced, and the segments that were freed.
 use Rattle.std.specs.Prelude.{ℕ, Bool, true, false, not, nat_eq, nat_lt, nat_le, ◌&&◌, ◌||◌, if◌then◌else◌, List, []}
-use Rattle.std.specs.Prelude.{◌∷◌, ◌++◌, length, take, filter, Option, Some, None}
+use Rattle.std.specs.Prelude.{◌∷◌, ◌++◌, length, take, filter, Option, Some, None, map}
 use Rattle.std.specs.List.{list_any}
 use Rattle.rc_types.specs.declared.ids.ServerId.{ServerId}
 use Rattle.rc_types.specs.declared.ids.Addr.{Addr}
@@ -119,8 +119,7 @@ row_of_replica one = record {
 
 -- a row for each replica
 abbrev pub rows_of_replicas : List (ℕ × Replica) → List Row
-rows_of_replicas [] = []
-rows_of_replicas (one ∷ others) = row_of_replica one ∷ rows_of_replicas others
+rows_of_replicas replicas = map row_of_replica replicas
 
 -- a Gather fences the master, and is answered by the rows of its replicas
 abbrev pub fences : Backup → ℕ → ServerId → Backup × List Message

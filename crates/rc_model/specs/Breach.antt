@@ -1,6 +1,8 @@
 -- A breach of the headline in a list of messages: the first one, by clause. Nothing here knows of nodes.
 use Rattle.std.specs.Prelude.{ℕ, ◌+◌, Bool, true, false, not, nat_eq, nat_lt, ◌&&◌, ◌||◌, if◌then◌else◌, List, []}
-use Rattle.std.specs.Prelude.{◌∷◌, Option, Some, None, zero, suc}
+use Rattle.std.specs.Prelude.{◌∷◌, Option, Some, None, zero, suc, map}
+use Rattle.std.specs.List.{list_any, list_all}
+use Rattle.std.specs.Option.{option_or, option_eq}
 use Rattle.rc_types.specs.declared.entries.Entry.{Entry}
 use Rattle.rc_types.specs.declared.rows.PlanRow.{PlanRow}
 use Rattle.rc_types.specs.declared.messages.Message.{Message}
@@ -21,9 +23,7 @@ same_numbers (n ∷ ns) (m ∷ ms) = nat_eq n m && same_numbers ns ms
 same_numbers _ _ = false
 
 abbrev pub same_value : Option (List ℕ) → Option (List ℕ) → Bool
-same_value None None = true
-same_value (Some a) (Some b) = same_numbers a b
-same_value _ _ = false
+same_value a b = option_eq same_numbers a b
 
 -- the entries are the same, their values too
 abbrev pub same_entry : Entry → Entry → Bool
@@ -42,8 +42,7 @@ abbrev pub agrees : Ack → Entry → Bool
 agrees ack entry = is_of_ack ack entry && nat_eq entry.version ack.version
 
 abbrev pub all_agree : Ack → List Entry → Bool
-all_agree ack [] = true
-all_agree ack (entry ∷ entries) = agrees ack entry && all_agree ack entries
+all_agree ack entries = list_all (agrees ack) entries
 
 -- the entry is a greater version of what was acknowledged
 abbrev pub is_greater : Ack → Entry → Bool
@@ -62,9 +61,8 @@ holds_greater rows ack _ = false
 
 -- a greater version of what was acknowledged is made at a place that a row holds
 abbrev pub is_superseded : List Message → Accepted → Ack → Bool
-is_superseded [] plan ack = false
-is_superseded (message ∷ sent) plan ack =
-    (is_server plan.master message.from && holds_greater plan.rows ack message.body) || is_superseded sent plan ack
+is_superseded sent plan ack =
+    list_any (λ message. is_server plan.master message.from && holds_greater plan.rows ack message.body) sent
 
 -- no row holds the place, and none a greater version of its key under its term; or another entry was made at the place
 abbrev pub is_missing : List Message → Accepted → Ack → Bool
@@ -83,8 +81,7 @@ first_missing sent plan (ack ∷ acks) =
 
 -- all of these are the same as this one
 abbrev pub all_same : Entry → List Entry → Bool
-all_same entry [] = true
-all_same entry (other ∷ others) = same_entry entry other && all_same entry others
+all_same entry others = list_all (same_entry entry) others
 
 -- something was sent for the place, and all that was sent for it is the same
 abbrev pub is_one_entry : List Entry → Bool
@@ -98,20 +95,14 @@ first_invented_from sent plan s o (suc places) =
     if is_one_entry (made sent plan.master s o) then first_invented_from sent plan s (o + 1) places
     else Some (Invented plan.attempt plan.master s o)
 
--- the first breach of two
-abbrev pub or_else : Option Breach → Option Breach → Option Breach
-or_else (Some breach) other = Some breach
-or_else None other = other
-
 -- the first such place of these segments, in their order
 abbrev pub first_invented : List Message → Accepted → List ℕ → Option Breach
 first_invented sent plan [] = None
 first_invented sent plan (s ∷ segs) =
-    or_else (first_invented_from sent plan s 0 (reach plan.rows s)) (first_invented sent plan segs)
+    option_or (first_invented_from sent plan s 0 (reach plan.rows s)) (first_invented sent plan segs)
 
 abbrev pub segments_of : List PlanRow → List ℕ
-segments_of [] = []
-segments_of (row ∷ rows) = row.seg ∷ segments_of rows
+segments_of rows = map (λ row. row.seg) rows
 
 -- Versions rise over owners
 
@@ -134,20 +125,20 @@ first_fall sent later (earlier ∷ acks) =
 abbrev pub missing_of : List Message → List Accepted → Option Breach
 missing_of sent [] = None
 missing_of sent (plan ∷ plans) =
-    or_else (first_missing sent plan (acknowledged sent plan.master)) (missing_of sent plans)
+    option_or (first_missing sent plan (acknowledged sent plan.master)) (missing_of sent plans)
 
 abbrev pub invented_of : List Message → List Accepted → Option Breach
 invented_of sent [] = None
 invented_of sent (plan ∷ plans) =
-    or_else (first_invented sent plan (ascending (segments_of plan.rows))) (invented_of sent plans)
+    option_or (first_invented sent plan (ascending (segments_of plan.rows))) (invented_of sent plans)
 
 abbrev pub falls_of : List Message → List Ack → Option Breach
 falls_of sent [] = None
-falls_of sent (later ∷ acks) = or_else (first_fall sent later (all_acknowledged sent)) (falls_of sent acks)
+falls_of sent (later ∷ acks) = option_or (first_fall sent later (all_acknowledged sent)) (falls_of sent acks)
 
 -- the first breach: a missing write of any plan comes before an invented place of any, and that before a falling
 -- version
 abbrev pub breach : List Message → Option Breach
 breach sent =
-    or_else (missing_of sent (accepted sent))
-    (or_else (invented_of sent (accepted sent)) (falls_of sent (all_acknowledged sent)))
+    option_or (missing_of sent (accepted sent))
+    (option_or (invented_of sent (accepted sent)) (falls_of sent (all_acknowledged sent)))

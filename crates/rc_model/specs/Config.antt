@@ -2,7 +2,7 @@
 -- changes.
 use Rattle.std.specs.Prelude.{ℕ, ◌+◌, ◌-◌, ◌%◌, Bool, true, false, not, nat_eq, nat_lt, ◌&&◌, ◌||◌, if◌then◌else◌}
 use Rattle.std.specs.Prelude.{List, [], ◌∷◌, ◌++◌, length, take, drop, min, max, map, filter, find, Option, Some}
-use Rattle.std.specs.Prelude.{None, option_map, is_some, Result, Ok, Err}
+use Rattle.std.specs.Prelude.{None, option_map, is_some, Result, Ok, Err, option_and_then}
 use Rattle.std.specs.List.{list_all, list_any}
 use Rattle.rc_types.specs.declared.ids.ServerId.{ServerId}
 use Rattle.rc_types.specs.declared.kept.Member.{Member}
@@ -27,14 +27,11 @@ pub record Config : Type 0 where
 abbrev pub of_other_hosts : ℕ → List ServerId → List ServerId
 of_other_hosts index ids = filter (λ id. not (nat_eq id.index index)) ids
 
--- the list from this place on, and then its beginning
-abbrev pub counted_from : {X : Type 0} → ℕ → List X → List X
-counted_from place xs = drop place xs ++ take place xs
-
 -- who may be a member: the ids that are up on other hosts, counted from the segment's place on
 abbrev pub candidates : ℕ → ServerId → ServerList → List ServerId
 candidates seg own servers =
-    let ids = of_other_hosts own.index (up servers) in counted_from ((seg - 1) % length ids) ids
+    let ids = of_other_hosts own.index (up servers) in
+    let place = (seg - 1) % length ids in drop place ids ++ take place ids
 
 -- the first so many of them; none where there are too few
 abbrev pub choose : ℕ → ServerId → ℕ → ServerList → Option (List ServerId)
@@ -131,16 +128,13 @@ staying members = map (λ member. member.id) (filter (λ member. not member.lost
 abbrev pub first_free : List ServerId → List ServerId → Option ServerId
 first_free ids taken = find (λ id. not (list_any (λ other. nat_eq id.index other.index) taken)) ids
 
--- the id, and then the others that are chosen once it is taken
-abbrev pub and_then : Option ServerId → (ServerId → Option (List ServerId)) → Option (List ServerId)
-and_then None others = None
-and_then (Some id) others = option_map (λ ids. id ∷ ids) (others id)
-
 -- for each lost member, in member order, the first candidate that is free then; none where one finds no candidate
 abbrev pub substitutes : List ServerId → List ServerId → List Member → Option (List ServerId)
 substitutes ids taken [] = Some []
 substitutes ids taken (member ∷ members) =
-    if member.lost then and_then (first_free ids taken) (λ id. substitutes ids (id ∷ taken) members)
+    if member.lost
+    then option_and_then (λ id. option_map (λ others. id ∷ others) (substitutes ids (id ∷ taken) members))
+    (first_free ids taken)
     else substitutes ids taken members
 
 -- the substitutes for the lost members of a segment

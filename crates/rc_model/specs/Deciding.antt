@@ -1,6 +1,6 @@
 -- What the coordinator does for recoveries: answers, the decision, and the grants.
 use Rattle.std.specs.Prelude.{ℕ, ◌+◌, ◌-◌, Bool, not, nat_eq, ◌&&◌, if◌then◌else◌, List, [], ◌∷◌, ◌++◌, length}
-use Rattle.std.specs.Prelude.{filter, find, Option, Some, None, Result, Ok, Err}
+use Rattle.std.specs.Prelude.{filter, find, Option, Some, None, Result, Ok, Err, option_and_then}
 use Rattle.rc_types.specs.declared.ids.ServerId.{ServerId}
 use Rattle.rc_types.specs.declared.rows.Row.{Row}
 use Rattle.rc_types.specs.declared.rows.Plan.{Plan}
@@ -98,8 +98,8 @@ grant_to c owner term = find (is_grant_to owner term) c.grants
 
 -- the part of this term among those that the decision gave to this id
 abbrev pub part_in : ServerId → ℕ → Option Decision → Option Part
-part_in id term None = None
-part_in id term (Some decision) = find (λ part. nat_eq part.term term) (parts_of id decision.parts)
+part_in id term decided =
+    option_and_then (λ decision. find (λ part. nat_eq part.term term) (parts_of id decision.parts)) decided
 
 abbrev pub part_if_current : Coordinator → ServerId → ℕ → ℕ → Option Attempt → Option Part
 part_if_current c id number term None = None

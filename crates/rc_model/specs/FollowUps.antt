@@ -2,6 +2,8 @@
 use Rattle.std.specs.Prelude.{ℕ, ◌+◌, ◌*◌, ◌-◌, Bool, true, false, not, nat_eq, nat_lt, ◌&&◌, if◌then◌else◌, List}
 use Rattle.std.specs.Prelude.{[], ◌∷◌, ◌++◌, length, drop, take, find, filter, Option, Some, None, zero, suc, Result}
 use Rattle.std.specs.Prelude.{Ok, Err}
+use Rattle.std.specs.List.{flat_map}
+use Rattle.std.specs.Option.{option_or}
 use Rattle.rc_types.specs.declared.ids.ServerId.{ServerId}
 use Rattle.rc_types.specs.declared.entries.Entry.{Entry}
 use Rattle.rc_types.specs.declared.faults.Fault.{Fault}
@@ -52,8 +54,7 @@ follows_closing master = when (close_is_due master.log) (
 
 -- Free of each of these segments goes to each of its members that isn't lost
 abbrev pub frees_segments : Log → List ℕ → List Message
-frees_segments log [] = []
-frees_segments log (seg ∷ segs) = to_unlost log seg (Free seg) ++ frees_segments log segs
+frees_segments log segs = flat_map (λ seg. to_unlost log seg (Free seg)) segs
 
 abbrev pub follows_shut : Master → Option (Master × List Message)
 follows_shut master =
@@ -143,17 +144,12 @@ follows_replay master = answers_part master (to_answer (durable_replayed master)
 
 -- All of them
 
--- the first of two rules that applies
-abbrev pub or_rule : Option (Master × List Message) → Option (Master × List Message) → Option (Master × List Message)
-or_rule (Some done) other = Some done
-or_rule None other = other
-
 -- the first rule that applies, if one does
 abbrev pub follow_up : Master → Option (Master × List Message)
 follow_up master =
-    or_rule (follows_start master) (or_rule (follows_placed master) (or_rule (follows_closing master)
-    (or_rule (follows_shut master) (or_rule (follows_change master) (or_rule (follows_stored master)
-    (or_rule (follows_data master) (follows_replay master)))))))
+    option_or (follows_start master) (option_or (follows_placed master) (option_or (follows_closing master)
+    (option_or (follows_shut master) (option_or (follows_change master) (option_or (follows_stored master)
+    (option_or (follows_data master) (follows_replay master)))))))
 
 -- a segment that has become shut is marked before each search
 abbrev pub marks_shut : Master → Master

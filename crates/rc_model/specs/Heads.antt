@@ -2,7 +2,7 @@
 -- replaced. It says who is to be sent what, and sends nothing.
 use Rattle.std.specs.Prelude.{ℕ, ◌+◌, ◌-◌, Bool, true, false, not, nat_eq, nat_lt, nat_le, ◌&&◌, ◌||◌, if◌then◌else◌}
 use Rattle.std.specs.Prelude.{List, [], ◌∷◌, ◌++◌, length, map, filter, Option, Some, None, Result, Ok, Err}
-use Rattle.std.specs.List.{list_any}
+use Rattle.std.specs.List.{list_any, fold}
 use Rattle.rc_types.specs.declared.ids.ServerId.{ServerId}
 use Rattle.rc_types.specs.declared.entries.Entry.{Entry}
 use Rattle.rc_types.specs.declared.kept.Phase.TheVariants.{Opening, Closing, Writing}
@@ -26,13 +26,13 @@ opens_head log digest ids = record log {
   phase = Opening;
 }
 
--- the first head, on these members
-abbrev pub opened_first : Log → Option (List ServerId) → Log × Result Bool Fault
-opened_first log None = (log, Err NoBackups)
-opened_first log (Some ids) = (opens_head log (1 ∷ []) ids, Ok true)
+-- a head with this digest on these members, if they can be chosen
+abbrev pub opened_on : Log → List ℕ → Option (List ServerId) → Log × Result Bool Fault
+opened_on log digest None = (log, Err NoBackups)
+opened_on log digest (Some ids) = (opens_head log digest ids, Ok true)
 
 abbrev pub open_first : ServerList → Log → Log × Result Bool Fault
-open_first servers log = opened_first log (choose 1 log.own log.factor servers)
+open_first servers log = opened_on log (1 ∷ []) (choose 1 log.own log.factor servers)
 
 abbrev pub is_full : Log → Bool
 is_full log = nat_le log.size (length (head_of log).entries)
@@ -53,14 +53,11 @@ abbrev pub next_digest : Log → List ℕ → List ℕ
 next_digest log dead =
     filter (λ seg. nat_eq seg log.head || not (list_any (nat_eq seg) dead)) (head_of log).digest ++ (log.head + 1) ∷ []
 
-abbrev pub rolled : Log → List ℕ → Option (List ServerId) → Log × Result Bool Fault
-rolled log dead None = (log, Err NoBackups)
-rolled log dead (Some ids) = (opens_head log (next_digest log dead) ids, Ok true)
-
 -- a roll begins: the next segment is opened, unless this is the last one or no members can be chosen
 abbrev pub begin_roll : ServerList → List ℕ → Log → Log × Result Bool Fault
 begin_roll servers dead log =
-    if nat_lt log.head LAST_SEGMENT then rolled log dead (choose (log.head + 1) log.own log.factor servers)
+    if nat_lt log.head LAST_SEGMENT
+    then opened_on log (next_digest log dead) (choose (log.head + 1) log.own log.factor servers)
     else (log, Err LogFull)
 
 -- What members tell
@@ -125,8 +122,8 @@ left_out log = filter (λ seg. not (list_any (nat_eq seg) (head_of log).digest))
 
 -- these segments are marked freed
 abbrev pub with_freed : List ℕ → Log → Log
-with_freed [] log = log
-with_freed (seg ∷ segs) log = with_freed segs (with_segment seg (record (log.segments seg) { freed = true }) log)
+with_freed segs log =
+    fold (λ now seg. with_segment seg (record (now.segments seg) { freed = true }) now) log segs
 
 abbrev pub starts : Log → Log
 starts log = record log { phase = Writing }

@@ -1,5 +1,6 @@
 -- Ids: when two are the same, and their order.
 use Rattle.std.specs.Prelude.{Bool, false, nat_eq, nat_lt, ◌&&◌, ◌||◌, if◌then◌else◌, List, [], ◌∷◌}
+use Rattle.std.specs.List.{list_any}
 use Rattle.rc_types.specs.declared.ids.ServerId.{ServerId}
 use Rattle.rc_types.specs.declared.ids.Addr.{Addr}
 use Rattle.rc_types.specs.declared.ids.Addr.TheVariants.{Server}
@@ -36,5 +37,4 @@ insert_id_once id (other ∷ ids) =
 
 -- the id stands in the list
 abbrev pub has_id : ServerId → List ServerId → Bool
-has_id id [] = false
-has_id id (other ∷ ids) = same_id id other || has_id id ids
+has_id id ids = list_any (same_id id) ids

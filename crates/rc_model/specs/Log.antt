@@ -48,18 +48,15 @@ numbers_to (suc n) = numbers_to n ++ suc n ∷ []
 
 abbrev pub is_opening : Phase → Bool
 is_opening Opening = true
-is_opening Closing = false
-is_opening Writing = false
+is_opening _ = false
 
 abbrev pub is_closing : Phase → Bool
 is_closing Closing = true
-is_closing Opening = false
-is_closing Writing = false
+is_closing _ = false
 
 abbrev pub is_writing : Phase → Bool
 is_writing Writing = true
-is_writing Opening = false
-is_writing Closing = false
+is_writing _ = false
 
 -- The places of a log, in order
 

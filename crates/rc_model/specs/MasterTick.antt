@@ -1,6 +1,7 @@
 -- A master's timer: it enlists anew, or says again what was not answered.
 use Rattle.std.specs.Prelude.{ℕ, ◌+◌, Bool, true, false, not, nat_eq, nat_lt, ◌&&◌, if◌then◌else◌, List, [], ◌∷◌}
 use Rattle.std.specs.Prelude.{◌++◌, length, drop, map, filter, Option, Some, None, is_some}
+use Rattle.std.specs.List.{flat_map}
 use Rattle.rc_types.specs.declared.ids.ServerId.{ServerId}
 use Rattle.rc_types.specs.declared.rows.PlanRow.{PlanRow}
 use Rattle.rc_types.specs.declared.kept.Member.{Member}
@@ -52,15 +53,12 @@ abbrev pub reminds_member : Log → ℕ → Member → List Message
 reminds_member log seg member = map (λ body. between log.own member.id body) (lacking log seg member.told)
 
 abbrev pub reminds_members : Log → ℕ → List Member → List Message
-reminds_members log seg [] = []
-reminds_members log seg (member ∷ members) = reminds_member log seg member ++ reminds_members log seg members
+reminds_members log seg members = flat_map (reminds_member log seg) members
 
 -- the open segments among these
 abbrev pub reminds_open : Log → Log → List ℕ → List Message
-reminds_open before log [] = []
-reminds_open before log (seg ∷ segs) =
-    (if (log.segments seg).shut then [] else reminds_members log seg (to_remind before log seg)) ++
-    reminds_open before log segs
+reminds_open before log segs =
+    flat_map (λ seg. if (log.segments seg).shut then [] else reminds_members log seg (to_remind before log seg)) segs
 
 -- the members of a shut segment that have told nothing, lost or not, get it again, closed
 abbrev pub reminds_shut_members : Log → ℕ → List Member → List Message
@@ -70,11 +68,9 @@ reminds_shut_members log seg members =
 
 -- the shut segments among these, save those that were freed
 abbrev pub reminds_shut : Log → Log → List ℕ → List Message
-reminds_shut before log [] = []
-reminds_shut before log (seg ∷ segs) =
-    (if (log.segments seg).shut && not (log.segments seg).freed
-    then reminds_shut_members log seg (standing before log seg)
-    else []) ++ reminds_shut before log segs
+reminds_shut before log segs =
+    flat_map (λ seg. if (log.segments seg).shut && not (log.segments seg).freed
+    then reminds_shut_members log seg (standing before log seg) else []) segs
 
 -- a Commit was sent and not answered, and the segment is placed on all under its epoch
 abbrev pub awaits_commit : Segment → Bool
@@ -93,10 +89,8 @@ abbrev pub fetch_of : ServerId → Task → PlanRow → Message
 fetch_of own task row = between own row.holder (Fetch task.attempt task.master row.seg row.len task.part)
 
 abbrev pub fetches_again : Master → List Task → List Message
-fetches_again master [] = []
-fetches_again master (task ∷ tasks) =
-    map (fetch_of master.log.own task) (filter (has_not_come master.ownership task) task.rows) ++
-    fetches_again master tasks
+fetches_again master tasks =
+    flat_map (λ task. map (fetch_of master.log.own task) (filter (has_not_come master.ownership task) task.rows)) tasks
 
 -- a complete part that isn't granted yet
 abbrev pub awaits_grant : Master → PartState → Bool

@@ -1,5 +1,5 @@
 -- Short forms for messages, by who sends them.
-use Rattle.std.specs.Prelude.{List, [], ◌∷◌}
+use Rattle.std.specs.Prelude.{List, map}
 use Rattle.rc_types.specs.declared.ids.ServerId.{ServerId}
 use Rattle.rc_types.specs.declared.ids.Addr.TheVariants.{Coordinator, Server, Outside}
 use Rattle.rc_types.specs.declared.faults.Fault.{Fault}
@@ -26,8 +26,7 @@ from_coordinator addressee body = record { from = Coordinator; to = Server addre
 
 -- the same to each of these, in their order
 abbrev pub to_each : List ServerId → Body → List Message
-to_each [] body = []
-to_each (id ∷ ids) body = from_coordinator id body ∷ to_each ids body
+to_each ids body = map (λ id. from_coordinator id body) ids
 
 -- a refusal by a server, and one by the coordinator, to the outside
 abbrev pub refuses : ServerId → Fault → Message

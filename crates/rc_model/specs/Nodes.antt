@@ -2,6 +2,8 @@
 -- can be given and what it then does depend on its own state and on that work alone.
 use Rattle.std.specs.Prelude.{ℕ, ◌+◌, Bool, true, false, nat_lt, ◌&&◌, if◌then◌else◌, List, [], ◌∷◌, Option, Some}
 use Rattle.std.specs.Prelude.{None, slice_get}
+use Rattle.std.specs.Prelude.{is_some}
+use Rattle.std.specs.Prelude.{unwrap_or}
 use Rattle.rc_types.specs.declared.ids.ServerId.{ServerId}
 use Rattle.rc_types.specs.declared.ids.Addr.{Addr}
 use Rattle.rc_types.specs.declared.ids.Addr.TheVariants.{Server, Outside}
@@ -51,13 +53,10 @@ outside_sends _ = []
 -- The coordinator
 
 abbrev pub coordinator_can : Work → Bool
-coordinator_can (Take message) = true
-coordinator_can (Tick addr) = true
-coordinator_can (Suspect id) = true
-coordinator_can (Decide id) = true
-coordinator_can (Create table owner) = true
-coordinator_can (Split table at) = true
-coordinator_can _ = false
+coordinator_can (Ask to body) = false
+coordinator_can (Stop id) = false
+coordinator_can (Start kept) = false
+coordinator_can _ = true
 
 abbrev pub coordinator_step : Coordinator → Work → Coordinator × List Message
 coordinator_step c (Take message) = coordinator_takes c message.from message.body
@@ -78,12 +77,8 @@ pub record HostNode : Type 0 where
   pub master : Option Master
 
 -- how many replicas each segment of a host's masters has
-abbrev pub or_number : Option ℕ → ℕ → ℕ
-or_number (Some n) other = n
-or_number None other = other
-
 abbrev pub factor_of : Setup → ℕ → ℕ
-factor_of setup index = or_number (slice_get setup.factors index) setup.factor
+factor_of setup index = unwrap_or (slice_get setup.factors index) setup.factor
 
 abbrev pub master_setup : Setup → ℕ → MasterSetup
 master_setup setup index = record { factor = factor_of setup index; size = setup.segment; free = setup.free }
@@ -101,12 +96,8 @@ new_host index setup = record {
 abbrev pub server_of : HostNode → ServerId
 server_of host = record { index = host.index; generation = host.generation }
 
-abbrev pub is_some_master : Option Master → Bool
-is_some_master None = false
-is_some_master (Some master) = true
-
 abbrev pub runs : HostNode → Bool
-runs host = is_some_master host.master
+runs host = is_some host.master
 
 -- the address is that of the server that runs on the host now
 abbrev pub is_running_at : HostNode → Addr → Bool

@@ -1,6 +1,7 @@
 -- Who was granted what, and which of two ownerships of a point is the earlier one, by the messages sent alone.
-use Rattle.std.specs.Prelude.{◌≡◌, ℕ, nat_eq, nat_le, ◌&&◌, ◌||◌, Bool, false, List, [], ◌∷◌, ◌++◌, filter, Some}
+use Rattle.std.specs.Prelude.{◌≡◌, ℕ, nat_eq, nat_le, ◌&&◌, ◌||◌, Bool, false, List, [], ◌∷◌, filter, Some}
 use Rattle.std.specs.Prelude.{slice_get}
+use Rattle.std.specs.List.{flat_map}
 use Rattle.rc_types.specs.declared.ids.Addr.{Addr}
 use Rattle.rc_types.specs.declared.messages.Message.{Message}
 use Rattle.rc_types.specs.declared.messages.Body.{Body}
@@ -23,8 +24,7 @@ grant_in to _ = []
 
 -- the grants, in order
 abbrev pub granted : List Message → List Granted
-granted [] = []
-granted (message ∷ sent) = grant_in message.to message.body ++ granted sent
+granted sent = flat_map (λ message. grant_in message.to message.body) sent
 
 -- the grant was sent
 abbrev pub IsGranted : List Message → Granted → Type 0

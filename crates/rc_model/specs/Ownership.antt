@@ -1,7 +1,9 @@
 -- What a master owns, and the parts of crashed masters' logs that it replays.
 use Rattle.std.specs.Prelude.{ℕ, Bool, true, false, not, nat_eq, nat_lt, nat_le, ◌&&◌, ◌||◌, if◌then◌else◌, List, []}
 use Rattle.std.specs.Prelude.{◌∷◌, ◌++◌, length, map, filter, find, Option, Some, None, option_map, is_some}
-use Rattle.std.specs.List.{list_any, list_all}
+use Rattle.std.specs.List.{list_any, list_all, flat_map}
+use Rattle.std.specs.Prelude.{drop}
+use Rattle.std.specs.Prelude.{unwrap_or}
 use Rattle.rc_types.specs.declared.ids.ServerId.{ServerId}
 use Rattle.rc_types.specs.declared.entries.Entry.{Entry}
 use Rattle.rc_types.specs.declared.rows.KeyRange.{KeyRange}
@@ -101,14 +103,9 @@ awaits_data term seg from own = list_any (awaits term seg from) own.parts
 abbrev pub all_came : List PartRow → Bool
 all_came rows = list_all (λ row. is_some row.came) rows
 
-abbrev pub came_entries : Option (List Entry) → List Entry
-came_entries None = []
-came_entries (Some entries) = entries
-
 -- the entries of all rows that have come, in order of segment and offset
 abbrev pub entries_that_came : List PartRow → List Entry
-entries_that_came [] = []
-entries_that_came (row ∷ rows) = came_entries row.came ++ entries_that_came rows
+entries_that_came rows = flat_map (λ row. unwrap_or row.came []) rows
 
 -- the entry under another term
 abbrev pub under_term : ℕ → Entry → Entry
@@ -147,12 +144,8 @@ put_data term seg from entries own = record own {
 }
 
 -- the first entry of the replay is taken out of it
-abbrev pub without_first : List Entry → List Entry
-without_first [] = []
-without_first (entry ∷ entries) = entries
-
 abbrev pub after_replay : Ownership → Ownership
-after_replay own = record own { replay = without_first own.replay }
+after_replay own = record own { replay = drop 1 own.replay }
 
 -- how many of these entries are under the term
 abbrev pub count_under : ℕ → List Entry → ℕ

@@ -1,6 +1,7 @@
 -- The choice of the log: which rows of the backups' answers a recovery takes.
-use Rattle.std.specs.Prelude.{◌≡◌, ℕ, Bool, not, nat_eq, nat_lt, ◌&&◌, ◌||◌, if◌then◌else◌, List, [], ◌∷◌, ◌++◌}
-use Rattle.std.specs.Prelude.{filter, Option, Some, None, Result, Ok, Err}
+use Rattle.std.specs.Prelude.{◌≡◌, ℕ, Bool, not, nat_eq, nat_lt, ◌&&◌, ◌||◌, if◌then◌else◌, List, [], ◌∷◌}
+use Rattle.std.specs.Prelude.{filter, Option, Some, None, Result, Ok, Err, map}
+use Rattle.std.specs.List.{flat_map, reduce}
 use Rattle.rc_types.specs.declared.ids.ServerId.{ServerId}
 use Rattle.rc_types.specs.declared.ids.Pair.{Pair}
 use Rattle.rc_types.specs.declared.rows.Row.{Row}
@@ -18,12 +19,10 @@ pub record HeldRow : Type 0 where
 
 -- the rows of all answers, in the order of the answers
 abbrev pub rows_of : ServerId → List Row → List HeldRow
-rows_of holder [] = []
-rows_of holder (row ∷ rows) = record { holder = holder; row = row } ∷ rows_of holder rows
+rows_of holder rows = map (λ row. record { holder = holder; row = row }) rows
 
 abbrev pub held_rows : List (ServerId × List Row) → List HeldRow
-held_rows [] = []
-held_rows (reply ∷ replies) = rows_of reply.0 reply.1 ++ held_rows replies
+held_rows replies = flat_map (λ reply. rows_of reply.0 reply.1) replies
 
 -- the pair is below the other
 abbrev pub is_below : Pair → Pair → Bool
@@ -47,41 +46,30 @@ is_valid_of min seg held = nat_eq held.row.seg seg && is_valid min held.row
 abbrev pub then_by : (HeldRow → HeldRow → Bool) → (HeldRow → HeldRow → Bool) → HeldRow → HeldRow → Bool
 then_by first next a b = first a b || (not (first b a) && next a b)
 
-abbrev pub greater_segment : HeldRow → HeldRow → Bool
-greater_segment a b = nat_lt b.row.seg a.row.seg
-
-abbrev pub greater_epoch : HeldRow → HeldRow → Bool
-greater_epoch a b = nat_lt b.row.epoch a.row.epoch
-
-abbrev pub greater_length : HeldRow → HeldRow → Bool
-greater_length a b = nat_lt b.row.len a.row.len
-
-abbrev pub closed_before_open : HeldRow → HeldRow → Bool
-closed_before_open a b = a.row.closed && not b.row.closed
-
-abbrev pub least_holder : HeldRow → HeldRow → Bool
-least_holder a b = id_before a.holder b.holder
+-- a greater number comes first
+abbrev pub greater : (Row → ℕ) → HeldRow → HeldRow → Bool
+greater number a b = nat_lt (number b.row) (number a.row)
 
 -- by greater epoch, then greater length, then least holder
 abbrev pub longer_first : HeldRow → HeldRow → Bool
-longer_first = then_by greater_epoch (then_by greater_length least_holder)
+longer_first =
+    then_by (greater (λ row. row.epoch)) (then_by (greater (λ row. row.len)) (λ a b. id_before a.holder b.holder))
 
 -- a greater segment, and in one segment as above
 abbrev pub head_first : HeldRow → HeldRow → Bool
-head_first = then_by greater_segment longer_first
+head_first = then_by (greater (λ row. row.seg)) longer_first
 
 -- closed before open, and then as above
 abbrev pub closed_first : HeldRow → HeldRow → Bool
-closed_first = then_by closed_before_open longer_first
+closed_first = then_by (λ a b. a.row.closed && not b.row.closed) longer_first
+
+-- the better of two by an order, and where they are alike the one that was there
+abbrev pub better : (HeldRow → HeldRow → Bool) → HeldRow → HeldRow → HeldRow
+better before best row = if before row best then row else best
 
 -- the first by an order, and of those that are alike the one that stands first in the list
-abbrev pub first_by_from : (HeldRow → HeldRow → Bool) → HeldRow → List HeldRow → HeldRow
-first_by_from before best [] = best
-first_by_from before best (row ∷ rows) = first_by_from before (if before row best then row else best) rows
-
 abbrev pub first_by : (HeldRow → HeldRow → Bool) → List HeldRow → Option HeldRow
-first_by before [] = None
-first_by before (row ∷ rows) = Some (first_by_from before row rows)
+first_by before rows = reduce (better before) rows
 
 -- the head row: of the valid open rows of the greatest segment that has one
 abbrev pub head_row : Pair → List (ServerId × List Row) → Option HeldRow

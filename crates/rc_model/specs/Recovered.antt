@@ -1,5 +1,6 @@
 -- What was acknowledged, which recoveries were accepted, and what they recover, by the messages sent alone.
 use Rattle.std.specs.Prelude.{ℕ, nat_eq, nat_lt, if◌then◌else◌, Bool, List, [], ◌∷◌, ◌++◌, max}
+use Rattle.std.specs.List.{flat_map}
 use Rattle.rc_types.specs.declared.ids.ServerId.{ServerId}
 use Rattle.rc_types.specs.declared.ids.Pair.{Pair}
 use Rattle.rc_types.specs.declared.rows.PlanRow.{PlanRow}
@@ -31,8 +32,7 @@ acknowledged (message ∷ sent) m =
 
 -- the writes that anyone has acknowledged, in order
 abbrev pub all_acknowledged : List Message → List Ack
-all_acknowledged [] = []
-all_acknowledged (message ∷ sent) = ack_in message.body ++ all_acknowledged sent
+all_acknowledged sent = flat_map (λ message. ack_in message.body) sent
 
 -- an accepted recovery: the attempt, the master, and where its log is
 pub record Accepted : Type 0 where
@@ -46,8 +46,7 @@ plan_in _ = []
 
 -- the accepted recoveries, in order: each Plan message by itself
 abbrev pub accepted : List Message → List Accepted
-accepted [] = []
-accepted (message ∷ sent) = plan_in message.body ++ accepted sent
+accepted sent = flat_map (λ message. plan_in message.body) sent
 
 -- how far the rows reach in a segment: the places below this are recovered
 abbrev pub reach : List PlanRow → ℕ → ℕ

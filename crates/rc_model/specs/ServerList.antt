@@ -1,6 +1,8 @@
 -- The server list: every id that was ever enlisted, in the order of enlisting, with a mark whether it
 -- is up, and a version that rises with each change. An id that has crashed is never up again.
-use Rattle.std.specs.Prelude.{ℕ, ◌+◌, Bool, true, false, nat_eq, nat_lt, ◌&&◌, ◌||◌, if◌then◌else◌, List, [], ◌∷◌, ◌++◌}
+use Rattle.std.specs.Prelude.{ℕ, ◌+◌, Bool, true, false, nat_eq, nat_lt, ◌&&◌, if◌then◌else◌, List, [], ◌∷◌, ◌++◌}
+use Rattle.std.specs.Prelude.{map}
+use Rattle.std.specs.List.{list_any, list_all}
 use Rattle.rc_types.specs.declared.ids.ServerId.{ServerId}
 use Rattle.rc_model.specs.Ids.{same_id, ids_in_order}
 
@@ -14,8 +16,7 @@ no_servers = record { version = 0; rows = [] }
 
 -- the id has a row
 abbrev pub knows : List (ServerId × Bool) → ServerId → Bool
-knows [] id = false
-knows (row ∷ rows) id = same_id id row.0 || knows rows id
+knows rows id = list_any (λ row. same_id id row.0) rows
 
 -- the id has a row, and it is marked up
 abbrev pub marked_up : List (ServerId × Bool) → ServerId → Bool
@@ -40,15 +41,12 @@ up servers = ids_in_order (up_rows servers.rows)
 
 -- the generation is above all known of its index
 abbrev pub is_newest : ServerId → List (ServerId × Bool) → Bool
-is_newest id [] = true
-is_newest id (row ∷ rows) =
-    (if nat_eq row.0.index id.index then nat_lt row.0.generation id.generation else true) && is_newest id rows
+is_newest id rows =
+    list_all (λ row. if nat_eq row.0.index id.index then nat_lt row.0.generation id.generation else true) rows
 
 -- every id of the index is marked crashed
 abbrev pub index_crashed : ℕ → List (ServerId × Bool) → List (ServerId × Bool)
-index_crashed index [] = []
-index_crashed index (row ∷ rows) =
-    (row.0, (if nat_eq row.0.index index then false else row.1)) ∷ index_crashed index rows
+index_crashed index rows = map (λ row. (row.0, (if nat_eq row.0.index index then false else row.1))) rows
 
 -- a new id is up, and older generations of its index have crashed
 abbrev pub enlisted : ServerId → ServerList → ServerList
@@ -59,8 +57,7 @@ enlisted id servers = record {
 
 -- the id is marked crashed
 abbrev pub id_crashed : ServerId → List (ServerId × Bool) → List (ServerId × Bool)
-id_crashed id [] = []
-id_crashed id (row ∷ rows) = (row.0, (if same_id id row.0 then false else row.1)) ∷ id_crashed id rows
+id_crashed id rows = map (λ row. (row.0, (if same_id id row.0 then false else row.1))) rows
 
 -- an id that is up crashes; of another nothing changes
 abbrev pub crashed : ServerId → ServerList → ServerList

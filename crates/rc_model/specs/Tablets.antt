@@ -1,7 +1,8 @@
 -- The tablets: a list in order of (table, lo), of ranges that do not overlap. A table that is there
 -- is covered from key 0 to the last one.
-use Rattle.std.specs.Prelude.{ℕ, ◌+◌, ◌-◌, Bool, true, false, not, nat_eq, nat_lt, nat_le, ◌&&◌, ◌||◌, if◌then◌else◌}
-use Rattle.std.specs.Prelude.{List, [], ◌∷◌, Option, Some, None}
+use Rattle.std.specs.Prelude.{ℕ, ◌+◌, ◌-◌, Bool, true, false, not, nat_eq, nat_lt, nat_le, ◌&&◌, if◌then◌else◌}
+use Rattle.std.specs.Prelude.{List, [], ◌∷◌, Option, map, filter, find}
+use Rattle.std.specs.List.{list_any}
 use Rattle.rc_types.specs.declared.ids.ServerId.{ServerId}
 use Rattle.rc_types.specs.declared.rows.Tablet.{Tablet}
 use Rattle.rc_types.specs.declared.rows.KeyRange.{KeyRange}
@@ -14,19 +15,15 @@ holds tablet table key = nat_eq tablet.table table && (nat_le tablet.lo key && n
 
 -- the tablet of a point: the first that holds it
 abbrev pub tablet_of : List Tablet → ℕ → ℕ → Option Tablet
-tablet_of [] table key = None
-tablet_of (tablet ∷ tablets) table key = if holds tablet table key then Some tablet else tablet_of tablets table key
+tablet_of tablets table key = find (λ tablet. holds tablet table key) tablets
 
 -- some tablet of the table is there
 abbrev pub has_table : List Tablet → ℕ → Bool
-has_table [] table = false
-has_table (tablet ∷ tablets) table = nat_eq tablet.table table || has_table tablets table
+has_table tablets table = list_any (λ tablet. nat_eq tablet.table table) tablets
 
 -- the tablets of one owner, in order
 abbrev pub tablets_of : ServerId → List Tablet → List Tablet
-tablets_of owner [] = []
-tablets_of owner (tablet ∷ tablets) =
-    if same_id owner tablet.owner then tablet ∷ tablets_of owner tablets else tablets_of owner tablets
+tablets_of owner tablets = filter (λ tablet. same_id owner tablet.owner) tablets
 
 -- the new tablet is put before the first that lies behind it
 abbrev pub insert_tablet : Tablet → List Tablet → List Tablet
@@ -49,8 +46,7 @@ mark_if_owned owner tablet = if same_id owner tablet.owner then record tablet { 
 
 -- all tablets of a crashed owner are marked
 abbrev pub marked_crashed : ServerId → List Tablet → List Tablet
-marked_crashed owner [] = []
-marked_crashed owner (tablet ∷ tablets) = mark_if_owned owner tablet ∷ marked_crashed owner tablets
+marked_crashed owner tablets = map (mark_if_owned owner) tablets
 
 -- how many of an owner's tablets are not marked yet
 abbrev pub count_to_mark : ServerId → List Tablet → ℕ
@@ -72,8 +68,7 @@ is_range range tablet = nat_eq tablet.table range.table && (nat_eq tablet.lo ran
 
 -- some tablet has exactly this range
 abbrev pub has_range : KeyRange → List Tablet → Bool
-has_range range [] = false
-has_range range (tablet ∷ tablets) = is_range range tablet || has_range range tablets
+has_range range tablets = list_any (is_range range) tablets
 
 -- the tablet of this range gets a new owner and term, and its mark goes
 abbrev pub assigned : KeyRange → ServerId → ℕ → List Tablet → List Tablet

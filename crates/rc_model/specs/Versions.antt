@@ -2,6 +2,7 @@
 use Rattle.std.specs.Prelude.{ℕ, ◌+◌, Bool, true, nat_eq, nat_lt, ◌&&◌, if◌then◌else◌, List, [], ◌∷◌, max, Option}
 use Rattle.std.specs.Prelude.{Some, None}
 use Rattle.std.specs.List.{list_any, list_all}
+use Rattle.std.specs.List.{fold}
 use Rattle.rc_types.specs.declared.entries.Entry.{Entry}
 
 -- the entry is of this key, under this term
@@ -29,11 +30,6 @@ abbrev pub or_greater : ℕ → ℕ → ℕ → Option Entry → Entry → Optio
 or_greater term table key found entry =
     if is_of term table key entry && is_above found entry.version then Some entry else found
 
-abbrev pub greatest_from : ℕ → ℕ → ℕ → Option Entry → List Entry → Option Entry
-greatest_from term table key found [] = found
-greatest_from term table key found (entry ∷ entries) =
-    greatest_from term table key (or_greater term table key found entry) entries
-
 -- what a read finds: a version, 0 where there is none, and the value
 pub record Found : Type 0 where
   pub version : ℕ
@@ -45,7 +41,7 @@ found_in (Some entry) = record { version = entry.version; value = entry.value }
 
 -- the greatest version of a key under a term with its value, of equal versions the first in place
 abbrev pub read_of : ℕ → ℕ → ℕ → List Entry → Found
-read_of term table key entries = found_in (greatest_from term table key None entries)
+read_of term table key entries = found_in (fold (or_greater term table key) None entries)
 
 -- among these entries is a greater version of this one's key under its term
 abbrev pub is_outdated : List Entry → Entry → Bool

@@ -1,6 +1,7 @@
 -- The world: all nodes, and all messages ever sent. An event is one input, taken by one node.
 use Rattle.std.specs.Prelude.{ℕ, Bool, true, false, nat_eq, if◌then◌else◌, List, [], ◌∷◌, ◌++◌, Option, Some, None}
-use Rattle.std.specs.Prelude.{slice_get}
+use Rattle.std.specs.Prelude.{slice_get, option_map}
+use Rattle.std.specs.List.{fold}
 use Rattle.rc_types.specs.declared.ids.ServerId.{ServerId}
 pub use Rattle.rc_types.specs.declared.ids.NodeName.{NodeName}
 pub use Rattle.rc_types.specs.declared.ids.NodeName.TheVariants.{Outside as TheOutside, Coordinator as TheCoordinator}
@@ -51,8 +52,7 @@ pub record Job : Type 0 where
 
 -- the delivery of a message, where it was sent
 abbrev pub delivery : Option Message → Option Job
-delivery None = None
-delivery (Some message) = Some (record { node = node_of message.to; work = Take message })
+delivery sent = option_map (λ message. record { node = node_of message.to; work = Take message }) sent
 
 -- the job of an event, given what was sent; none where it delivers what was not
 abbrev pub work_of : List Message → Event → Option Job
@@ -87,10 +87,6 @@ abbrev pub with_last_view : (ServerId → Master) → Option Master → ServerId
 with_last_view masters None = masters
 with_last_view masters (Some master) = put_id masters master.log.own master
 
--- a node's new state is put into place
-abbrev pub with_coordinator : World → Coordinator → World
-with_coordinator world coordinator = record world { coordinator = coordinator }
-
 abbrev pub with_host : World → ℕ → HostNode → World
 with_host world index host =
     record world { hosts = put world.hosts index host; masters = with_last_view world.masters host.master }
@@ -100,7 +96,8 @@ abbrev pub happened : Event → List Message → World → World
 happened event messages world = record world { events = world.events ++ event ∷ []; sent = world.sent ++ messages }
 
 abbrev pub coordinator_done : World → Event → Coordinator × List Message → World
-coordinator_done world event (coordinator, messages) = happened event messages (with_coordinator world coordinator)
+coordinator_done world event (coordinator, messages) =
+    happened event messages (record world { coordinator = coordinator })
 
 abbrev pub host_done : World → Event → ℕ → HostNode × List Message → World
 host_done world event index (host, messages) = happened event messages (with_host world index host)
@@ -120,8 +117,7 @@ abbrev pub step : World → Event → World
 step world event = if is_possible world event then job_done world event (work_of world.sent event) else world
 
 abbrev pub replay_from : World → List Event → World
-replay_from world [] = world
-replay_from world (event ∷ events) = replay_from (step world event) events
+replay_from world events = fold step world events
 
 -- the world that a list of events leads to
 abbrev pub replay : Setup → List Event → World

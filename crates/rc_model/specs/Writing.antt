@@ -55,14 +55,11 @@ writes master table key value =
     if is_too_long value then refused master ValueTooLong
     else writes_if_owned master (term_of master.ownership table key) table key value
 
-abbrev pub read_answer : Master → ℕ → ℕ → Found → Master × List Message
-read_answer master table key found =
-    (master, to_outside master.log.own (ReadOk table key found.version found.value) ∷ [])
-
 abbrev pub reads_if_owned : Master → Option ℕ → ℕ → ℕ → Master × List Message
 reads_if_owned master None table key = refused master NotOwner
 reads_if_owned master (Some term) table key =
-    read_answer master table key (read_of term table key (durable_entries master))
+    let found = read_of term table key (durable_entries master) in
+    (master, to_outside master.log.own (ReadOk table key found.version found.value) ∷ [])
 
 -- a read: the greatest durable version under the term of its range
 abbrev pub reads : Master → ℕ → ℕ → Master × List Message

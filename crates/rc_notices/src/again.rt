@@ -35,7 +35,7 @@ fn add_commit_again(log: &LogHead, seg: u16, sent: &mut Vec<Message>) -> Result<
 
 /// Adds the Commit of each segment of which one was sent and not answered, and which is placed on all
 /// its members.
-pub fn add_commits_again(log: &LogHead, sent: &mut Vec<Message>) -> Result<(), AllocError>
+pub(crate) fn add_commits_again(log: &LogHead, sent: &mut Vec<Message>) -> Result<(), AllocError>
     ensures ok { OnOk result (sent.new.items ≡ sent.old.items ++ commits_again (log_of log.now)) }
     ensures begun { OnErr result (IsBeginning sent.old.items sent.new.items) }
 {
@@ -87,7 +87,7 @@ fn add_fetches_at(
 
 /// Adds a Fetch of each row of these tasks that has not come. It looks at those tasks alone whose part may
 /// be unfinished.
-pub fn add_fetches_again(
+pub(crate) fn add_fetches_again(
     log: &LogHead,
     ownership: &Ownership,
     tasks: &[Task],
@@ -123,7 +123,7 @@ fn add_recovered(
 }
 
 /// Adds a Recovered for each part that is complete and was not granted yet.
-pub fn add_recovered_again(
+pub(crate) fn add_recovered_again(
     alloc: Global,
     log: &LogHead,
     ownership: &Ownership,
@@ -144,7 +144,7 @@ pub fn add_recovered_again(
 }
 
 /// Adds a Ready where the head takes entries and nothing was granted yet.
-pub fn add_ready_again(
+pub(crate) fn add_ready_again(
     log: &LogHead,
     ownership: &Ownership,
     sent: &mut Vec<Message>,

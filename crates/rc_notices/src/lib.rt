@@ -22,11 +22,9 @@ mod timer;
 mod versions;
 
 pub use acknowledging::acknowledge;
-pub use again::{add_commits_again, add_fetches_again, add_ready_again, add_recovered_again};
 pub use appending::add_append;
 pub use closing::{add_closes, add_frees};
 pub use placing::{add_head_places, add_places};
-pub use reminding::{add_open_reminders, add_shut_reminders};
 pub use rolling::roll;
 pub use single::{commit, enlist, read_ok, ready, refusal};
 pub use tasks::{Task, add_fetches, attempt_of};

@@ -66,7 +66,7 @@ fn add_if_open(
 
 /// Reminds the members of all open segments of what they have not answered: the segment whole, else
 /// what they lack of it, else the Close.
-pub fn add_open_reminders(
+pub(crate) fn add_open_reminders(
     alloc: Global,
     log: &LogHead,
     sent: &mut Vec<Message>,
@@ -129,7 +129,7 @@ fn add_if_shut(
 }
 
 /// Sends all shut segments that were not freed to those of their members that have told nothing.
-pub fn add_shut_reminders(
+pub(crate) fn add_shut_reminders(
     alloc: Global,
     log: &LogHead,
     sent: &mut Vec<Message>,

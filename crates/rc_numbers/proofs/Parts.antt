@@ -2,17 +2,19 @@
 use Rattle.std.proofs.Common.{ℕ, ◌≤◌, true, nat_lt, List, [], ◌∷◌, ◌++◌, map, length, Some}
 use Rattle.std.specs.List.{All}
 use Rattle.std.proofs.lemmas.List.Elements.{All-nil, All-cons, All-head, All-tail, All-push, All-append, All-map}
+use Rattle.std.specs.Prelude.{drop}
+use Rattle.std.specs.Prelude.{unwrap_or}
 use Rattle.rc_model.specs.Model.{ServerId, Entry, Part, GrantedRange, Ownership, PartState, PartRow, knows_term, owns_term, grant}
 use Rattle.rc_model.specs.Model.{insert_row, rows_in_order, awaited_row, new_part, begin_part, is_awaited, with_row, awaits, all_came}
-use Rattle.rc_model.specs.Model.{came_entries, entries_that_came, under_term, joined, joining, part_with_row, data_in, replay_in}
-use Rattle.rc_model.specs.Model.{put_data, without_first, is_to_answer, answered_in}
+use Rattle.rc_model.specs.Model.{entries_that_came, under_term, joined, joining, part_with_row, data_in, replay_in}
+use Rattle.rc_model.specs.Model.{put_data, is_to_answer, answered_in}
 use Rattle.rc_model.proofs.Tests.{either}
 use Rattle.rc_numbers.specs.Numbers.{VersionsUpTo, OwnershipWithin}
 use Rattle.rc_numbers.proofs.Entries.{All-one}
 
 module _ (n : ℕ) where
   abbrev RowsWithin : List PartRow → Type 0
-  RowsWithin rows = All (λ (row : PartRow). VersionsUpTo n (came_entries row.came)) rows
+  RowsWithin rows = All (λ (row : PartRow). VersionsUpTo n (unwrap_or row.came [])) rows
 
   abbrev PartsWithin : List PartState → Type 0
   PartsWithin states = All (λ (state : PartState). RowsWithin state.rows) states
@@ -20,18 +22,18 @@ module _ (n : ℕ) where
   no_entries : VersionsUpTo n []
   no_entries = All-nil (λ (entry : Entry). entry.version ≤ n)
 
-  insert-within : (row : PartRow) (rows : List PartRow) → VersionsUpTo n (came_entries row.came) → RowsWithin rows →
+  insert-within : (row : PartRow) (rows : List PartRow) → VersionsUpTo n (unwrap_or row.came []) → RowsWithin rows →
       RowsWithin (insert_row row rows)
-  insert-within row [] p all = All-one (λ (one : PartRow). VersionsUpTo n (came_entries one.came)) row p
+  insert-within row [] p all = All-one (λ (one : PartRow). VersionsUpTo n (unwrap_or one.came [])) row p
   insert-within row (other ∷ rows) p all =
       either RowsWithin (nat_lt other.seg row.seg) (other ∷ insert_row row rows) (row ∷ other ∷ rows)
-      (λ e. All-cons (λ (one : PartRow). VersionsUpTo n (came_entries one.came)) other (insert_row row rows)
-      (All-head (λ (one : PartRow). VersionsUpTo n (came_entries one.came)) other rows all)
-      (insert-within row rows p (All-tail (λ (one : PartRow). VersionsUpTo n (came_entries one.came)) other rows all)))
-      (λ e. All-cons (λ (one : PartRow). VersionsUpTo n (came_entries one.came)) row (other ∷ rows) p all)
+      (λ e. All-cons (λ (one : PartRow). VersionsUpTo n (unwrap_or one.came [])) other (insert_row row rows)
+      (All-head (λ (one : PartRow). VersionsUpTo n (unwrap_or one.came [])) other rows all)
+      (insert-within row rows p (All-tail (λ (one : PartRow). VersionsUpTo n (unwrap_or one.came [])) other rows all)))
+      (λ e. All-cons (λ (one : PartRow). VersionsUpTo n (unwrap_or one.came [])) row (other ∷ rows) p all)
 
   awaited-within : (rows : List (ℕ × ServerId)) → RowsWithin (rows_in_order (map awaited_row rows))
-  awaited-within [] = All-nil (λ (one : PartRow). VersionsUpTo n (came_entries one.came))
+  awaited-within [] = All-nil (λ (one : PartRow). VersionsUpTo n (unwrap_or one.came []))
   awaited-within (row ∷ rows) = insert-within (awaited_row row) (rows_in_order (map awaited_row rows)) no_entries (awaited-within rows)
 
   pub begin-within : (part : Part) (rows : List (ℕ × ServerId)) (own : Ownership) → OwnershipWithin n own →
@@ -49,24 +51,24 @@ module _ (n : ℕ) where
   row-within seg from entries [] p all = all
   row-within seg from entries (row ∷ rows) p all =
       either RowsWithin (is_awaited seg from row) (record row { came = Some entries } ∷ rows) (row ∷ with_row seg from entries rows)
-      (λ e. All-cons (λ (one : PartRow). VersionsUpTo n (came_entries one.came)) (record row { came = Some entries })
-      rows p (All-tail (λ (one : PartRow). VersionsUpTo n (came_entries one.came)) row rows all))
-      (λ e. All-cons (λ (one : PartRow). VersionsUpTo n (came_entries one.came)) row (with_row seg from entries rows)
-      (All-head (λ (one : PartRow). VersionsUpTo n (came_entries one.came)) row rows all)
-      (row-within seg from entries rows p (All-tail (λ (one : PartRow). VersionsUpTo n (came_entries one.came)) row rows all)))
+      (λ e. All-cons (λ (one : PartRow). VersionsUpTo n (unwrap_or one.came [])) (record row { came = Some entries })
+      rows p (All-tail (λ (one : PartRow). VersionsUpTo n (unwrap_or one.came [])) row rows all))
+      (λ e. All-cons (λ (one : PartRow). VersionsUpTo n (unwrap_or one.came [])) row (with_row seg from entries rows)
+      (All-head (λ (one : PartRow). VersionsUpTo n (unwrap_or one.came [])) row rows all)
+      (row-within seg from entries rows p (All-tail (λ (one : PartRow). VersionsUpTo n (unwrap_or one.came [])) row rows all)))
 
   came-within : (rows : List PartRow) → RowsWithin rows → VersionsUpTo n (entries_that_came rows)
   came-within [] all = no_entries
   came-within (row ∷ rows) all =
-      All-append (λ (entry : Entry). entry.version ≤ n) (came_entries row.came) (entries_that_came rows)
-      (All-head (λ (one : PartRow). VersionsUpTo n (came_entries one.came)) row rows all)
-      (came-within rows (All-tail (λ (one : PartRow). VersionsUpTo n (came_entries one.came)) row rows all))
+      All-append (λ (entry : Entry). entry.version ≤ n) (unwrap_or row.came []) (entries_that_came rows)
+      (All-head (λ (one : PartRow). VersionsUpTo n (unwrap_or one.came [])) row rows all)
+      (came-within rows (All-tail (λ (one : PartRow). VersionsUpTo n (unwrap_or one.came [])) row rows all))
 
   joined-within : (state : PartState) → RowsWithin state.rows → RowsWithin (joined state).rows
   joined-within state all =
       either (λ (after : PartState). RowsWithin after.rows) (all_came state.rows)
       (record state { rows = []; size = length (entries_that_came state.rows) }) state
-      (λ e. All-nil (λ (one : PartRow). VersionsUpTo n (came_entries one.came))) (λ e. all)
+      (λ e. All-nil (λ (one : PartRow). VersionsUpTo n (unwrap_or one.came []))) (λ e. all)
 
   joining-within : (state : PartState) → RowsWithin state.rows → VersionsUpTo n (joining state)
   joining-within state all =
@@ -113,7 +115,7 @@ module _ (n : ℕ) where
       either (OwnershipWithin n) (owns_term own range.term) own (record own { grants = own.grants ++ range ∷ [] })
       (λ e. h) (λ e. record { replay = h.replay; parts = h.parts })
 
-  pub rest-within : (entries : List Entry) → VersionsUpTo n entries → VersionsUpTo n (without_first entries)
+  pub rest-within : (entries : List Entry) → VersionsUpTo n entries → VersionsUpTo n (drop 1 entries)
   rest-within [] all = all
   rest-within (entry ∷ entries) all = All-tail (λ (one : Entry). one.version ≤ n) entry entries all
 

@@ -1,6 +1,8 @@
 -- How great the numbers of a world are after so many events.
 use Rattle.std.specs.Prelude.{◌≡◌, ℕ, ◌*◌, ◌≤◌, List, length, map, Some}
 use Rattle.std.specs.List.{All}
+use Rattle.std.specs.Prelude.{unwrap_or}
+use Rattle.std.specs.Prelude.{[]}
 use Rattle.rc_types.specs.declared.ids.ServerId.{ServerId}
 use Rattle.rc_types.specs.declared.entries.Entry.{Entry}
 use Rattle.rc_types.specs.declared.messages.Message.{Message}
@@ -10,7 +12,7 @@ use Rattle.rc_types.specs.declared.limits.TheConstants.{MAX_TABLETS}
 use Rattle.rc_model.specs.Coordinator.{Coordinator}
 use Rattle.rc_model.specs.Backup.{Backup}
 use Rattle.rc_model.specs.Log.{Log}
-use Rattle.rc_model.specs.Ownership.{Ownership, came_entries}
+use Rattle.rc_model.specs.Ownership.{Ownership}
 use Rattle.rc_model.specs.Master.{Master}
 use Rattle.rc_model.specs.Nodes.{HostNode}
 use Rattle.rc_model.specs.World.{World}
@@ -43,7 +45,7 @@ LogWithin n log = (seg : ℕ) → VersionsUpTo n (map (λ one. one.0) (log.segme
 -- those that wait to be appended, and those of the rows that have come
 pub record OwnershipWithin (n : ℕ) (own : Ownership) : Type 0 where
   pub replay : VersionsUpTo n own.replay
-  pub parts : All (λ state. All (λ row. VersionsUpTo n (came_entries row.came)) state.rows) own.parts
+  pub parts : All (λ state. All (λ row. VersionsUpTo n (unwrap_or row.came [])) state.rows) own.parts
 
 pub record MasterWithin (n : ℕ) (master : Master) : Type 0 where
   pub log : LogWithin n master.log

@@ -6,7 +6,7 @@ use Rattle.std.proofs.lemmas.List.{append-nil}
 use Rattle.rc_model.specs.Model.{ServerId, Addr, Server, Outside, Entry, Part, PlanRow, GrantedRange, Fault, Message, Body, between}
 use Rattle.rc_model.specs.Model.{to_coordinator, refuses, from_rows, Log, LogPlace, places_of, head_of, is_writing, durable_now, stored}
 use Rattle.rc_model.specs.Model.{commit_noted, PartState, Ownership, term_of, owns_term, knows_term, put_data, grant, is_to_answer}
-use Rattle.rc_model.specs.Model.{is_complete, to_answer, after_answer, after_replay, without_first, Master, Task, with_log}
+use Rattle.rc_model.specs.Model.{is_complete, to_answer, after_answer, after_replay, Master, Task, with_log}
 use Rattle.rc_model.specs.Model.{durable_replayed, ids_of, not_lost, appends_entry, refused, written, reads_if_owned}
 use Rattle.rc_model.specs.Model.{write_oks, new_durable, attempt_of, fetch_of, reminds, task_of, In, closes_old, left_out}
 use Rattle.rc_model.specs.Model.{starts, writes_on, old_head_of, with_segment, is_unclosed, with_closes_sent, close_marked}
@@ -162,7 +162,7 @@ module _ (sent : List Message) (m : ServerId) where
           ∙ ap (λ replay. record {
             places = places_of master.log ++ place ∷ [];
             durable = master.log.durable;
-            own = record master.ownership { replay = without_first replay };
+            own = record master.ownership { replay = drop 1 replay };
             tasks = master.tasks;
           }) waits
 

@@ -3,8 +3,9 @@ use Rattle.std.proofs.Common.{◌≡◌, ◌⊎◌, ℕ, Bool, true, false, cond
 use Rattle.std.proofs.Common.{Option, Some, None, is_some, refl, sym, ap, ◌∙◌, subst, inl, inr}
 use Rattle.std.specs.List.{list_any}
 use Rattle.std.proofs.lemmas.Bool.{and_parts, eqb-true, eq-eqb, or_right}
+use Rattle.std.specs.Prelude.{unwrap_or}
 use Rattle.rc_model.specs.Model.{ServerId, Entry, Message, same_id, PartRow, PartState, is_awaited, with_row, awaits, all_came}
-use Rattle.rc_model.specs.Model.{came_entries, entries_that_came, under_term, joined, joining, part_with_row, data_in, replay_in}
+use Rattle.rc_model.specs.Model.{entries_that_came, under_term, joined, joining, part_with_row, data_in, replay_in}
 use Rattle.rc_model.specs.Model.{is_to_answer, answered_in, In}
 use Rattle.rc_model.proofs.Members.{In-map}
 use Rattle.rc_owner_laws.specs.Parts.{NoneUnder, TermsDiffer, HasSent, SomeCame, AllCame}
@@ -273,7 +274,7 @@ rows-some seg from entries (row ∷ rows) some none =
     never : {one : PartRow} {l : List PartRow} → one ∷ l ≡ [] → ⊥
     never e = cc
 
-came-some : (came : Option (List Entry)) → is_some came ≡ true → came ≡ Some (came_entries came)
+came-some : (came : Option (List Entry)) → is_some came ≡ true → came ≡ Some (unwrap_or came [])
 came-some None e = true_false (sym e)
 came-some (Some entries) e = refl
 
@@ -285,11 +286,11 @@ all-came sent m term [] (row ∷ others) p e = absurd p
 all-came sent m term (first ∷ rows) [] p e = absurd p
 all-came sent m term (first ∷ rows) (row ∷ others) p e =
     let both = and_parts (is_some row.came) (all_came others) e in
-    let here : HasSent sent m row.holder term row.seg (came_entries row.came) = p.2 (came_entries row.came) (came-some row.came both.0) in (
-      came_entries row.came,
+    let here : HasSent sent m row.holder term row.seg (unwrap_or row.came []) = p.2 (unwrap_or row.came []) (came-some row.came both.0) in (
+      unwrap_or row.came [],
       entries_that_came others,
-      subst (λ s. HasSent sent m first.holder term s (came_entries row.came)) p.0
-          (subst (λ y. HasSent sent m y term row.seg (came_entries row.came)) p.1 here),
+      subst (λ s. HasSent sent m first.holder term s (unwrap_or row.came [])) p.0
+          (subst (λ y. HasSent sent m y term row.seg (unwrap_or row.came [])) p.1 here),
       all-came sent m term rows others p.3 both.1,
       refl,
     )

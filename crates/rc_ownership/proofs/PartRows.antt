@@ -5,8 +5,9 @@ use Rattle.std.proofs.Common.{zero, suc, sym, ap, subst, ◌∙◌, refl, arith,
 use Rattle.std.proofs.lemmas.Bool.Decides.{nat_tests}
 use Rattle.std.specs.Prelude.{slice_index_or, slice_set}
 use Rattle.std.specs.List.{list_any, position_or_len}
+use Rattle.std.specs.Prelude.{unwrap_or}
 use Rattle.rc_model.specs.Model.{ServerId, Part, Entry, PartRow, PartState, part_with_row, is_awaited, awaited_row, with_row, insert_row}
-use Rattle.rc_model.specs.Model.{rows_in_order, all_came, came_entries, entries_that_came}
+use Rattle.rc_model.specs.Model.{rows_in_order, all_came, entries_that_came}
 use Rattle.rc_ownership.specs.Rows.{count_missing, size_of, AreInOrder, AreCounted}
 use Rattle.rc_ownership.proofs.RowOrder.{ordered}
 
@@ -139,17 +140,17 @@ entries-with_row seg from entries (row ∷ rows) some =
         length (entries_that_came (with_row seg from entries rows)) ≡ length (entries_that_came rows) + length
         entries) →
         length (entries_that_came (cond b (record row { came = Some entries } ∷ rows) (row ∷ with_row seg from entries rows)))
-        ≡ length (came_entries row.came ++ entries_that_came rows) + length entries
+        ≡ length (unwrap_or row.came [] ++ entries_that_came rows) + length entries
     by true none some later =
-        let nothing : length (came_entries row.came ++ entries_that_came rows) ≡ length (entries_that_came rows) =
-        ap (λ came. length (came_entries came ++ entries_that_came rows)) (none refl) in
+        let nothing : length (unwrap_or row.came [] ++ entries_that_came rows) ≡ length (entries_that_came rows) =
+        ap (λ came. length (unwrap_or came [] ++ entries_that_came rows)) (none refl) in
         omega (arith, nothing, length-append entries (entries_that_came rows))
     by false none some later =
         omega (
           arith,
           later some,
-          length-append (came_entries row.came) (entries_that_came rows),
-          length-append (came_entries row.came) (entries_that_came (with_row seg from entries rows)),
+          length-append (unwrap_or row.came []) (entries_that_came rows),
+          length-append (unwrap_or row.came []) (entries_that_came (with_row seg from entries rows)),
         )
 
 seg-with_row : (seg : ℕ) (from : ServerId) (entries : List Entry) (rows : List PartRow) (at : ℕ) (other : PartRow) →
@@ -238,7 +239,7 @@ none-missing (row ∷ rows) h =
 
 none-entries : (rows : List PartRow) → NoneCame rows → 0 ≡ length (entries_that_came rows)
 none-entries [] h = refl
-none-entries (row ∷ rows) h = none-entries rows h.1 ∙ ap (λ came. length (came_entries came ++ entries_that_came rows)) (sym h.0)
+none-entries (row ∷ rows) h = none-entries rows h.1 ∙ ap (λ came. length (unwrap_or came [] ++ entries_that_came rows)) (sym h.0)
 
 pub counted-new : (rows : List PartRow) (given : List (ℕ × ServerId)) → rows ≡ rows_in_order (map awaited_row given) →
     AreCounted rows (length rows) 0

@@ -3,7 +3,9 @@ use Rattle.std.proofs.Common.{◌≡◌, ℕ, ◌+◌, ◌-◌, Bool, true, fals
 use Rattle.std.proofs.Common.{Option, Some, None, max, sym, ap, ◌∙◌, refl, arith, length-append, append_assoc, zero, suc}
 use Rattle.std.proofs.lemmas.Bool.Decides.{nat_tests}
 use Rattle.std.specs.List.{list_any}
-use Rattle.rc_model.specs.Model.{Entry, is_of, is_above, greatest_version, found_in, greatest_from, read_of}
+use Rattle.std.specs.List.{fold}
+use Rattle.rc_model.specs.Versions.{or_greater}
+use Rattle.rc_model.specs.Model.{Entry, is_of, is_above, greatest_version, found_in, read_of}
 use Rattle.rc_ownership.specs.Highs.{highs_from, highs_of}
 use Rattle.rc_ownership.proofs.RecordHighs.{highs_after}
 
@@ -49,11 +51,11 @@ slice_get-after (first ∷ before) entry entries = slice_get-after before entry 
 greatest-highs : (term table key : ℕ) (all before entries : List Entry) (found : Option Entry) (high : Option (ℕ × ℕ)) →
     all ≡ before ++ entries →
     found ≡ entry_at all high →
-    greatest_from term table key found entries ≡ entry_at all
+    fold (or_greater term table key) found entries ≡ entry_at all
     (last_high_or high (highs_from term table key (length before) (least_above found) entries))
 greatest-highs term table key all before [] found high is at = at
 greatest-highs term table key all before (entry ∷ entries) found high is at =
-    ap (λ b. greatest_from term table key (cond (is_of term table key entry && b) (Some entry) found) entries)
+    ap (λ b. fold (or_greater term table key) (cond (is_of term table key entry && b) (Some entry) found) entries)
     (above-least found entry.version)
     ∙ by (λ next h e. greatest-highs term table key all (before ++ entry ∷ []) entries next h
     (is ∙ sym (append_assoc before (entry ∷ []) entries)) e
@@ -65,10 +67,10 @@ greatest-highs term table key all before (entry ∷ entries) found high is at =
     here = sym (ap (λ es. slice_get es (length before)) is ∙ slice_get-after before entry entries)
 
     by : ((next : Option Entry) (h : Option (ℕ × ℕ)) → next ≡ entry_at all h →
-        greatest_from term table key next entries ≡ entry_at all
+        fold (or_greater term table key) next entries ≡ entry_at all
         (last_high_or h (highs_from term table key (length before + 1) (least_above next) entries))) →
         (b : Bool) →
-        greatest_from term table key (cond b (Some entry) found) entries
+        fold (or_greater term table key) (cond b (Some entry) found) entries
         ≡ entry_at all (last_high_or high (highs_after b term table key (length before) (least_above found) entry entries))
     by later true = later (Some entry) (Some (length before, entry.version)) here
     by later false = later found high at

@@ -3,7 +3,8 @@ use Rattle.std.proofs.Common.{◌≡◌, ℕ, ◌+◌, ◌-◌, ◌<◌, ◌≤�
 use Rattle.std.proofs.Common.{Option, List, [], ◌∷◌, ◌++◌, length, length-append, filter, zero, suc, sym, ap, ◌∙◌, refl, arith}
 use Rattle.std.specs.Prelude.{slice_index_or, slice_set}
 use Rattle.std.specs.List.{list_any, position_or_len}
-use Rattle.rc_model.specs.Model.{ServerId, Part, Entry, PartRow, PartState, is_awaited, with_row, came_entries, entries_that_came}
+use Rattle.std.specs.Prelude.{unwrap_or}
+use Rattle.rc_model.specs.Model.{ServerId, Part, Entry, PartRow, PartState, is_awaited, with_row, entries_that_came}
 use Rattle.rc_ownership.specs.Rows.{count_missing, size_of, AreInOrder, AreCounted, awaited_again}
 use Rattle.rc_ownership.proofs.PartRows.{awaited-none, size_of-some, some-length, length-with_row}
 
@@ -105,14 +106,14 @@ pub entries-again : (rows : List PartRow) (place : ℕ) (row : PartRow) (entries
     length (entries_that_came rows) ≡ length (entries_that_came (awaited_again place rows)) + length entries
 entries-again [] place row entries within is some = absurd (omega arith)
 entries-again (first ∷ rows) zero row entries within is some =
-    ap (λ came. length (came_entries came ++ entries_that_came rows)) (ap (λ r. r.came) (sym is) ∙ some)
+    ap (λ came. length (unwrap_or came [] ++ entries_that_came rows)) (ap (λ r. r.came) (sym is) ∙ some)
     ∙ omega (arith, length-append entries (entries_that_came rows))
 entries-again (first ∷ rows) (suc place) row entries within is some =
     omega (
       arith,
       entries-again rows place row entries (omega arith) is some,
-      length-append (came_entries first.came) (entries_that_came rows),
-      length-append (came_entries first.came) (entries_that_came (awaited_again place rows)),
+      length-append (unwrap_or first.came []) (entries_that_came rows),
+      length-append (unwrap_or first.came []) (entries_that_came (awaited_again place rows)),
     )
 
 -- the counts beside the rows then

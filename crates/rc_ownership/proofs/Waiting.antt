@@ -6,7 +6,8 @@ use Rattle.std.proofs.lemmas.List.{append-nil, map-append, length-drop, drop-dro
 use Rattle.std.proofs.lemmas.List.{take-take, length-take-le}
 use Rattle.std.proofs.Math.Seq.{drop-append_seam}
 use Rattle.std.specs.Prelude.{slice_get, slice_index_or}
-use Rattle.rc_model.specs.Model.{Entry, PartRow, under_term, came_entries, entries_that_came, without_first}
+use Rattle.std.specs.Prelude.{unwrap_or}
+use Rattle.rc_model.specs.Model.{Entry, PartRow, under_term, entries_that_came}
 use Rattle.rc_ownership.specs.Replay.{all_waiting, waiting_from, NoneIsEmpty, IsPlace, IsReplay}
 
 -- Lists none of which is empty
@@ -75,7 +76,7 @@ get-drop [] more place within = absurd (omega arith)
 get-drop (entry ∷ entries) more zero within = refl
 get-drop (entry ∷ entries) more (suc place) within = get-drop entries more place (omega arith)
 
-next-drop : (entries : List Entry) (place : ℕ) → drop (place + 1) entries ≡ without_first (drop place entries)
+next-drop : (entries : List Entry) (place : ℕ) → drop (place + 1) entries ≡ drop 1 (drop place entries)
 next-drop [] zero = refl
 next-drop [] (suc place) = ap (λ count. drop count (let none : List Entry = [] in none)) (moved place)
   where
@@ -105,20 +106,20 @@ first_waiting rows row place entries at =
 
 -- the cursor moves on in its row
 pub next_place : (rows : List (List Entry)) (row place : ℕ) →
-    waiting_from (place + 1) (drop row rows) ≡ without_first (waiting_from place (drop row rows))
+    waiting_from (place + 1) (drop row rows) ≡ drop 1 (waiting_from place (drop row rows))
 next_place rows row place = next-drop (all_waiting (drop row rows)) place
 
 -- the cursor moves on to the next row
 pub next_row : (rows : List (List Entry)) (row place : ℕ) (entries : List Entry) → IsRowAt rows row place entries →
     length entries ≤ place + 1 →
-    waiting_from 0 (drop (row + 1) rows) ≡ without_first (waiting_from place (drop row rows))
+    waiting_from 0 (drop (row + 1) rows) ≡ drop 1 (waiting_from place (drop row rows))
 next_row rows row place entries at last =
     let there : place < length entries = place-row rows row place entries at in
     let rest = all_waiting (drop (row + 1) rows) in
     sym (drop-append_seam entries rest)
     ∙ ap (λ count. drop count (entries ++ rest)) (let e : length entries ≡ place + 1 = omega arith in e)
     ∙ next-drop (entries ++ rest) place
-    ∙ ap (λ left. without_first (waiting_from place left)) (sym (drop-at rows row entries at.within at.is))
+    ∙ ap (λ left. drop 1 (waiting_from place left)) (sym (drop-at rows row entries at.within at.is))
 
 pub replay-next_row : (rows : List (List Entry)) (kept first row place : ℕ) → IsReplay rows kept first row place →
     row < length rows → IsReplay rows kept first (row + 1) 0
@@ -144,11 +145,11 @@ replay-joined rows more kept first row place is none = record {
 }
 
 entries-push : (rows : List PartRow) (row : PartRow) → entries_that_came (rows ++ row ∷ []) ≡ entries_that_came rows ++
-    came_entries row.came
-entries-push [] row = append-nil (came_entries row.came)
+    unwrap_or row.came []
+entries-push [] row = append-nil (unwrap_or row.came [])
 entries-push (first ∷ rows) row =
-    ap (λ entries. came_entries first.came ++ entries) (entries-push rows row)
-    ∙ sym (append_assoc (came_entries first.came) (entries_that_came rows) (came_entries row.came))
+    ap (λ entries. unwrap_or first.came [] ++ entries) (entries-push rows row)
+    ∙ sym (append_assoc (unwrap_or first.came []) (entries_that_came rows) (unwrap_or row.came []))
 
 pub length_under : (term : ℕ) (entries : List Entry) → length (map (under_term term) entries) ≡ length entries
 length_under term [] = refl
@@ -157,12 +158,12 @@ length_under term (entry ∷ entries) = ap suc (length_under term entries)
 -- one row more joins
 pub joined-push : (term : ℕ) (old new : List (List Entry)) (rows : List PartRow) (row : PartRow) →
     all_waiting old ≡ map (under_term term) (entries_that_came rows) →
-    all_waiting new ≡ all_waiting old ++ map (under_term term) (came_entries row.came) →
+    all_waiting new ≡ all_waiting old ++ map (under_term term) (unwrap_or row.came []) →
     all_waiting new ≡ map (under_term term) (entries_that_came (rows ++ row ∷ []))
 joined-push term old new rows row before pushed =
     pushed
-    ∙ ap (λ entries. entries ++ map (under_term term) (came_entries row.came)) before
-    ∙ sym (map-append (under_term term) (entries_that_came rows) (came_entries row.came))
+    ∙ ap (λ entries. entries ++ map (under_term term) (unwrap_or row.came [])) before
+    ∙ sym (map-append (under_term term) (entries_that_came rows) (unwrap_or row.came []))
     ∙ ap (map (under_term term)) (sym (entries-push rows row))
 
 -- Going on

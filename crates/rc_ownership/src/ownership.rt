@@ -141,7 +141,7 @@ impl Ownership {
     }
 
     /// Whether a range was granted under the term.
-    pub fn owns_term(&self, term: u32) -> bool
+    pub(crate) fn owns_term(&self, term: u32) -> bool
         ensures { result ≡ owning.owns_term self.now.own term }
     {
         self.parts.grants().owns_term(term)

@@ -1,7 +1,7 @@
 //! The parts that were begun, the grants by which they are finished, and the replay.
 
 ghost use Rattle.std.specs.Prelude.{◌≡◌, ◌++◌, ◌∷◌, [], true, false, nat_eq, nat_lt, length, slice_get};
-ghost use Rattle.std.specs.Prelude.{OnOk, OnErr, IfOk};
+ghost use Rattle.std.specs.Prelude.{OnOk, OnErr, IfOk, drop};
 ghost use Rattle.std.specs.List.{position};
 ghost use Rattle.rc_model.specs.Ownership as owning;
 ghost use Rattle.rc_ownership.specs.Notes.{replayed_in};
@@ -206,7 +206,7 @@ impl Parts {
     /// A copy of the first entry that waits: it waits no more. Only memory can be refused (F1).
     pub(crate) fn next_replay(&mut self, alloc: Global) -> Result<Option<Entry>, AllocError>
         ensures first { IfOk result (λ entry. entry ≡ slice_get self.old.replay 0) }
-        ensures rest { OnOk result (self.new ≡ record self.old { replay = owning.without_first self.old.replay }) }
+        ensures rest { OnOk result (self.new ≡ record self.old { replay = drop 1 self.old.replay }) }
         ensures err { OnErr result (self.new ≡ self.old) }
     {
         self.replay.next(alloc)

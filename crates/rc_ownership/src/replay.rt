@@ -1,8 +1,9 @@
 //! The entries that wait to be appended: those of the parts whose rows have all come.
 
-ghost use Rattle.std.specs.Prelude.{◌≡◌, ◌++◌, [], true, length, map, nat_lt, slice_get, OnOk, OnErr, IfOk};
+ghost use Rattle.std.specs.Prelude.{◌≡◌, ◌++◌, [], true, length, map, drop, nat_lt, slice_get, OnOk, OnErr, IfOk};
+ghost use Rattle.std.specs.Prelude.{unwrap_or};
 ghost use Rattle.std.specs.List.{list_any};
-ghost use Rattle.rc_model.specs.Ownership.{under_term, came_entries, entries_that_came, joined, joining, without_first};
+ghost use Rattle.rc_model.specs.Ownership.{under_term, entries_that_came, joined, joining};
 ghost use Rattle.rc_model.specs.Ownership.{is_awaited, part_with_row};
 ghost use Rattle.rc_ownership.specs.Parts.{part_before};
 ghost use Rattle.rc_ownership.specs.Replay.{Waiting, all_waiting, NoneIsEmpty};
@@ -124,7 +125,7 @@ impl Replay {
     /// A copy of the first entry that waits: it waits no more. Only memory can be refused (F1).
     pub(crate) fn next(&mut self, alloc: Global) -> Result<Option<Entry>, AllocError>
         ensures first { IfOk result (λ entry. entry ≡ slice_get self.old.entries 0) }
-        ensures rest { OnOk result (self.new ≡ record self.old { entries = without_first self.old.entries }) }
+        ensures rest { OnOk result (self.new ≡ record self.old { entries = drop 1 self.old.entries }) }
         ensures err { OnErr result (self.new ≡ self.old) }
     {
         let Some(row) = self.rows.get(self.row) else {
@@ -211,7 +212,7 @@ fn joined_rows(
 /// What came of a row goes last, piece by piece.
 fn push_row(joined: &mut VecDeque<JoinedRow>, term: u32, row: &FetchedRow) -> Result<(), AllocError>
     ensures entries { OnOk result (all_waiting joined.new.items ≡ all_waiting joined.old.items ++
-        map (under_term term) (came_entries row.now.came)) }
+        map (under_term term) (unwrap_or row.now.came [])) }
     ensures none_empty { NoneIsEmpty joined.old.items → NoneIsEmpty joined.new.items }
 {
     let Some(came) = row.came() else {

@@ -1,5 +1,7 @@
 //! A pen, which needs no answer at each word.
 
+ghost use Rattle.std.specs.Prelude.{◌≡◌, ◌^◌, ◌-◌, if◌then◌else◌};
+
 use rc_types::{Addr, Code, ServerId};
 use std::alloc::{AllocError, Global};
 
@@ -61,12 +63,16 @@ impl Pen {
     }
 
     /// From here on long lists are told whole, or not.
-    pub fn tell_whole(&mut self, whole: bool) {
+    pub fn tell_whole(&mut self, whole: bool)
+        ensures { self.new ≡ record self.old { whole = whole } }
+    {
         self.whole = whole;
     }
 
     /// How many of a list are told one by one, of which mostly so many are.
-    pub fn most(&self, usual: usize) -> usize {
+    pub fn most(&self, usual: usize) -> usize
+        ensures { result ≡ (if self.now.whole then 2 ^ 64 - 1 else usual) }
+    {
         if self.whole { usize::MAX } else { usual }
     }
 

@@ -2,7 +2,8 @@
 use Rattle.std.proofs.Common.{◌≡◌, ◌⊎◌, ℕ, ◌<◌, ◌≤◌, true, false, ◌&&◌, nat_eq, nat_lt, List, [], ◌∷◌, Option, Some, None}
 use Rattle.std.proofs.Common.{refl, sym, ap, ◌∙◌, subst, inl, inr, arith}
 use Rattle.std.proofs.lemmas.Bool.{and_parts, eqb-true, ltb-true, and_from}
-use Rattle.rc_model.specs.Model.{Entry, is_of, is_above, Found, found_in, or_greater, greatest_from, read_of, In}
+use Rattle.std.specs.List.{fold}
+use Rattle.rc_model.specs.Model.{Entry, is_of, is_above, Found, found_in, or_greater, read_of, In}
 use Rattle.rc_model.proofs.Tests.{true_false, either}
 use Rattle.rc_owner_laws.proofs.Appending.{is-of-true}
 
@@ -67,7 +68,7 @@ module _ (term table key : ℕ) where
       not-above (Some old) e = not-less old (ways entry.version old.version) e
 
   from-least : (found : Option Entry) (entries : List Entry) →
-      (found_in found).version ≤ (found_in (greatest_from term table key found entries)).version
+      (found_in found).version ≤ (found_in (fold (or_greater term table key) found entries)).version
   from-least found [] = omega arith
   from-least found (entry ∷ entries) =
       let a = or-least found entry in
@@ -75,7 +76,7 @@ module _ (term table key : ℕ) where
       omega arith
 
   from-above : (found : Option Entry) (entries : List Entry) (entry : Entry) → In entry entries → is_of term table key entry ≡ true →
-      entry.version ≤ (found_in (greatest_from term table key found entries)).version
+      entry.version ≤ (found_in (fold (or_greater term table key) found entries)).version
   from-above found [] entry at of = absurd at
   from-above found (first ∷ entries) entry (inr at) of = from-above (or_greater term table key found first) entries entry at of
   from-above found (first ∷ entries) entry (inl same) of =
@@ -98,13 +99,13 @@ module _ (term table key : ℕ) where
       }))
       (λ e. inl refl)
 
-  from-is : (found : Option Entry) (entries : List Entry) → (greatest_from term table key found entries ≡ found)
-      ⊎ IsOne entries (greatest_from term table key found entries)
+  from-is : (found : Option Entry) (entries : List Entry) → (fold (or_greater term table key) found entries ≡ found)
+      ⊎ IsOne entries (fold (or_greater term table key) found entries)
   from-is found [] = inl refl
   from-is found (entry ∷ entries) = by (from-is (or_greater term table key found entry) entries) (or-is found entry)
     where
-      more : IsOne entries (greatest_from term table key (or_greater term table key found entry) entries) →
-          IsOne (entry ∷ entries) (greatest_from term table key (or_greater term table key found entry) entries)
+      more : IsOne entries (fold (or_greater term table key) (or_greater term table key found entry) entries) →
+          IsOne (entry ∷ entries) (fold (or_greater term table key) (or_greater term table key found entry) entries)
       more p = record { entry = p.entry; among = inr p.among; of = p.of; is = p.is }
 
       first : IsOne (entry ∷ []) (or_greater term table key found entry) →
@@ -115,11 +116,11 @@ module _ (term table key : ℕ) where
           here (inl e) = inl e
           here (inr never) = absurd never
 
-      by : (greatest_from term table key (or_greater term table key found entry) entries ≡ or_greater term table key found entry)
-          ⊎ IsOne entries (greatest_from term table key (or_greater term table key found entry) entries) →
+      by : (fold (or_greater term table key) (or_greater term table key found entry) entries ≡ or_greater term table key found entry)
+          ⊎ IsOne entries (fold (or_greater term table key) (or_greater term table key found entry) entries) →
           (or_greater term table key found entry ≡ found) ⊎ IsOne (entry ∷ []) (or_greater term table key found entry) →
-          (greatest_from term table key (or_greater term table key found entry) entries ≡ found)
-          ⊎ IsOne (entry ∷ entries) (greatest_from term table key (or_greater term table key found entry) entries)
+          (fold (or_greater term table key) (or_greater term table key found entry) entries ≡ found)
+          ⊎ IsOne (entry ∷ entries) (fold (or_greater term table key) (or_greater term table key found entry) entries)
       by (inr p) q = inr (more p)
       by (inl same) (inl still) = inl (same ∙ still)
       by (inl same) (inr p) = inr (subst (IsOne (entry ∷ entries)) (sym same) (first p))
@@ -134,7 +135,7 @@ module _ (term table key : ℕ) where
       ⊎ IsFound entries (read_of term table key entries)
   read-ways entries = by (from-is None entries)
     where
-      by : (greatest_from term table key None entries ≡ None) ⊎ IsOne entries (greatest_from term table key None entries) →
+      by : (fold (or_greater term table key) None entries ≡ None) ⊎ IsOne entries (fold (or_greater term table key) None entries) →
           (read_of term table key entries ≡ record { version = 0; value = None }) ⊎ IsFound entries (read_of term table key entries)
       by (inl e) = inl (ap found_in e)
       by (inr p) =

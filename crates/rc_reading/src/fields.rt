@@ -350,8 +350,8 @@ impl Fields {
     }
 
     /// The event of this name, where the members that it needs say something.
-    fn needed(self, name: EventName) -> Option<ScenarioEvent>
-        ensures { result ≡ needed name self }
+    fn needed(&mut self, name: EventName) -> Option<ScenarioEvent>
+        ensures { result ≡ needed name self.old }
     {
         match name {
             EventName::Settle => settle_event(self.kinds, self.hosts),
@@ -360,16 +360,16 @@ impl Fields {
     }
 
     /// The event of the world of this name, which is no pass, where the members that it needs say something.
-    fn needed_core(self, name: EventName) -> Option<Event>
-        ensures { result ≡ needed_core name self }
+    fn needed_core(&mut self, name: EventName) -> Option<Event>
+        ensures { result ≡ needed_core name self.old }
     {
         match name {
-            EventName::Start => start_event(self.host, self.kept),
+            EventName::Start => start_event(self.host, self.kept.take()),
             EventName::Stop => self.server().map(Event::Stop),
             EventName::Suspect => self.server().map(Event::Suspect),
             EventName::Decide => self.server().map(Event::Decide),
             EventName::Tick => self.addr.map(Event::Tick),
-            EventName::Write => write_event(self.to, self.table, self.key, self.value),
+            EventName::Write => write_event(self.to, self.table, self.key, self.value.take()),
             EventName::Read => read_event(self.to, self.table, self.key),
             EventName::Deliver => deliver_event(self.number),
             EventName::Create => create_event(self.table, self.owner),
@@ -378,9 +378,9 @@ impl Fields {
         }
     }
 
-    /// The event that the members say.
-    fn event(self) -> Option<ScenarioEvent>
-        ensures { result ≡ event_in self }
+    /// The event that the members say. What it keeps of them is taken out.
+    fn event(&mut self) -> Option<ScenarioEvent>
+        ensures { result ≡ event_in self.old }
     {
         match self.event {
             Some(name) if self.only.allows(name) => self.needed(name),
@@ -468,7 +468,10 @@ impl Said<ScenarioEvent> for Fields {
         reader: &mut Reader<'_>,
         depth: usize,
     ) -> Result<Option<ScenarioEvent>, ReadFault> {
-        let fields: Option<Fields> = read_object(alloc, reader, depth)?;
-        Ok(fields.and_then(Fields::event))
+        let mut fields: Option<Fields> = read_object(alloc, reader, depth)?;
+        match &mut fields {
+            Some(fields) => Ok(fields.event()),
+            None => Ok(None),
+        }
     }
 }

@@ -12,8 +12,6 @@ ghost use Rattle.rc_types.specs.Kinds.{kind_named};
 ghost use Rattle.rc_reading.specs.Pairs.{both_in, server_id, id_item, name_item};
 ghost use Rattle.rc_reading.specs.Ahead.{data_at, items_at, says, told};
 
-use crate::hosts::Hosts;
-use crate::kinds::Kinds;
 use crate::limits::LAST_GENERATION;
 use crate::names::EventName;
 use crate::pairs::Pair;

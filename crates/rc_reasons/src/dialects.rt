@@ -53,7 +53,7 @@ impl Dialect {
     }
 
     /// An example of the whole.
-    pub fn example(self) -> &'static str {
+    pub(crate) fn example(self) -> &'static str {
         match self {
             Dialect::Scenario => { r#"{"format":1,"factor":2,"segment":8,"events":[]}"# }
             Dialect::Trace => r#"{"format":1,"messages":[]}"#,
@@ -61,7 +61,7 @@ impl Dialect {
     }
 
     /// The member with the list.
-    pub fn list(self) -> &'static str {
+    pub(crate) fn list(self) -> &'static str {
         match self {
             Dialect::Scenario => "events",
             Dialect::Trace => "messages",
@@ -69,7 +69,7 @@ impl Dialect {
     }
 
     /// What an item of the list is called.
-    pub fn item(self) -> &'static str {
+    pub(crate) fn item(self) -> &'static str {
         match self {
             Dialect::Scenario => "event",
             Dialect::Trace => "message",
@@ -85,7 +85,7 @@ impl Dialect {
     }
 
     /// The kinds of items.
-    pub fn kinds(self) -> &'static [&'static str] {
+    pub(crate) fn kinds(self) -> &'static [&'static str] {
         match self {
             Dialect::Scenario => &EVENTS,
             Dialect::Trace => &TRACED,
@@ -112,7 +112,7 @@ impl Dialect {
     }
 
     /// The further members of an item of this kind; none, where there is no such kind.
-    pub fn members_of(self, kind: &str) -> &'static [&'static str] {
+    pub(crate) fn members_of(self, kind: &str) -> &'static [&'static str] {
         match self {
             Dialect::Scenario => members_of_event(kind),
             Dialect::Trace => members_of_message(kind),

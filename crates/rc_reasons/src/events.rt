@@ -2,7 +2,7 @@
 
 /// What there is to say of an event.
 #[derive(Clone, Copy)]
-pub struct Happening {
+pub(crate) struct Happening {
     /// Its name, the member `e`.
     pub name: &'static str,
     /// An example of it.
@@ -12,7 +12,7 @@ pub struct Happening {
 }
 
 /// Every event, as `docs/FORMATS.md` lists them.
-pub fn all_events() -> &'static [Happening] {
+pub(crate) fn all_events() -> &'static [Happening] {
     &EVENTS
 }
 

@@ -4,7 +4,7 @@ use rc_types::Kind;
 
 /// What there is to say of a kind of message.
 #[derive(Clone, Copy)]
-pub struct KindText {
+pub(crate) struct KindText {
     /// The kind.
     pub kind: Kind,
     /// Who sends it, and to whom.
@@ -18,7 +18,7 @@ pub struct KindText {
 }
 
 /// Every kind, as `docs/PROTOCOL.md` lists them in "Messages".
-pub fn all_kinds() -> &'static [KindText] {
+pub(crate) fn all_kinds() -> &'static [KindText] {
     &KINDS
 }
 

@@ -7,7 +7,7 @@ use crate::topics::{Topic, all_topics};
 
 /// All that a word names, with letters that are small or capital.
 #[derive(Clone, Copy)]
-pub struct Found {
+pub(crate) struct Found {
     /// A code, by its number, by that after an `F`, or by its name.
     pub code: Option<Topic>,
     /// A kind of message.
@@ -20,7 +20,7 @@ pub struct Found {
 
 impl Found {
     /// What this word names.
-    pub fn of(word: &str) -> Found {
+    pub(crate) fn of(word: &str) -> Found {
         Found {
             code: code_of(word),
             kind: kind_of(word),
@@ -30,13 +30,13 @@ impl Found {
     }
 
     /// Whether it names nothing.
-    pub fn is_nothing(&self) -> bool {
+    pub(crate) fn is_nothing(&self) -> bool {
         self.code.is_none() && self.kind.is_none() && self.event.is_none() && self.rule.is_none()
     }
 }
 
 /// The code of this number.
-pub fn topic_of(number: u64) -> Option<Topic> {
+pub(crate) fn topic_of(number: u64) -> Option<Topic> {
     all_topics()
         .iter()
         .find(|topic| u64::from(topic.code.number()) == number)

@@ -2,7 +2,7 @@
 
 /// What there is to say of a rule.
 #[derive(Clone, Copy)]
-pub struct Rule {
+pub(crate) struct Rule {
     /// The name of the program without it, as in `./ramseg --without NAME`.
     pub name: &'static str,
     /// The rule.
@@ -14,12 +14,12 @@ pub struct Rule {
 }
 
 /// The rules that can be broken, by names in order: the first half of them.
-pub fn first_rules() -> &'static [Rule] {
+pub(crate) fn first_rules() -> &'static [Rule] {
     &FIRST
 }
 
 /// And those behind them. One table of all is more than the prover takes at a time.
-pub fn last_rules() -> &'static [Rule] {
+pub(crate) fn last_rules() -> &'static [Rule] {
     &LAST
 }
 

@@ -4,7 +4,7 @@ use rc_types::Code;
 
 /// What there is to say of a code.
 #[derive(Clone, Copy)]
-pub struct Topic {
+pub(crate) struct Topic {
     /// The code.
     pub code: Code,
     /// What it says, in a few words.
@@ -16,7 +16,7 @@ pub struct Topic {
 }
 
 /// Every code, in order. "Refusals" in `docs/PROTOCOL.md` has the rules.
-pub fn all_topics() -> &'static [Topic] {
+pub(crate) fn all_topics() -> &'static [Topic] {
     &TOPICS
 }
 

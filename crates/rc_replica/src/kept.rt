@@ -149,7 +149,7 @@ impl Replica {
     }
 
     /// One more owner of the digest. It fails only where more owners can't be counted.
-    pub fn share_digest(&self) -> Result<Shared<u16>, AllocError>
+    pub(crate) fn share_digest(&self) -> Result<Shared<u16>, AllocError>
         ensures { IfOk result (λ digest. digest ≡ self.now.digest) }
     {
         self.digest.share()

@@ -16,6 +16,7 @@ pub mod laws;
 mod lines;
 mod mail;
 mod marks;
+mod onlookers;
 mod passing;
 pub mod recoveries;
 pub mod rolls;
@@ -24,5 +25,6 @@ pub mod worked;
 pub mod wrong;
 
 pub use mail::Mail;
+pub use onlookers::Onlooker;
 pub use passing::Passing;
 pub use runs::Run;

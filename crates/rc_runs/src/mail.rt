@@ -53,7 +53,7 @@ impl Mail {
     }
 
     /// The least number from `from` on of a message that the pass delivers.
-    pub fn next_due(&self, passing: &Passing, sent: &[Message], from: usize) -> Option<usize>
+    pub(crate) fn next_due(&self, passing: &Passing, sent: &[Message], from: usize) -> Option<usize>
         ensures { (events : List Event) → Waits events sent.now self.now →
             result ≡ due_from passing.now events sent.now from }
     {
@@ -69,7 +69,7 @@ impl Mail {
     }
 
     /// An event has delivered the message of this number, which is noted; and more may have been sent.
-    pub fn deliver(&mut self, number: usize)
+    pub(crate) fn deliver(&mut self, number: usize)
         requires { number < length self.old.delivered }
         ensures { (events : List Event) (sent more : List Message) → Waits events sent self.old →
             Waits (events ++ Deliver number ∷ []) (sent ++ more) self.new }
@@ -78,7 +78,7 @@ impl Mail {
     }
 
     /// What was delivered waits no longer.
-    pub fn tidy(&mut self)
+    pub(crate) fn tidy(&mut self)
         ensures { (events : List Event) (sent : List Message) → Waits events sent self.old →
             Waits events sent self.new }
     {

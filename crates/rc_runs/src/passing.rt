@@ -19,7 +19,7 @@ pub struct Passing {
 impl Passing {
     /// Whether the pass leaves this message alone: it is for the outside, or for a server on one of
     /// the hosts, or its body is of one of the kinds. It costs the same whatever the sets hold.
-    pub fn leaves_alone(&self, message: &Message) -> bool
+    pub(crate) fn leaves_alone(&self, message: &Message) -> bool
         ensures { result ≡ is_left_alone self.now message.now }
     {
         self.spares(message.to) || self.kinds.has(Kind::of(&message.body))

@@ -9,13 +9,14 @@ ghost use Rattle.rc_runs.specs.Settling.{due_from, settles};
 ghost use Rattle.rc_world.specs.Happened.{with_events, can_happen, replayed, sent_in, AllHappen};
 ghost use Rattle.rc_world.specs.Stops.{stops_below};
 ghost use Rattle.rc_world.specs.HostView.{IsWithinLimits};
-ghost use Rattle.rc_runs.specs.Runs.{one_event, scenario_event};
+ghost use Rattle.rc_runs.specs.Runs.{scenario_event};
 ghost use Rattle.rc_runs.specs.Steps.{GoesOn, StopsIn, RunsThrough, StopsAt};
 
 use crate::mail::Mail;
+use crate::onlookers::{Onlooker, looked};
 use crate::passing::Passing;
 use rc_reading::ScenarioEvent;
-use rc_types::{Event, Fault, Message, Setup};
+use rc_types::{Event, Fault, Setup};
 use rc_world::World;
 use std::alloc::{AllocError, Allocator, Global};
 use std::marker::Model;
@@ -155,7 +156,12 @@ impl<A: Allocator + Clone> Run<A> {
 
     /// One pass over the messages. Where it stops, the messages before the one that could not be
     /// delivered are.
-    fn settle(&mut self, alloc: Global, passing: &Passing) -> Result<(), Fault>
+    fn settle(
+        &mut self,
+        alloc: Global,
+        passing: &Passing,
+        onlooker: &mut dyn Onlooker,
+    ) -> Result<(), Fault>
         ensures ok { OnOk result (GoesOn (λ most. settles most passing.now) self.old self.new) }
         ensures err { IfErr result (λ fault. StopsIn (λ most. settles most passing.now) fault self.old self.new) }
         ensures fault { IfErr result (λ fault. (fault ≡ OutOfMemory) ⊎ (fault ≡ BadEvent)) }
@@ -163,15 +169,22 @@ impl<A: Allocator + Clone> Run<A> {
         ensures few { length self.new.events ≤ MAX_EVENTS }
     {
         self.tidy();
+        let mut due = onlooker.look(self.world.sent());
         let mut from = 0;
         while let Some(number) = self.next_due(passing, from) {
             from = self.deliver(alloc, number)?;
+            due = looked(onlooker, due, self.world.sent());
         }
         Ok(())
     }
 
     /// One event of a scenario.
-    fn play(&mut self, alloc: Global, event: &ScenarioEvent) -> Result<(), Fault>
+    fn play(
+        &mut self,
+        alloc: Global,
+        event: &ScenarioEvent,
+        onlooker: &mut dyn Onlooker,
+    ) -> Result<(), Fault>
         ensures ok { OnOk result (GoesOn (λ most world. scenario_event most world event.now) self.old self.new) }
         ensures err { IfErr result (λ fault. StopsIn (λ most world. scenario_event most world event.now) fault
             self.old self.new) }
@@ -186,26 +199,30 @@ impl<A: Allocator + Clone> Run<A> {
                     kinds: *kinds,
                     hosts: *hosts,
                 };
-                self.settle(alloc, &passing)
+                self.settle(alloc, &passing, onlooker)
             }
         }
     }
 
     /// The events of a scenario, one after another. Else the place of the one at which the run
-    /// stopped comes back, with the fault: F18 where it was not possible, F1 where memory was refused.
+    /// stopped comes back, with the fault: F18 where it was not possible, F1 where memory was refused. The onlooker
+    /// looks at what was sent where that is due, also within a pass.
     pub fn play_all(
         &mut self,
         alloc: Global,
         events: &[ScenarioEvent],
+        onlooker: &mut dyn Onlooker,
     ) -> Result<(), (usize, Fault)>
         ensures ok { OnOk result (RunsThrough events.now self.old self.new) }
         ensures err { IfErr result (λ stop. StopsAt events.now stop.0 stop.1 self.old self.new) }
         ensures fault { IfErr result (λ stop. (stop.1 ≡ OutOfMemory) ⊎ (stop.1 ≡ BadEvent)) }
     {
+        let mut due = onlooker.look(self.world.sent());
         for (place, event) in events.iter().enumerate() {
-            if let Err(fault) = self.play(alloc, event) {
+            if let Err(fault) = self.play(alloc, event, onlooker) {
                 return Err((place, fault));
             }
+            due = looked(onlooker, due, self.world.sent());
         }
         Ok(())
     }

@@ -122,13 +122,6 @@ impl Segment {
         &self.config
     }
 
-    /// Whether a Commit was sent under the present epoch.
-    pub fn is_commit_sent(&self) -> bool
-        ensures { result ≡ self.now.commit_sent }
-    {
-        self.commit_sent
-    }
-
     /// Whether no Close was sent to this member under the present epoch.
     pub fn is_unclosed(&self, member: &Member) -> bool
         ensures { result ≡ is_unclosed self.now member.now }
@@ -137,7 +130,7 @@ impl Segment {
     }
 
     /// Whether to some member no Close was sent under the present epoch.
-    pub fn has_unclosed(&self) -> bool
+    pub(crate) fn has_unclosed(&self) -> bool
         ensures { result ≡ has_unclosed self.now }
     {
         self.config
@@ -161,14 +154,14 @@ impl Segment {
     }
 
     /// Whether it is placed on all its members, under a committed epoch.
-    pub fn is_ready(&self) -> bool
+    pub(crate) fn is_ready(&self) -> bool
         ensures { result ≡ is_ready self.now }
     {
         self.config.is_committed() && self.config.all_placed()
     }
 
     /// Whether it is closed on all its members, under a committed epoch.
-    pub fn is_all_closed(&self) -> bool
+    pub(crate) fn is_all_closed(&self) -> bool
         ensures { result ≡ is_all_closed self.now }
     {
         self.config.is_committed() && self.config.all_closed()

@@ -63,7 +63,7 @@ fn played<A: Allocator + Clone>(
     let Scenario { setup, events } = scenario;
     let factors = Factors::of(&setup);
     let mut run = Run::new(alloc, setup, tablets);
-    match run.play_all(alloc, events.as_slice()) {
+    match run.play_all(alloc, events.as_slice(), &mut ()) {
         Ok(()) => {
             let world = run.world();
             kept.hint(alloc, factors, world);

@@ -1,7 +1,6 @@
 //! The whole program, on the words of its command line.
 
 ghost use Rattle.std.specs.Prelude.{◌≡◌, ◌≢◌, ◌≤◌, ℕ, Bool, Some, None, Ok, Err, IfOk, map, string_bytes};
-ghost use Rattle.std.specs.Io.KnownBytes.{Keeps};
 ghost use Rattle.rc_commands.specs.declared.asking.Asked.{Asked as AskedModel};
 ghost use Rattle.rc_commands.specs.declared.asking.Asked.TheVariants.{Audit, Check};
 ghost use Rattle.rc_commands.specs.Asking.{IsInRange, as_command, asked_in};

@@ -77,7 +77,7 @@ fn answer_of<E: Write>(
     let mut run = Run::new(alloc, copy, alloc);
     let mut places = Vec::new(alloc);
     for (place, event) in events.as_slice().iter().enumerate() {
-        let outcome = run.play_all(alloc, slice::from_ref(event));
+        let outcome = run.play_all(alloc, slice::from_ref(event), &mut ());
         note_place(&mut places, run.world().events().len(), place)?;
         if let Err((_, fault)) = outcome {
             return Ok(nothing(

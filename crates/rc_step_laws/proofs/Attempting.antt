@@ -4,9 +4,10 @@ use Rattle.std.proofs.Common.{nat_eq, slice_get, slice_set, Some, None, Ok, refl
 use Rattle.std.proofs.lemmas.Bool.{eqb-false}
 use Rattle.std.proofs.lemmas.Bool.Decides.{nat_tests}
 use Rattle.rc_model.specs.Model.{ServerId, Pair, Row, Message, Replicas, put_id, to_coordinator}
-use Rattle.rc_model.specs.Model.{has_crashed, up_rows, is_below, pick, Attempt, Decision, is_undecided, new_coordinator, attempt_at, In}
+use Rattle.rc_model.specs.Model.{has_crashed, up_rows, is_below, pick, Attempt, Decision, new_coordinator, attempt_at, In}
 use Rattle.rc_types.specs.declared.ids.Addr.TheVariants.{Coordinator as AtCoordinator}
 use Rattle.std.proofs.lemmas.List.{length-append, length-set}
+use Rattle.std.specs.Prelude.{is_none}
 use Rattle.rc_model.specs.Coordinator.{Coordinator}
 use Rattle.rc_model.proofs.Members.{In-left}
 use Rattle.rc_model.proofs.Sending.{Each}
@@ -336,6 +337,6 @@ new-good = record {
     none number attempt numbered = let at : slice_get [] numbered.place ≡ Some attempt = numbered.attempt_is in cc
 
 -- what isn't decided has no decision
-pub undecided-none : (decided : Option Decision) → is_undecided decided ≡ true → decided ≡ None
+pub undecided-none : (decided : Option Decision) → is_none decided ≡ true → decided ≡ None
 undecided-none None e = refl
 undecided-none (Some decision) e = cc

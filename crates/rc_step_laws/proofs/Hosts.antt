@@ -5,8 +5,9 @@ use Rattle.std.proofs.lemmas.Bool.{eq-eqb}
 use Rattle.std.proofs.lemmas.List.{append-nil, append_assoc}
 use Rattle.std.specs.List.{list_any}
 use Rattle.std.specs.Option.{option_map}
+use Rattle.std.specs.Prelude.{option_and_then}
 use Rattle.rc_model.specs.Model.{ServerId, Member, id_before, insert_id, ids_in_order, ServerList, knows, first_rows, up_rows, up}
-use Rattle.rc_model.specs.Model.{new_member, of_other_hosts, counted_from, candidates, choose, staying, first_free, and_then, substitutes}
+use Rattle.rc_model.specs.Model.{new_member, of_other_hosts, candidates, choose, staying, first_free, substitutes}
 use Rattle.rc_model.specs.Model.{replaced, ids_of, In}
 use Rattle.rc_model.proofs.Members.{In-left, In-right, In-append, In-map, map-In, In-filter}
 use Rattle.rc_step_laws.specs.Words.{NotOnHostOf, OnDifferentHosts}
@@ -56,7 +57,7 @@ take-drop (suc n) (x ∷ xs) = ap (λ l. x ∷ l) (take-drop n xs)
 apart-take : (n : ℕ) (ids : List ServerId) → OnDifferentHosts ids → OnDifferentHosts (take n ids)
 apart-take n ids p = apart-first (take n ids) (drop n ids) (subst OnDifferentHosts (sym (take-drop n ids)) p)
 
-apart-counted : (n : ℕ) (ids : List ServerId) → OnDifferentHosts ids → OnDifferentHosts (counted_from n ids)
+apart-counted : (n : ℕ) (ids : List ServerId) → OnDifferentHosts ids → OnDifferentHosts (drop n ids ++ take n ids)
 apart-counted n ids p =
     let whole : OnDifferentHosts (take n ids ++ drop n ids) = subst OnDifferentHosts (sym (take-drop n ids)) p in
     apart-join (drop n ids) (take n ids) (apart-second (take n ids) (drop n ids) whole) (apart-first (take n ids) (drop n ids) whole)
@@ -151,7 +152,7 @@ record IsThen (first : Option ServerId) (others : ServerId → Option (List Serv
   ids_are : ids ≡ id ∷ rest
 
 then-parts : (first : Option ServerId) (others : ServerId → Option (List ServerId)) (ids : List ServerId) →
-    and_then first others ≡ Some ids → IsThen first others ids
+    option_and_then (λ id. option_map (λ rest. id ∷ rest) (others id)) first ≡ Some ids → IsThen first others ids
 then-parts None others ids e = cc
 then-parts (Some id) others ids e = by (others id) refl e
   where
@@ -181,7 +182,7 @@ substitutes-each P ids none lost stays taken (member ∷ members) found e =
     by member.lost refl e (λ other more at. substitutes-each P ids none lost stays other members more at)
   where
     by : (b : Bool) → member.lost ≡ b →
-        cond b (and_then (first_free ids taken) (λ id. substitutes ids (id ∷ taken) members))
+        cond b (option_and_then (λ id. option_map (λ rest. id ∷ rest) (substitutes ids (id ∷ taken) members)) (first_free ids taken))
         (substitutes ids taken members) ≡ Some found
         → ((other more : List ServerId) → substitutes ids other members ≡ Some more → P other members more) →
         P taken (member ∷ members) found

@@ -2,10 +2,11 @@
 use Rattle.std.proofs.Common.{◌≡◌, ◌⊎◌, ℕ, ◌+◌, ◌<◌, ◌≤◌, Bool, true, false, nat_eq, nat_lt, ◌&&◌, List, [], ◌∷◌, ◌++◌}
 use Rattle.std.proofs.Common.{length, map, Option, Some, None, Ok, Err, refl, sym, ap, ◌∙◌, subst, inl, inr, arith}
 use Rattle.std.proofs.lemmas.Bool.{and_parts, eqb-true}
+use Rattle.rc_model.specs.Heads.{opened_on}
 use Rattle.rc_model.specs.Model.{ServerId, Server, Entry, Member, EpochsExhausted, LAST_EPOCH, Message, Place, between, ServerList}
 use Rattle.rc_model.specs.Model.{from_rows, newer_than, is_up, up_rows, Config, candidates, choose, lost_if_crashed, with_lost, any_lost}
 use Rattle.rc_model.specs.Model.{substitutes_for, replaced, changed, changes_to, lose, refills_with, refill, Segment, under_new_epoch}
-use Rattle.rc_model.specs.Model.{Log, with_segment, numbers_to, opened_first, open_first, with_config, opens_change, refills, loses}
+use Rattle.rc_model.specs.Model.{Log, with_segment, numbers_to, open_first, with_config, opens_change, refills, loses}
 use Rattle.rc_model.specs.Model.{Master, with_log, to_ids, ids_of, place_of, places_segment, replaces_lost, replaces_lost_of, opens_first}
 use Rattle.rc_model.specs.Model.{tries_first, obeys_list, takes_list, In}
 use Rattle.rc_model.proofs.Members.{In-right, map-In}
@@ -288,7 +289,7 @@ moved-replaces_lost_of sent m (s ∷ segs) master view opened =
 moved-opens_first : (sent : List Message) (m : ServerId) (master : Master) (found : Option (List ServerId)) →
     GoodView sent m master → master.log.head ≡ 0
     → choose 1 master.log.own master.log.factor master.known ≡ found →
-    Moved sent m master (opens_first master (opened_first master.log found))
+    Moved sent m master (opens_first master (opened_on master.log (1 ∷ []) found))
 moved-opens_first sent m master None view none e = still sent m master view
 moved-opens_first sent m master (Some ids) view none e = record {
   log = opens-moved sent m master.log (1 ∷ []) ids view.log view.fine (λ s above less. absurd (omega arith))

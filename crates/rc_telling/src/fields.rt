@@ -6,7 +6,7 @@ use rc_types::{
     Body, Code, Entry, Event, Kind, Message, Part, PlanRow, Row, Seq, ServerId, Shared,
 };
 
-// What is told of a message where it is not told whole.
+// These hold where lists are not told whole (`Pen::most`).
 
 /// How many entries of a message are told one by one.
 const MOST_ENTRIES: usize = 4;

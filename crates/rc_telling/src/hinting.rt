@@ -85,12 +85,12 @@ fn tell_hints(
     }
 }
 
-/// What a run has, of what is told only where there is some.
+/// Which hints can have something to tell of.
 #[derive(Clone, Copy)]
 struct Sent {
-    /// Reads that were answered.
+    /// Whether a read was answered.
     reads: bool,
-    /// Attempts of a recovery.
+    /// Whether a recovery was attempted.
     recoveries: bool,
 }
 

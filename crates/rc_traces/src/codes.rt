@@ -57,11 +57,11 @@ impl Codes {
         2 + self.count
     }
 
-    /// The messages.
+    /// The messages whose codes these are.
     ///
     /// # Errors
     ///
-    /// `OutOfMemory` where memory was refused; `Malformed` where these are no codes of messages.
+    /// `OutOfMemory` where memory was refused; `Malformed` where they are the codes of no messages.
     pub(crate) fn decoded(&self, alloc: Global) -> Result<Vec<Message>, DecodeFault>
         ensures ok { (all : List SpecMessage) → self.now ≡ codes_of all →
             IfOk result (λ messages. messages.items ≡ all) }

@@ -87,7 +87,8 @@ fn read_text<R: Said<Message> + Drop>(alloc: Global, text: &str) -> Result<Vec<M
     }
 }
 
-/// The same, with the messages as their codes. What the reader needs is let go of.
+/// What the text says, with its messages as their codes, or the least place that is wrong. What the reader needs is
+/// let go of.
 fn read_codes<R: Said<Message> + Drop>(alloc: Global, text: &str) -> Result<Listed, ReadFault>
     ensures ok { IfOk result (λ found. found ≡ listed (of_text R.said text.now)) }
     ensures bad { (place : ℕ) → result ≡ Err (BadInput place) → of_text R.said text.now ≡ Err place }

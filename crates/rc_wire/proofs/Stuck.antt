@@ -1,7 +1,7 @@
 -- Why a seat can't go on.
 use Rattle.std.proofs.Common.{◌≡◌, ◌⊎◌, inl, inr, ℕ, Bool, true, false, ◌&&◌, take, length, List, [], ◌∷◌, ◌++◌, Option, Some}
 use Rattle.std.proofs.Common.{slice_get, refl, sym, ap, ◌∙◌, subst, arith}
-use Rattle.std.specs.Prelude.{Result, Ok, Err, IfErr, OnOk, option_to_list, if◌then◌else◌}
+use Rattle.std.specs.Prelude.{Result, Ok, Err, IfErr, option_to_list, if◌then◌else◌}
 use Rattle.rc_types.specs.declared.limits.TheConstants.{MAX_EVENTS}
 use Rattle.rc_types.specs.declared.faults.Fault.TheVariants.{OutOfMemory, BadEvent}
 use Rattle.rc_model.specs.Model.{Setup, Message, Fault, World, Take, NodeName, TheOutside, TheCoordinator, TheHost, node_of, same_node}
@@ -15,7 +15,7 @@ use Rattle.rc_wire.specs.SeatView.{SeatData, world_at, node_at}
 use Rattle.rc_wire.specs.SeatCalls.{Finds}
 use Rattle.rc_wire.specs.Works.{event_for, takes_if, can_do}
 use Rattle.rc_wire.specs.declared.steps.Step.{Step}
-use Rattle.rc_wire.specs.Runs.{Does, Runs, Grows, Progress, own_work, works_for}
+use Rattle.rc_wire.specs.Runs.{Does, Progress, own_work, works_for}
 use Rattle.rc_wire.specs.Ends.{GrowAll, CannotGoOn, SomeCannotGoOn, Ends, is_bad_event, joined, all_seated}
 use Rattle.rc_wire.proofs.Found.{within-found, found-own}
 use Rattle.rc_wire.proofs.Turning.{starts-back}

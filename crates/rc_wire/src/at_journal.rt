@@ -29,7 +29,11 @@ impl<N: Naming> Seat<N> {
     /// # Errors
     ///
     /// `OutOfMemory` (F1): the memory for a copy of the message was refused. The seat is as before.
-    pub fn hold(&mut self, journal: &mut Journal<N>, number: usize) -> Result<bool, AllocError>
+    pub(crate) fn hold(
+        &mut self,
+        journal: &mut Journal<N>,
+        number: usize,
+    ) -> Result<bool, AllocError>
         ensures ok { IfOk result (λ found. Fetches N.wire.setup self.old number found self.new) }
         ensures seen { OnOk result (self.new.seen ≡ journal.old) }
         ensures journal { journal.new ≡ journal.old }

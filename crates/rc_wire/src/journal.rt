@@ -113,7 +113,7 @@ impl<N: Naming> Journal<N> {
     }
 
     /// The message of this number, where it was sent. It takes no memory.
-    pub fn message(&self, number: usize) -> Option<&Message>
+    pub(crate) fn message(&self, number: usize) -> Option<&Message>
         ensures { option_copied result ≡ slice_get (replay N.wire.setup self.now).sent number }
     {
         self.pages.messages.get(number)
@@ -129,7 +129,7 @@ impl<N: Naming> Journal<N> {
 
     /// The least number, from `from` on, of a message to this node; none where there is none. It scans
     /// nothing and takes no memory.
-    pub fn next_to(&self, name: NodeName, from: usize) -> Option<usize>
+    pub(crate) fn next_to(&self, name: NodeName, from: usize) -> Option<usize>
         ensures { result ≡ least_to name from (replay N.wire.setup self.now).sent }
     {
         first_from(self.numbers(name), from)
@@ -137,7 +137,7 @@ impl<N: Naming> Journal<N> {
 
     /// The seat sees the whole history. It is told that the history begins with what it has seen before,
     /// and has of its node's events those that it added.
-    pub fn look(&mut self, seat: &mut Token<N>)
+    pub(crate) fn look(&mut self, seat: &mut Token<N>)
         ensures journal { self.new ≡ self.old }
         ensures seat { seat.new ≡ having_seen seat.old self.old }
         ensures tells { Tells N.wire self.old seat.old }

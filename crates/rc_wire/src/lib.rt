@@ -98,7 +98,6 @@ pub use opening::Opening;
 pub use seat::Seat;
 pub use steps::Step;
 pub use token::Token;
-pub use turns::{deliver_next, deliver_rest, do_next, do_until};
 pub use view::{Desk, Place, View};
 pub use wire::Wire;
 pub use work::Work;

@@ -52,7 +52,7 @@ fn take_step<N: Naming, R: Wait, A: Around>(
 ///
 /// `BadEvent` (F18): the node can't do this where it is, or 200,000 events have happened. `OutOfMemory` (F1): memory
 /// was refused. The seat may have seen more, and its step may be pending or committed.
-pub fn do_next<N: Naming, R: Wait, A: Around>(
+pub(crate) fn do_next<N: Naming, R: Wait, A: Around>(
     rt: &R,
     alloc: Global,
     wire: &Wire<N>,
@@ -84,7 +84,7 @@ pub fn do_next<N: Naming, R: Wait, A: Around>(
 /// # Errors
 ///
 /// As those of `do_next`.
-pub fn deliver_next<N: Naming, R: Wait, A: Around>(
+pub(crate) fn deliver_next<N: Naming, R: Wait, A: Around>(
     rt: &R,
     wire: &Wire<N>,
     around: &mut A,
@@ -130,7 +130,7 @@ fn after(number: usize) -> usize
 /// # Errors
 ///
 /// As those of `do_next`.
-pub fn do_until<N: Naming, R: Wait, A: Around>(
+pub(crate) fn do_until<N: Naming, R: Wait, A: Around>(
     rt: &R,
     alloc: Global,
     wire: &Wire<N>,
@@ -164,7 +164,7 @@ pub fn do_until<N: Naming, R: Wait, A: Around>(
 /// # Errors
 ///
 /// As those of `do_next`.
-pub fn deliver_rest<N: Naming, R: Wait, A: Around>(
+pub(crate) fn deliver_rest<N: Naming, R: Wait, A: Around>(
     rt: &R,
     wire: &Wire<N>,
     around: &mut A,

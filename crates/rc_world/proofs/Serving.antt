@@ -1,7 +1,8 @@
 -- What a client may rely on holds of every world.
 use Rattle.std.proofs.Common.{◌≡◌, ◌≢◌, refl, ℕ, List, Option, None, Some, subst, arith}
 use Rattle.std.specs.List.{slice_get}
-use Rattle.rc_model.specs.Model.{Setup, Event, replay, factor_of, or_number}
+use Rattle.std.specs.Prelude.{unwrap_or}
+use Rattle.rc_model.specs.Model.{Setup, Event, replay, factor_of}
 use Rattle.rc_log_laws.specs.WordClaims.{sent_after}
 use Rattle.rc_promises.specs.Service.{IsWritten}
 use Rattle.rc_promises.proofs.Once.{one-version-is-one-write, acknowledged-is-written}
@@ -17,7 +18,7 @@ factor-is-some factor within = omega (arith, within.0)
 
 -- the number that is given, or else the other one
 one-of : (setup : Setup) (given : Option ℕ) → IsFactor setup.factor →
-    ((factor : ℕ) → given ≡ Some factor → IsFactor factor) → IsFactor (or_number given setup.factor)
+    ((factor : ℕ) → given ≡ Some factor → IsFactor factor) → IsFactor (unwrap_or given setup.factor)
 one-of setup None other each = other
 one-of setup (Some factor) other each = each factor refl
 

@@ -5,11 +5,12 @@ use Rattle.std.proofs.Common.{append_assoc, length-append, add-one, true≢false
 use Rattle.std.proofs.Math.Path.{fun_ext}
 use Rattle.std.proofs.lemmas.List.{append-nil}
 use Rattle.std.proofs.lemmas.Bool.Decides.{nat_tests}
+use Rattle.std.specs.Prelude.{is_some}
 use Rattle.rc_types.specs.declared.ids.Addr.TheVariants.{Server}
 use Rattle.rc_types.specs.declared.events.Event.TheVariants.{Stop}
 use Rattle.rc_model.specs.Model.{MAX_EVENTS, Setup, Event, Message, HostNode, Master, World, is_possible, job_done, work_of, replay, put}
 use Rattle.rc_model.specs.Ids.{is_server}
-use Rattle.rc_model.specs.Nodes.{runs, is_some_master, server_of, is_running_at}
+use Rattle.rc_model.specs.Nodes.{runs, server_of, is_running_at}
 use Rattle.rc_world.specs.Happened.{opened, with_events, AllHappen}
 use Rattle.rc_world.specs.Stops.{newest_at, runs_at, stop_at, stops_below, stopped, all_stopped, IsBelow}
 use Rattle.rc_world.specs.HostView.{IsWithinLimits}
@@ -84,7 +85,7 @@ pub all-stopped : (hosts : ℕ → HostNode) (n : ℕ) → ((i : ℕ) → IsBelo
     all_stopped hosts ≡ stopped_below hosts n
 all-stopped hosts n below = fun_ext (λ i. at i (hosts i) (runs (hosts i)) refl refl)
   where
-    rests : (host : HostNode) (master : Option Master) → host.master ≡ master → is_some_master master ≡ false → stopped host ≡ host
+    rests : (host : HostNode) (master : Option Master) → host.master ≡ master → is_some master ≡ false → stopped host ≡ host
     rests host None is none = ap (λ m. record host { master = m }) (sym is)
     rests host (Some master) is none = absurd (true≢false none)
 

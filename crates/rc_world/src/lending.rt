@@ -2,10 +2,9 @@
 //! copied.
 
 ghost use Rattle.std.specs.Prelude.{◌≡◌, ◌<◌, length, slice_set};
-ghost use Rattle.rc_types.specs.declared.messages.Message.{Message as MessageModel};
 ghost use Rattle.rc_world.specs.Lending.{nothing, message_at};
 
-use rc_types::{Addr, Body, Message, NodeWork};
+use rc_types::{Addr, Body, Message};
 use std::mem;
 
 /// To whom the message of this number goes.
@@ -31,17 +30,6 @@ pub(crate) fn put_back(sent: &mut Vec<Message>, number: usize, message: Message)
     ensures { sent.new.items ≡ slice_set sent.old.items number message }
 {
     sent[number] = message;
-}
-
-/// Puts the message of this number back, which is this work.
-pub(crate) fn put_work_back(sent: &mut Vec<Message>, number: usize, work: NodeWork)
-    requires { number < length sent.old.items }
-    ensures { (message : MessageModel) → work ≡ NodeWork.Deliver message →
-        sent.new.items ≡ slice_set sent.old.items number message }
-{
-    if let NodeWork::Deliver(message) = work {
-        put_back(sent, number, message);
-    }
 }
 
 /// What stands in the place of a message that was taken out. It takes no memory.

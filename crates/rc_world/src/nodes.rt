@@ -18,7 +18,7 @@ ghost use Rattle.rc_world.specs.WorldView.{hosts_in, coordinator_in, world_of, W
 ghost use Rattle.rc_world.specs.WorldView.{host_does, coordinator_given, after_event};
 
 use crate::host::Host;
-use crate::lending::{address, lend, put_back, put_work_back};
+use crate::lending::{address, lend, put_back};
 use crate::outside::{ask, can_ask};
 use indexmap::IndexMap;
 use rc_backup::Backup;
@@ -251,9 +251,9 @@ impl<A: Allocator + Clone> Nodes<A> {
         ensures err { OnErr result (coordinator_in self.new ≡ coordinator_in self.old) }
         ensures unsent { OnErr result (sent.new.items ≡ sent.old.items) }
     {
-        let work = NodeWork::Deliver(lend(sent, number));
-        let done = self.tell_coordinator(&work, sent);
-        put_work_back(sent, number, work);
+        let message = lend(sent, number);
+        let done = self.coordinator.take(&message, sent);
+        put_back(sent, number, message);
         done
     }
 

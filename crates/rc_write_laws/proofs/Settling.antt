@@ -4,10 +4,11 @@ use Rattle.std.proofs.Common.{◌++◌, length, map, take, slice_get, Option, So
 use Rattle.std.proofs.lemmas.Bool.{and_parts, ltb-true, leb-true}
 use Rattle.std.proofs.lemmas.Bool.Decides.{nat_tests}
 use Rattle.std.proofs.lemmas.List.{append-nil, append_assoc, length-append, map-append}
+use Rattle.std.specs.Option.{option_or}
 use Rattle.rc_model.specs.Model.{ServerId, Addr, Entry, Message, Body, WriteOk, Setup, to_outside, durable_len, Segment, durable_in, Log}
 use Rattle.rc_model.specs.Model.{LogPlace, places_in, places_to, places_of, numbers_to, durable_among, durable_now, has_segment, Master}
 use Rattle.rc_model.specs.Model.{then_does, when, follows_start, follows_placed, follows_closing, follows_shut, follows_change}
-use Rattle.rc_model.specs.Model.{follows_stored, follows_data, follows_replay, or_rule, follow_up, write_oks, followed, measure, goes_on}
+use Rattle.rc_model.specs.Model.{follows_stored, follows_data, follows_replay, follow_up, write_oks, followed, measure, goes_on}
 use Rattle.rc_model.specs.Model.{ticks, master_takes_first, deposed_takes, master_takes, master_ticks, factor_of, replay, all_shut_to}
 use Rattle.rc_model.specs.Model.{is_stored_on_all, In}
 use Rattle.rc_model.proofs.Measures.{goes_on-up, goes_on-settles}
@@ -151,7 +152,7 @@ In-oks own (first ∷ places) place (inr rest) client =
 
 -- A step leaves nothing uncounted
 
-or-none : (one other : Option (Master × List Message)) → or_rule one other ≡ None → (one ≡ None) × (other ≡ None)
+or-none : (one other : Option (Master × List Message)) → option_or one other ≡ None → (one ≡ None) × (other ≡ None)
 or-none None other e = (refl, e)
 or-none (Some done) other e = cc
 
@@ -166,7 +167,7 @@ nothing-stored master e =
     let c = or-none (follows_closing master) _ b.1 in
     let d = or-none (follows_shut master) _ c.1 in
     let f = or-none (follows_change master) _ d.1 in
-    let g = or-none (follows_stored master) (or_rule (follows_data master) (follows_replay master)) f.1 in
+    let g = or-none (follows_stored master) (option_or (follows_data master) (follows_replay master)) f.1 in
     not_less master.log.durable (durable_now master.log) (when-none (nat_lt master.log.durable (durable_now master.log)) _ g.0)
   where
     not_less : (n m : ℕ) → nat_lt n m ≡ false → m ≤ n

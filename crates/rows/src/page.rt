@@ -35,7 +35,7 @@ impl Page {
     }
 
     /// What was written, if memory was not refused.
-    pub fn text(&self) -> Option<&str> {
+    pub(crate) fn text(&self) -> Option<&str> {
         if self.refused {
             return None;
         }

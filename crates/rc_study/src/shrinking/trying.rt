@@ -201,7 +201,7 @@ fn played(
                 kinds: *kinds,
                 hosts: *hosts,
             }];
-            match run.play_all(alloc, settle.as_slice()) {
+            match run.play_all(alloc, settle.as_slice(), &mut ()) {
                 Ok(()) => Ok(()),
                 Err((_, fault)) => Err(fault),
             }

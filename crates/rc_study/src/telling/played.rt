@@ -145,7 +145,7 @@ fn stops_with(
     run: &mut Run<Global>,
     event: &ScenarioEvent,
 ) -> Result<Option<Code>, AllocError> {
-    match run.play_all(alloc, slice::from_ref(event)) {
+    match run.play_all(alloc, slice::from_ref(event), &mut ()) {
         Ok(()) => Ok(None),
         Err((_, Fault::OutOfMemory)) => Err(AllocError),
         Err((_, fault)) => Ok(Some(fault.code())),

@@ -1,7 +1,7 @@
 use Rattle.std.proofs.Common.{◌+◌, ◌<◌, ◌≤◌, length, take, ap, ◌∙◌, arith}
 use Rattle.std.proofs.lemmas.Grind.{common_steps}
 use Rattle.std.specs.Prelude.{slice_get}
-use Rattle.rc_model.specs.Ownership.{without_first}
+use Rattle.std.specs.Prelude.{drop}
 use Rattle.rc_ownership.specs.Replay.{Waiting, waiting_from}
 use Rattle.rc_ownership.proofs.Waiting.{IsRowAt, first_waiting, next_place, next_row, replay-next_row}
 use Rattle.rc_ownership.proofs.replay.Replay.next.Goals as goal
@@ -23,7 +23,7 @@ returns-then-self-count-clause-rest c =
           (take c.self.inside.kept c.self.inside.rows.items);
     } in waiting)
     (next_place c.self.inside.rows.items c.self.inside.row c.self.inside.place)
-    ∙ ap (λ view. let waiting : Waiting = record { entries = without_first view.entries; before = view.before } in waiting) c.self.view_is
+    ∙ ap (λ view. let waiting : Waiting = record { entries = drop 1 view.entries; before = view.before } in waiting) c.self.view_is
 
 pub invariant_of-self-2 : goal.invariant_of-self-2
 invariant_of-self-2 c =
@@ -52,4 +52,4 @@ returns-clause-rest c =
           (take c.self.inside.kept c.self.inside.rows.items);
     } in waiting)
     (next_row c.self.inside.rows.items c.self.inside.row c.self.inside.place c.in-Some.row.now at last)
-    ∙ ap (λ view. let waiting : Waiting = record { entries = without_first view.entries; before = view.before } in waiting) c.self.view_is
+    ∙ ap (λ view. let waiting : Waiting = record { entries = drop 1 view.entries; before = view.before } in waiting) c.self.view_is
