@@ -126,7 +126,8 @@ pub plan_kept : (sent : List Message) (body : Body) (plan : Accepted) (whole her
     first_missing sent plan (acknowledged sent plan.master) ≡ None → missing_of sent whole ≡ missing_of sent here →
     missing_of sent whole ≡ missing_of sent rest
 plan_kept sent body plan whole here rest next is none before =
-    before ∙ ap (missing_of sent) (next ∙ ap (λ plans. plans ++ rest) (sym is)) ∙ ap (λ found. option_or found (missing_of sent rest)) none
+    before ∙ ap (missing_of sent) (next ∙ ap (λ plans. plans ++ rest) (sym is))
+    ∙ ap (λ found. option_or found (missing_of sent rest)) none
 
 pub none_from : (found : Option Breach) → is_some found ≡ false → found ≡ None
 none_from None e = refl

@@ -18,7 +18,8 @@ fold_better-in : (before : HeldRow → HeldRow → Bool) (best : HeldRow) (rows 
     In (fold (better before) best rows) (best ∷ rows)
 fold_better-in before best [] = inl refl
 fold_better-in before best (row ∷ rows) =
-    either (λ next. (next ≡ best) ⊎ (next ≡ row) → In (fold (better before) next rows) (best ∷ row ∷ rows)) (before row best) row best
+    either (λ next. (next ≡ best) ⊎ (next ≡ row) →
+    In (fold (better before) next rows) (best ∷ row ∷ rows)) (before row best) row best
     (λ _ which. by row which (fold_better-in before row rows)) (λ _ which. by best which (fold_better-in before best rows)) which
   where
     by : (next : HeldRow) → (next ≡ best) ⊎ (next ≡ row) → In (fold (better before) next rows) (next ∷ rows) →

@@ -178,7 +178,8 @@ pub record IsFirst (start next : Master) (before sent : List Message) : Type 0 w
   pub sends : sent ≡ before ++ (or_still start (follows_rest start)).1
 
 applies : (start next : Master) (before sent : List Message) (one rest : Option (Master × List Message)) →
-    option_or one rest ≡ follows_rest start → true ≡ did one → next ≡ (or_still start one).0 → sent ≡ before ++ (or_still start one).1 →
+    option_or one rest ≡ follows_rest start → true ≡ did one → next ≡ (or_still start one).0 →
+    sent ≡ before ++ (or_still start one).1 →
     IsFirst start next before sent
 applies start next before sent None rest left is state sends = true_false is
 applies start next before sent (Some done) rest left is state sends = record {
@@ -204,7 +205,8 @@ pub record IsStill (start next : Master) (before sent : List Message) (rest : Op
   pub left : rest ≡ follows_rest start
 
 fails : (start next : Master) (before sent : List Message) (one rest : Option (Master × List Message)) →
-    option_or one rest ≡ follows_rest start → false ≡ did one → next ≡ (or_still start one).0 → sent ≡ before ++ (or_still start one).1 →
+    option_or one rest ≡ follows_rest start → false ≡ did one → next ≡ (or_still start one).0 →
+    sent ≡ before ++ (or_still start one).1 →
     IsStill start next before sent rest
 fails start next before sent None rest left isn't state sends = record { same = state; sends = sends ∙ append-nil before; left = left }
 fails start next before sent (Some done) rest left isn't state sends = true_false (sym isn't)

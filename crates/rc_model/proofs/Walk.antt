@@ -236,7 +236,8 @@ module _ (R : Master → Master × List Message → Type 0) (joined : Joined R) 
       kept-then master (replaces_lost master seg) (replaces_lost_of segs) (kept-lost l master seg) (kept-lost_of l segs)
 
   kept-first : Listed R → (master : Master) (chosen : Option (List ServerId)) → master.log.head ≡ 0 →
-      choose 1 master.log.own master.log.factor master.known ≡ chosen → R master (opens_first master (opened_on master.log (1 ∷ []) chosen))
+      choose 1 master.log.own master.log.factor master.known ≡ chosen →
+      R master (opens_first master (opened_on master.log (1 ∷ []) chosen))
   kept-first l master None none e = joined.still master
   kept-first l master (Some ids) none e = l.opens master ids none e
 
