@@ -1,15 +1,14 @@
 -- Recoveries that were seen to miss nothing.
-use Rattle.std.proofs.Common.{◌≡◌, ℕ, ◌+◌, ◌<◌, Bool, true, false, cond, not, ◌&&◌, ◌||◌, List, [], ◌∷◌, ◌++◌, length}
-use Rattle.std.proofs.Common.{drop, get_or, Option, Some, None, nat_eq, refl, sym, ap, ◌∙◌, subst, arith}
-use Rattle.std.specs.Option.{is_some}
+use Rattle.std.proofs.Common.{◌≡◌, ℕ, ◌+◌, ◌<◌, Bool, true, false, cond, not, ◌&&◌, ◌||◌, List, [], ◌∷◌, ◌++◌, length, drop, get_or}
+use Rattle.std.proofs.Common.{Option, Some, None, nat_eq, refl, sym, ap, ◌∙◌, subst, arith}
+use Rattle.std.specs.Option.{is_some, option_or}
 use Rattle.std.specs.BTreeMap.{BTreeMap, get, is_at}
 use Rattle.std.specs.Cmp.Lexicographic.{pointwise}
 use Rattle.std.proofs.lemmas.Bool.{and_parts, eqb-true}
 use Rattle.std.proofs.lemmas.Bool.Decides.{nat_tests}
-use Rattle.std.specs.Option.{option_or}
 use Rattle.rc_model.specs.Model.{ServerId, PlanRow, Message, Body, Breach, Missing, Ack, Accepted, acknowledged, plan_in, accepted}
-use Rattle.rc_model.specs.Model.{is_recovered, all_agree, holds_greater, is_superseded, is_missing, first_missing, missing_of}
-use Rattle.rc_model.specs.Model.{made, same_id, is_server}
+use Rattle.rc_model.specs.Model.{is_recovered, all_agree, holds_greater, is_superseded, is_missing, first_missing, missing_of, made}
+use Rattle.rc_model.specs.Model.{same_id, is_server}
 use Rattle.rc_audit.specs.declared.missing.Clean.{Clean}
 use Rattle.rc_audit.specs.declared.missing.CleanKey.{CleanKey}
 use Rattle.rc_audit.specs.Clean.{clean_order, AreClean}
@@ -127,7 +126,8 @@ pub plan_kept : (sent : List Message) (body : Body) (plan : Accepted) (whole her
     first_missing sent plan (acknowledged sent plan.master) ≡ None → missing_of sent whole ≡ missing_of sent here →
     missing_of sent whole ≡ missing_of sent rest
 plan_kept sent body plan whole here rest next is none before =
-    before ∙ ap (missing_of sent) (next ∙ ap (λ plans. plans ++ rest) (sym is)) ∙ ap (λ found. option_or found (missing_of sent rest)) none
+    before ∙ ap (missing_of sent) (next ∙ ap (λ plans. plans ++ rest) (sym is))
+    ∙ ap (λ found. option_or found (missing_of sent rest)) none
 
 pub none_from : (found : Option Breach) → is_some found ≡ false → found ≡ None
 none_from None e = refl

@@ -8,7 +8,7 @@ use Rattle.rc_model.specs.Model.{Message, Granted, grant_in, granted, covers, gr
 use Rattle.rc_audit.specs.declared.grants.Grant.{Grant}
 use Rattle.rc_audit.specs.declared.grants.TermGrants.{TermGrants}
 use Rattle.rc_audit.specs.Grants.{grant_of, holds_point, under, grants_at, AddsGrants, AreGrants}
-use Rattle.rc_model.proofs.Members.{In-get, place_of}
+use Rattle.rc_model.proofs.Members.{In-get, place_of, In-filter, filter-In}
 use Rattle.rc_audit.proofs.PlaceLemmas.{taken_more}
 use Rattle.rc_model.proofs.Tests.{either}
 
@@ -73,28 +73,6 @@ In-from_under grant (first ∷ grants) (inr rest) =
     either (In grant) (nat_eq first.term grant.term) (first ∷ under grant.term grants) (under grant.term grants)
     (λ _. inr (In-from_under grant grants rest)) (λ _. In-from_under grant grants rest)
 
-In-filter : {X : Type 0} (test : X → Bool) (x : X) (xs : List X) → In x (filter test xs) → In x xs × (test x ≡ true)
-In-filter test x [] at = absurd at
-In-filter test x (y ∷ xs) at = by (test y) refl (In-filter test x xs) at
-  where
-    further : In x xs × (test x ≡ true) → ((x ≡ y) ⊎ In x xs) × (test x ≡ true)
-    further p = (inr p.0, p.1)
-
-    by : (b : Bool) → test y ≡ b → (In x (filter test xs) → In x xs × (test x ≡ true)) →
-        In x (cond b (y ∷ filter test xs) (filter test xs)) → ((x ≡ y) ⊎ In x xs) × (test x ≡ true)
-    by true e later (inl same) = (inl same, ap test same ∙ e)
-    by true e later (inr rest) = further (later rest)
-    by false e later rest = further (later rest)
-
-In-from_filter : {X : Type 0} (test : X → Bool) (x : X) (xs : List X) → In x xs → test x ≡ true → In x (filter test xs)
-In-from_filter test x [] at e = absurd at
-In-from_filter test x (y ∷ xs) (inl same) e =
-    either (In x) (test y) (y ∷ filter test xs) (filter test xs) (λ _. inl same)
-    (λ no_. let is : test y ≡ true = ap test (sym same) ∙ e in cc)
-In-from_filter test x (y ∷ xs) (inr rest) e =
-    either (In x) (test y) (y ∷ filter test xs) (filter test xs) (λ _. inr (In-from_filter test x xs rest e))
-    (λ _. In-from_filter test x xs rest e)
-
 In-map : {X Y : Type 0} (f : X → Y) (x : X) (xs : List X) → In x xs → In (f x) (map f xs)
 In-map f x [] at = absurd at
 In-map f x (y ∷ xs) (inl same) = inl (ap f same)
@@ -118,7 +96,7 @@ step_back table_of sent are term table key grant at holds =
     let in_term = In-under term grant (map grant_of (granted sent)) (subst (In grant) (are.each term) at) in
     let from = In-from_map grant_of grant (granted sent) in_term.0 in
     let covered : covers table key from.x ≡ true = ap (holds_point table key) (sym from.is) ∙ holds in
-    let place = place_of (grants_of sent table key) from.x (In-from_filter (covers table key) from.x (granted sent) from.among covered) in
+    let place = place_of (grants_of sent table key) from.x (filter-In (covers table key) from.x (granted sent) from.among covered) in
     let back : from.x.previous ≡ grant.previous = ap (λ (g : Grant). g.previous) (sym from.is) in
     let to : from.x.term ≡ term = ap (λ (g : Grant). g.term) (sym from.is) ∙ in_term.1 in
     subst (λ t. IsBefore (grants_of sent table key) grant.previous t) to

@@ -7,6 +7,7 @@ use Rattle.std.proofs.lemmas.List.{append-nil}
 use Rattle.std.proofs.lemmas.Grind.{common_steps}
 use Rattle.std.proofs.lemmas.Bool.Decides.{nat_tests}
 use Rattle.rc_model.specs.Model.{ServerId, Message, same_id, is_server, made, Ack, ack_in, acknowledged, all_agree}
+use Rattle.rc_model.proofs.Ids.{same_id-true}
 use Rattle.rc_audit.specs.declared.writes.AckedWrite.{AckedWrite}
 use Rattle.rc_audit.specs.declared.standing.Standing.{Standing}
 use Rattle.rc_audit.specs.Writes.{ack_of, acks_from, acks_by}
@@ -52,11 +53,6 @@ acked_below-push (first ∷ acks) ack s =
     later true false all some one last e = omega arith
     later false true all some one last e = e
     later false false all some one last e = e
-
-same_id-true : (a b : ServerId) → same_id a b ≡ true → a ≡ b
-same_id-true a b e =
-    let index : a.index ≡ b.index = grind (arith, nat_tests) in
-    let generation : a.generation ≡ b.generation = grind (arith, nat_tests) in id_from index generation
 
 same_id-flip : (a b : ServerId) → same_id a b ≡ same_id b a
 same_id-flip a b = grind (arith, nat_tests)

@@ -14,6 +14,7 @@ use Rattle.std.specs.declared.cmp.Ordering.TheVariants.{Less, Equal, Greater}
 use Rattle.rc_model.specs.Model.{ServerId, Message, Body, same_id, id_before, insert_id_once, put_id, between, Replica, Backup, Held}
 use Rattle.rc_model.specs.Model.{nothing_held, with_held, replica_of, replica_after, without_replica, insert_once, is_refused}
 use Rattle.rc_model.specs.Model.{stored_of, keeps, stores, frees, restarted, restart}
+use Rattle.rc_model.proofs.Ids.{same_id-true}
 use Rattle.rc_backup.specs.BackupView.{Holdings, held_in, backup_of, id_order, put_first}
 use Rattle.rc_replica.specs.HeldAfter.{next_replica, with_replica, stored_after, held_without}
 use Rattle.rc_replica.proofs.MapLemmas.{set_value-inserted, with_each, keys-with_each}
@@ -30,9 +31,6 @@ id_order_total = search (comparing, rules)
 -- ids with the same parts are one
 same_parts : (a b : ServerId) → a.index ≡ b.index → a.generation ≡ b.generation → a ≡ b
 same_parts a b p q j = record { index = p j; generation = q j }
-
-pub same_id-true : (a b : ServerId) → same_id a b ≡ true → a ≡ b
-same_id-true a b h = same_parts a b (grind (arith, nat_tests)) (grind (arith, nat_tests))
 
 same_id-sym : (a b : ServerId) → same_id a b ≡ same_id b a
 same_id-sym a b = grind (arith, nat_tests)

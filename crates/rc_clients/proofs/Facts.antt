@@ -52,7 +52,8 @@ told history moment op e = by (slice_get history moment) e
           key_is = key_asked history i (Invoked table key request) s;
         })
 
-    answers : (k : Kind) (i v : ℕ) (b : Bool) → nat_lt i moment ≡ b → (event : Option ClientEvent) → slice_get history i ≡ event →
+    answers : (k : Kind) (i v : ℕ) (b : Bool) → nat_lt i moment ≡ b → (event : Option ClientEvent) →
+        slice_get history i ≡ event →
         cond b (option_and_then (operation_of k i moment v) event) None ≡ Some op → IsTold history moment op
     answers k i v false t event s e = cc
     answers k i v true t None s e = cc

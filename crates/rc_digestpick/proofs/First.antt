@@ -17,20 +17,20 @@ held_rows-append [] ys = refl
 held_rows-append (x ∷ xs) ys =
     ap (λ rows. rows_of x.0 x.1 ++ rows) (held_rows-append xs ys) ∙ sym (append_assoc (rows_of x.0 x.1) (held_rows xs) (held_rows ys))
 
-pub first_by_from-append : (before : HeldRow → HeldRow → Bool) (best : HeldRow) (xs ys : List HeldRow) →
+pub fold_better-append : (before : HeldRow → HeldRow → Bool) (best : HeldRow) (xs ys : List HeldRow) →
     fold (better before) best (xs ++ ys) ≡ fold (better before) (fold (better before) best xs) ys
-first_by_from-append before best [] ys = refl
-first_by_from-append before best (x ∷ xs) ys = first_by_from-append before (cond (before x best) x best) xs ys
+fold_better-append before best [] ys = refl
+fold_better-append before best (x ∷ xs) ys = fold_better-append before (cond (before x best) x best) xs ys
 
 pub first_by-append : (before : HeldRow → HeldRow → Bool) (xs ys : List HeldRow) →
     first_by before (xs ++ ys) ≡ first_after before (first_by before xs) ys
 first_by-append before [] ys = refl
-first_by-append before (x ∷ xs) ys = ap Some (first_by_from-append before x xs ys)
+first_by-append before (x ∷ xs) ys = ap Some (fold_better-append before x xs ys)
 
 pub first_after-append : (before : HeldRow → HeldRow → Bool) (best : Option HeldRow) (xs ys : List HeldRow) →
     first_after before best (xs ++ ys) ≡ first_after before (first_after before best xs) ys
 first_after-append before None xs ys = first_by-append before xs ys
-first_after-append before (Some b) xs ys = ap Some (first_by_from-append before b xs ys)
+first_after-append before (Some b) xs ys = ap Some (fold_better-append before b xs ys)
 
 -- a row further on
 pub first_after_more : (before : HeldRow → HeldRow → Bool) (test : HeldRow → Bool) (best : Option HeldRow)

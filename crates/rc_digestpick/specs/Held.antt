@@ -1,9 +1,8 @@
 -- A row where it lies, as `rc_model` sees it, and the first of some rows after others.
 use Rattle.std.specs.Prelude.{ℕ, Bool, List, filter, Option, Some, None}
 use Rattle.std.specs.List.{fold}
-use Rattle.rc_model.specs.Pick.{better}
+use Rattle.rc_model.specs.Pick.{better, HeldRow, first_by, head_first, closed_first, is_open_valid, is_valid_of}
 use Rattle.rc_types.specs.declared.ids.Pair.{Pair}
-use Rattle.rc_model.specs.Pick.{HeldRow, first_by, head_first, closed_first, is_open_valid, is_valid_of}
 use Rattle.rc_digestpick.specs.declared.held.Held.{Held}
 
 -- the row itself, with its backup

@@ -1,37 +1,33 @@
 -- A node that is made anew of a file.
 use Rattle.std.proofs.Common.{◌≡◌, ◌+◌, ℕ, zero, suc, Bool, true, false, cond, List, [], ◌∷◌, ◌++◌, length, take, refl, sym, ap, ◌∙◌}
-use Rattle.std.proofs.Common.{subst}
+use Rattle.std.proofs.Common.{subst, Option, Some, None, append_assoc}
 use Rattle.std.proofs.Math.Seq.{take-append-add}
 use Rattle.rc_types.specs.declared.events.Setup.{Setup}
 use Rattle.rc_types.specs.declared.events.NodeWork.{NodeWork}
 use Rattle.rc_types.specs.declared.events.NodeWork.TheVariants as work
-use Rattle.rc_model.specs.Nodes.{Work, HostNode}
+use Rattle.rc_model.specs.Nodes.{Work, HostNode, server_of}
 use Rattle.rc_model.specs.Coordinator.{Coordinator}
 use Rattle.rc_model.specs.World.{NodeName}
 use Rattle.rc_model.specs.World as named
 use Rattle.rc_model.specs.Nodes as model
 use Rattle.rc_model.proofs.Tests.{true_false}
 use Rattle.rc_history.specs.Nodes.{Node, TheOutside, TheCoordinator, TheHost, node_step, new_node, name_of}
-use Rattle.rc_history.specs.Remade.{SameButMaster, host_keeps}
-use Rattle.rc_world.specs.NodeView.{work_at, may_take, after_work, host_may, host_after_work}
+use Rattle.rc_history.specs.Remade.{SameButMaster, host_keeps, stopped}
+use Rattle.rc_world.specs.NodeView.{work_at, may_take, after_work, host_may, host_after_work, NodeData, OutsideData, CoordinatorData}
+use Rattle.rc_world.specs.NodeView.{HostNodeData, node_seen}
 use Rattle.rc_keeping.specs.Keeping.{host_next, host_given}
-use Rattle.rc_keeping.proofs.ComingBack.{saved-hosts-come-back}
+use Rattle.rc_keeping.proofs.ComingBack.{saved-hosts-come-back, refusals-come-back}
 use Rattle.rc_lives.specs.Lives.{keeps, node_after, stops, SameNode}
 use Rattle.rc_lives.proofs.Cutting.{name-next}
-use Rattle.rc_world.specs.NodeView.{NodeData, OutsideData, CoordinatorData, HostNodeData, node_seen}
 use Rattle.rc_codec.proofs.Lawful.{some_is}
 use Rattle.rc_keeping.specs.Saved.{Saved, HostSave, CoordinatorSave, saved_of, node_from}
 use Rattle.rc_keeping.proofs.Loaded.{loaded-is-same}
-use Rattle.rc_files.specs.Standing.{works_at, AllWritten, node_next, node_given, FilesMakeAnew}
-use Rattle.rc_files.specs.Standing.{OneMoreIsWritten, FewerStandForFewer, StopsMakeEqual, SavesStandForAll}
-use Rattle.rc_history.specs.Remade.{stopped}
-use Rattle.rc_model.specs.Nodes.{server_of}
+use Rattle.rc_files.specs.Standing.{works_at, AllWritten, node_next, node_given, FilesMakeAnew, OneMoreIsWritten, FewerStandForFewer}
+use Rattle.rc_files.specs.Standing.{StopsMakeEqual, SavesStandForAll}
 use Rattle.rc_model.specs.Master.{Master}
 use Rattle.rc_types.specs.declared.ids.ServerId.{ServerId}
-use Rattle.std.proofs.Common.{Option, Some, None, append_assoc}
 use Rattle.std.proofs.lemmas.List.{append-nil}
 use Rattle.std.specs.Prelude.{is_some}
-use Rattle.rc_keeping.proofs.ComingBack.{refusals-come-back}
 
 apart : (b : Bool) (x y : HostNode) → cond b (TheHost x) (TheHost y) ≡ TheHost (cond b x y)
 apart true x y = refl

@@ -48,7 +48,7 @@ record IsCut (works : List NodeWork) (rest : List ℕ) : Type 0 where
   no_more : count ≤ length works
   no_less : (k : ℕ) → k ≤ length works → length (journal_of (take k works)) ≤ length rest → k ≤ count
 
-le_or_lt : (a b : ℕ) → (a ≤ b) ⊎ (b < a)
+pub le_or_lt : (a b : ℕ) → (a ≤ b) ⊎ (b < a)
 le_or_lt zero b = inl (omega arith)
 le_or_lt (suc a) zero = inr (omega arith)
 le_or_lt (suc a) (suc b) = by (le_or_lt a b)

@@ -6,6 +6,7 @@ use Rattle.std.proofs.lemmas.Bool.{cond-false, cond_both, false≢true, eqb-true
 use Rattle.rc_model.specs.Model.{ServerId, Member, Fault, put, ServerList, has_crashed, Config, any_lost, lost_if_crashed, with_lost}
 use Rattle.rc_model.specs.Model.{staying, substitutes, substitutes_for, replaced, candidates, changes_to, refills_with, lose, refill}
 use Rattle.rc_model.specs.Model.{Segment, Log, with_config, refills, opens_change, loses}
+use Rattle.rc_config.proofs.MemberLemmas.{replaced-none}
 use Rattle.rc_segment.specs.Concerned.{is_concerned}
 
 or-false : (a b : Bool) → (a || b) ≡ false → (a ≡ false) × (b ≡ false)
@@ -40,10 +41,6 @@ no-substitutes ids taken [] none = refl
 no-substitutes ids taken (member ∷ members) none =
     let parts = or-false member.lost (any_lost members) none in
     cond-false member.lost _ (substitutes ids taken members) parts.0 ∙ no-substitutes ids taken members parts.1
-
-replaced-none : (members : List Member) → replaced members [] ≡ members
-replaced-none [] = refl
-replaced-none (member ∷ members) = refl
 
 module _ (own : ServerId) (servers : ServerList) (config : Config)
     (none : list_any (λ member. member.lost || has_crashed servers member.id) config.members ≡ false) where

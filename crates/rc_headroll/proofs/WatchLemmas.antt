@@ -101,7 +101,7 @@ module _ (kept : LogData) (seg from : ℕ) (x was : Segment) (watched : IsWatche
 
 -- What the code changes
 
-wants-parts : (s : Segment) → wants_nothing s ≡ true →
+pub wants-parts : (s : Segment) → wants_nothing s ≡ true →
     (s.shut ≡ true) × (s.config.committed ≡ true) × ((s.freed || have_told s.config.members) ≡ true)
 wants-parts s e =
     let first = and_parts s.shut (s.config.committed && (s.freed || have_told s.config.members)) e in

@@ -3,8 +3,7 @@ use Rattle.std.proofs.Common.{◌≡◌, Bool, true, false, cond, List, [], ◌�
 use Rattle.std.specs.Prelude.{is_some}
 use Rattle.rc_model.specs.Model.{Addr, Server, Outside, Message, Body, Fetch, is_server, Backup, backup_takes, Master, master_takes, Work}
 use Rattle.rc_model.specs.Model.{Take, Create, Split, HostNode, host_step, coordinator_step, is_for_backup, with_backup, with_master}
-use Rattle.rc_model.specs.Model.{server_takes, server_of, takes_if_running, ticks_if_running, host_after}
-use Rattle.rc_model.specs.Model.{coordinator_after}
+use Rattle.rc_model.specs.Model.{server_takes, server_of, takes_if_running, ticks_if_running, host_after, coordinator_after}
 use Rattle.rc_types.specs.declared.ids.Addr.TheVariants.{Coordinator as AtCoordinator}
 use Rattle.rc_model.specs.Coordinator.{Coordinator}
 use Rattle.rc_model.specs.Nodes.{Ask, Tick, Stop, Start, Suspect, Decide}

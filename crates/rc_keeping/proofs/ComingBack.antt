@@ -1,7 +1,6 @@
 -- A node comes back from what it keeps, whatever of it is refused.
-use Rattle.std.specs.Prelude.{◌&&◌, nat_lt}
+use Rattle.std.specs.Prelude.{◌&&◌, nat_lt, is_some}
 use Rattle.std.proofs.Common.{◌≡◌, ℕ, Bool, true, false, cond, List, [], ◌∷◌, filter, Option, Some, None, refl, sym, ap, ◌∙◌, subst}
-use Rattle.std.specs.Prelude.{is_some}
 use Rattle.rc_model.specs.Model.{Server, ServerId, MAX_HOSTS, Message, is_server, backup_takes, Master, master_takes, HostNode}
 use Rattle.rc_model.specs.Model.{coordinator_step, server_of, runs, is_for_backup, with_backup, with_master, server_takes}
 use Rattle.rc_model.specs.Model.{takes_if_running}
@@ -14,8 +13,8 @@ use Rattle.rc_history.proofs.Remade.{hosts-remade}
 use Rattle.rc_world.specs.NodeView.{work_at, host_may, host_after_work}
 use Rattle.rc_types.specs.declared.events.NodeWork.{NodeWork}
 use Rattle.rc_types.specs.declared.events.NodeWork.TheVariants as work
-use Rattle.rc_keeping.specs.Keeping.{host_next, host_given, coordinator_given}
-use Rattle.rc_keeping.specs.Keeping.{HostsComeBack, SavedHostsComeBack, CoordinatorsComeBack, RefusalsComeBack}
+use Rattle.rc_keeping.specs.Keeping.{host_next, host_given, coordinator_given, HostsComeBack, SavedHostsComeBack, CoordinatorsComeBack}
+use Rattle.rc_keeping.specs.Keeping.{RefusalsComeBack}
 
 same-same : (host : HostNode) → SameButMaster host host
 same-same host = record { runs = refl; rest = refl }

@@ -5,6 +5,7 @@ use Rattle.std.proofs.lemmas.List.Elements.{filter-append}
 use Rattle.rc_types.specs.declared.events.Setup.{Setup}
 use Rattle.rc_model.specs.Model.{Event, Message, replay}
 use Rattle.rc_model.specs.World.{NodeName, same_node}
+use Rattle.rc_lives.proofs.Since.{brought-last}
 use Rattle.rc_history.specs.Apart.{Step, events_by, sent_by, TakenApart}
 use Rattle.rc_log_laws.specs.WordClaims.{sent_after}
 use Rattle.rc_lives.specs.Lives.{new_life}
@@ -26,13 +27,6 @@ brought-first : (safe : NodeName → ℕ) (earlier deeds more : List Deed) → A
     AllBrought safe earlier deeds
 brought-first safe earlier [] more is = tt
 brought-first safe earlier (deed ∷ deeds) more is = (is.0, brought-first safe (earlier ++ deed ∷ []) deeds more is.1)
-
-brought-last : (safe : NodeName → ℕ) (earlier deeds more : List Deed) → AllBrought safe earlier (deeds ++ more) →
-    AllBrought safe (earlier ++ deeds) more
-brought-last safe earlier [] more is = subst (λ l. AllBrought safe l more) (sym (append-nil earlier)) is
-brought-last safe earlier (deed ∷ deeds) more is =
-    subst (λ l. AllBrought safe l more) (append_assoc earlier (deed ∷ []) deeds)
-    (brought-last safe (earlier ++ deed ∷ []) deeds more is.1)
 
 pub cut : (setup : Setup) (all : Processes) (kept rest : List Deed) → Goes setup all → all.done ≡ kept ++ rest →
     Cut setup (sent_by_deeds kept) (sent_by_deeds all.done)

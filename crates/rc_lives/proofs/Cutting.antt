@@ -1,7 +1,6 @@
 -- Of a node's works those are left that rest on no more than so many works of its journal: that is a life too.
-use Rattle.std.proofs.Common.{◌≡◌, ◌≤◌, ◌<◌, ◌+◌, ℕ, Bool, true, false, cond, not, ◌&&◌, List, [], ◌∷◌, ◌++◌, length}
-use Rattle.std.proofs.Common.{filter}
-use Rattle.std.proofs.Common.{take, nat_le, nat_lt, Option, Some, None, refl, sym, ap, ◌∙◌, subst, arith, length-append}
+use Rattle.std.proofs.Common.{◌≡◌, ◌≤◌, ◌<◌, ◌+◌, ℕ, Bool, true, false, cond, not, ◌&&◌, List, [], ◌∷◌, ◌++◌, length, filter, take}
+use Rattle.std.proofs.Common.{nat_le, nat_lt, Option, Some, None, refl, sym, ap, ◌∙◌, subst, arith, length-append}
 use Rattle.std.proofs.lemmas.List.{take_at, take_all, take-append-le}
 use Rattle.std.proofs.lemmas.Bool.{leb-true, leb-false, le-leb, lt-leb, and_parts, and_right}
 use Rattle.std.specs.Prelude.{is_some}
@@ -10,8 +9,7 @@ use Rattle.rc_types.specs.declared.messages.Body.{Body}
 use Rattle.rc_types.specs.declared.limits.TheConstants.{MAX_HOSTS}
 use Rattle.rc_model.specs.MasterStep.{master_ticks}
 use Rattle.rc_model.specs.Model.{Backup, Master, master_takes, backup_takes, is_server, Work, Take, Create, Split, HostNode, host_step}
-use Rattle.rc_model.specs.Model.{host_can}
-use Rattle.rc_model.specs.Model.{is_for_backup, with_backup, with_master, server_takes, server_of, Fetch, takes_if_running}
+use Rattle.rc_model.specs.Model.{host_can, is_for_backup, with_backup, with_master, server_takes, server_of, Fetch, takes_if_running}
 use Rattle.rc_model.specs.Nodes.{Ask, Tick, Stop, Start, Suspect, Decide, runs, is_running_at}
 use Rattle.rc_model.specs.World.{NodeName, TheHost}
 use Rattle.rc_model.proofs.Tests.{either, true_false}

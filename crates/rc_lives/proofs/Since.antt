@@ -12,8 +12,7 @@ use Rattle.rc_history.specs.Nodes.{new_node}
 use Rattle.rc_history.specs.Apart.{sent_by, left_at, TakenApart}
 use Rattle.rc_lives.specs.Lives.{Life, new_life, life_next, stops, replayed, remade}
 use Rattle.rc_lives.specs.Processes.{Deed, Process, Processes, new_processes, Happening, Takes, Syncs, Leaves, Falls, deed_of, is_left}
-use Rattle.rc_lives.specs.Processes.{stop_deeds}
-use Rattle.rc_lives.specs.Processes.{after, MayLeave, safe_at, May, MayAll, after_all}
+use Rattle.rc_lives.specs.Processes.{stop_deeds, after, MayLeave, safe_at, May, MayAll, after_all}
 use Rattle.rc_lives.specs.Claims.{GoesOn, WhatHasLeftStays}
 use Rattle.rc_lives.proofs.Own.{IsLived, life_of, lived-first, lived-last}
 use Rattle.rc_lives.proofs.Global.{own, AllBrought, Goes, goes-all, goes-new, in-filter, left-passes, put-safe}
@@ -120,7 +119,7 @@ brought-first : (safe : NodeName → ℕ) (earlier deeds more : List Deed) → A
 brought-first safe earlier [] more is = tt
 brought-first safe earlier (deed ∷ deeds) more is = (is.0, brought-first safe (earlier ++ deed ∷ []) deeds more is.1)
 
-brought-last : (safe : NodeName → ℕ) (earlier deeds more : List Deed) → AllBrought safe earlier (deeds ++ more) →
+pub brought-last : (safe : NodeName → ℕ) (earlier deeds more : List Deed) → AllBrought safe earlier (deeds ++ more) →
     AllBrought safe (earlier ++ deeds) more
 brought-last safe earlier [] more is = subst (λ l. AllBrought safe l more) (sym (append-nil earlier)) is
 brought-last safe earlier (deed ∷ deeds) more is =

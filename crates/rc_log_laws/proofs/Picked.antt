@@ -14,12 +14,13 @@ use Rattle.rc_model.proofs.Tests.{either}
 
 -- The first by an order is one of the list
 
-first_by_from-in : (before : HeldRow → HeldRow → Bool) (best : HeldRow) (rows : List HeldRow) →
+fold_better-in : (before : HeldRow → HeldRow → Bool) (best : HeldRow) (rows : List HeldRow) →
     In (fold (better before) best rows) (best ∷ rows)
-first_by_from-in before best [] = inl refl
-first_by_from-in before best (row ∷ rows) =
-    either (λ next. (next ≡ best) ⊎ (next ≡ row) → In (fold (better before) next rows) (best ∷ row ∷ rows)) (before row best) row best
-    (λ _ which. by row which (first_by_from-in before row rows)) (λ _ which. by best which (first_by_from-in before best rows)) which
+fold_better-in before best [] = inl refl
+fold_better-in before best (row ∷ rows) =
+    either (λ next. (next ≡ best) ⊎ (next ≡ row) →
+    In (fold (better before) next rows) (best ∷ row ∷ rows)) (before row best) row best
+    (λ _ which. by row which (fold_better-in before row rows)) (λ _ which. by best which (fold_better-in before best rows)) which
   where
     by : (next : HeldRow) → (next ≡ best) ⊎ (next ≡ row) → In (fold (better before) next rows) (next ∷ rows) →
         In (fold (better before) next rows) (best ∷ row ∷ rows)
@@ -33,7 +34,7 @@ first_by_from-in before best (row ∷ rows) =
 first_by-in : (before : HeldRow → HeldRow → Bool) (rows : List HeldRow) (row : HeldRow) → first_by before rows ≡ Some row → In row rows
 first_by-in before [] row e = cc
 first_by-in before (best ∷ rows) row e =
-    let same : fold (better before) best rows ≡ row = cc in subst (λ one. In one (best ∷ rows)) same (first_by_from-in before best rows)
+    let same : fold (better before) best rows ≡ row = cc in subst (λ one. In one (best ∷ rows)) same (fold_better-in before best rows)
 
 -- A held row is one of an answer
 

@@ -188,10 +188,10 @@ stays-first_opened log (Some ids) none = stays-opens log (1 ∷ []) ids (inr non
     first t (inl same) = omega (arith, same, none)
     first t (inr never) = absurd never
 
-pub stays-rolled : (log : Log) (dead : List ℕ) (chosen : Option (List ServerId)) → log.phase ≡ Writing →
+pub stays-next_opened : (log : Log) (dead : List ℕ) (chosen : Option (List ServerId)) → log.phase ≡ Writing →
     Stays log (opened_on log (next_digest log dead) chosen).0
-stays-rolled log dead None writing = stays-refl log
-stays-rolled log dead (Some ids) writing = stays-opens log (next_digest log dead) ids (inl writing) within
+stays-next_opened log dead None writing = stays-refl log
+stays-next_opened log dead (Some ids) writing = stays-opens log (next_digest log dead) ids (inl writing) within
   where
     within : (t : ℕ) → In t (next_digest log dead) → (t ≡ log.head + 1) ⊎ In t (head_of log).digest
     within t at = by (In-append t (filter (λ seg. nat_eq seg log.head || not (list_any (nat_eq seg) dead))

@@ -13,7 +13,7 @@ use Rattle.rc_model.proofs.Sending.{each-map, each-write_oks, each-reminds}
 use Rattle.rc_log_laws.specs.Freed.{IsLeftOut, GoodFrees, freed_by, freed_in}
 use Rattle.rc_log_laws.proofs.Silent.{Silent, Frees, silent-none, silent-ids, silent-all, freed-append, freed-segments}
 use Rattle.rc_log_laws.proofs.Stays.{Stays, fewer, stays-refl, stays-put, stays-stored, stays-commit_noted, stays-loses, stays-starts}
-use Rattle.rc_log_laws.proofs.Stays.{stays-closes, stays-first_opened, stays-rolled, writes-leave_out}
+use Rattle.rc_log_laws.proofs.Stays.{stays-closes, stays-first_opened, stays-next_opened, writes-leave_out}
 use Rattle.rc_step_laws.proofs.Rolling.{writing-is}
 
 -- what holds of the freed segments holds with those that are freed in the step
@@ -50,7 +50,7 @@ moves-head master log stays = quiet master (with_log master log) (places_head lo
 moves-rolls : (master : Master) → Rolls Moves master
 moves-rolls master ids writing room chosen =
     moves-head master (opens_head master.log (next_digest master.log (dead_segments master)) ids)
-    (stays-rolled master.log (dead_segments master) (Some ids) (writing-is master.log.phase writing))
+    (stays-next_opened master.log (dead_segments master) (Some ids) (writing-is master.log.phase writing))
 
 moves-listed : Listed Moves
 moves-listed = record {

@@ -1,13 +1,12 @@
 -- A Decide that is refused, where all hosts have answered, means that a segment is gone.
-use Rattle.std.proofs.Common.{◌≡◌, ◌⊎◌, ℕ, Bool, true, cond, nat_eq, List, [], ◌∷◌, Option, Some, Result, Ok, Err}
-use Rattle.std.proofs.Common.{◌||◌, false, refl, sym, ap, ◌∙◌, subst, inl, inr}
+use Rattle.std.proofs.Common.{◌≡◌, ◌⊎◌, ℕ, Bool, true, cond, nat_eq, List, [], ◌∷◌, Option, Some, Result, Ok, Err, ◌||◌, false, refl, sym}
+use Rattle.std.proofs.Common.{ap, ◌∙◌, subst, inl, inr}
 use Rattle.std.proofs.lemmas.Bool.{eqb-true}
-use Rattle.rc_model.specs.Model.{ServerId, Addr, Server, Outside, Row, Part, Setup, Event, Fault, NotReady, StaleAttempt, Message, Replicas}
-use Rattle.rc_model.specs.Model.{to_coordinator, coordinator_refuses, same_id, Replica, replica_of, row_of_replica, rows_of_replicas}
-use Rattle.rc_model.specs.Model.{HeldRow, rows_of}
-use Rattle.rc_model.specs.Model.{held_rows, pick, Attempt, Decision, has_answered, is_gathering, parts_of, plan_message, plan_messages}
-use Rattle.rc_model.specs.Model.{attempt_at}
-use Rattle.rc_model.specs.Model.{decides_with, decides_attempt, decides, decides_on, decision_of, ready_ids, server_of, replay, In}
+use Rattle.rc_model.specs.Model.{ServerId, Addr, Server, Outside, Row, Part, Setup, Event, Fault, NotReady, StaleAttempt, Message}
+use Rattle.rc_model.specs.Model.{Replicas, to_coordinator, coordinator_refuses, same_id, Replica, replica_of, row_of_replica}
+use Rattle.rc_model.specs.Model.{rows_of_replicas, HeldRow, rows_of, held_rows, pick, Attempt, Decision, has_answered, is_gathering}
+use Rattle.rc_model.specs.Model.{parts_of, plan_message, plan_messages, attempt_at, decides_with, decides_attempt, decides, decides_on}
+use Rattle.rc_model.specs.Model.{decision_of, ready_ids, server_of, replay, In}
 use Rattle.rc_types.specs.declared.faults.Fault.TheVariants.{HeadMissing, SegmentMissing}
 use Rattle.rc_types.specs.declared.rows.Plan.{Plan}
 use Rattle.rc_types.specs.Codes.{code_of}

@@ -21,7 +21,7 @@ use Rattle.rc_step_laws.proofs.Tests.{all-each, find-one}
 use Rattle.rc_step_laws.proofs.Places.{numbers-In}
 use Rattle.rc_loss.proofs.Placings.{IsNext, Some_placed, HasClosed, Claims, AllClaim, Placings, PlacedNow, WasShut}
 use Rattle.rc_loss.proofs.Placings.{closed_by, placings-say, placings-put}
-use Rattle.rc_loss.proofs.Members.{many-chosen}
+use Rattle.rc_model.proofs.Measures.{choose-length}
 use Rattle.rc_loss.proofs.Rules.{alike-put, opens-put, phase-put, counted-put, placed-kept, kept-put, kept-opens}
 
 -- the rules that test the phase
@@ -291,7 +291,7 @@ module _ (f : ℕ) (W : ℕ → ℕ → Type 0) (m : ServerId) where
       follows-by master (with_log master (opens_head master.log (next_digest master.log (dead_segments master)) ids)) _
       (kept-opens master.log (next_digest master.log (dead_segments master)) ids)
       (λ sent now good. opens-put f W sent m master.log (next_digest master.log (dead_segments master)) ids
-      (many-chosen (master.log.head + 1) master.log.own master.log.factor master.known ids chosen ∙ good.factor)
+      (choose-length (master.log.head + 1) master.log.own master.log.factor master.known ids chosen ∙ good.factor)
       (inl (writing-is master.log.phase writing)) good)
       (λ sent now good _. each-to_ids _ master.log.own _
       (place_of (opens_head master.log (next_digest master.log (dead_segments master)) ids) (master.log.head + 1) false)

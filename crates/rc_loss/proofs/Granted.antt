@@ -1,12 +1,11 @@
 -- A part that is complete is told of at each Tick: obeying the list changes nothing that the parts read.
-use Rattle.std.proofs.Common.{◌≡◌, ℕ, Bool, true, false, not, cond, ◌&&◌, List, [], ◌∷◌, ◌++◌, filter, take, Option, Some, None}
-use Rattle.std.proofs.Common.{refl, sym, ap, ◌∙◌, subst}
+use Rattle.std.proofs.Common.{◌≡◌, ℕ, Bool, true, false, not, cond, ◌&&◌, List, [], ◌∷◌, ◌++◌, filter, take, Option, Some, None, refl}
+use Rattle.std.proofs.Common.{sym, ap, ◌∙◌, subst}
 use Rattle.std.proofs.lemmas.Bool.{and_parts}
 use Rattle.std.specs.Prelude.{is_some}
-use Rattle.rc_model.specs.Model.{ServerId, Addr, Server, Setup, Event, Message, Body, Recovered, Enlist, to_coordinator, is_up}
-use Rattle.rc_model.specs.Model.{Part, PartState, LogPlace, Log, Master, Task, owns_term, replayed_at, durable_replayed, places_of}
-use Rattle.rc_model.specs.Model.{then_does, obeys_list, ticks, goes_on, HostNode, host_step, runs, server_of}
-use Rattle.rc_model.specs.Model.{replay, In}
+use Rattle.rc_model.specs.Model.{ServerId, Addr, Server, Setup, Event, Message, Body, Recovered, Enlist, to_coordinator, is_up, Part}
+use Rattle.rc_model.specs.Model.{PartState, LogPlace, Log, Master, Task, owns_term, replayed_at, durable_replayed, places_of, then_does}
+use Rattle.rc_model.specs.Model.{obeys_list, ticks, goes_on, HostNode, host_step, runs, server_of, replay, In}
 use Rattle.rc_model.specs.Ids.{is_server}
 use Rattle.rc_model.specs.Ownership.{is_complete}
 use Rattle.rc_model.specs.FollowUps.{attempt_of}

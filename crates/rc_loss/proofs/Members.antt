@@ -23,27 +23,6 @@ many-replaced (one ∷ members) (id ∷ ids) =
     (one ∷ replaced members (id ∷ ids))
     (λ _. ap suc (many-replaced members ids)) (λ _. ap suc (many-replaced members (id ∷ ids)))
 
-pub many-chosen : (seg : ℕ) (own : ServerId) (factor : ℕ) (servers : ServerList) (ids : List ServerId) →
-    choose seg own factor servers ≡ Some ids → length ids ≡ factor
-many-chosen seg own factor servers ids e =
-    either (λ (found : Option (List ServerId)). found ≡ Some ids → length ids ≡ factor)
-    (nat_lt (length (candidates seg own servers)) factor) None (Some (take factor (candidates seg own servers)))
-    (λ _ never. cc) (λ enough same. by enough same) e
-  where
-    by : nat_lt (length (candidates seg own servers)) factor ≡ false →
-        Some (take factor (candidates seg own servers)) ≡ Some ids → length ids ≡ factor
-    by enough same =
-        let is : take factor (candidates seg own servers) ≡ ids = cc in
-        let long : factor ≤ length (candidates seg own servers) = within (length (candidates seg own servers)) factor enough in
-        subst (λ (all : List ServerId). length all ≡ factor) is
-        (length-take factor (candidates seg own servers) ∙ least factor (length (candidates seg own servers)) long)
-      where
-        within : (a b : ℕ) → nat_lt a b ≡ false → b ≤ a
-        within a b e = grind (arith, nat_tests)
-
-        least : (a b : ℕ) → a ≤ b → min a b ≡ a
-        least a b p = grind arith
-
 -- What is noted
 
 pub known-new : (sent : List Message) (m : ServerId) (s e : ℕ) (id : ServerId) → IsKnown sent m s e (new_member id)

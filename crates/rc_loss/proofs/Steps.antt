@@ -16,7 +16,7 @@ use Rattle.rc_model.proofs.Walk.{Joined, Listed, Rolls, Taken, Ticked, begun}
 use Rattle.rc_step_laws.proofs.Copies.{More}
 use Rattle.rc_loss.proofs.Placings.{IsNext, Some_placed, HasClosed, Claims, AllClaim, Placings}
 use Rattle.rc_loss.proofs.Placings.{placings-say}
-use Rattle.rc_loss.proofs.Members.{many-chosen}
+use Rattle.rc_model.proofs.Measures.{choose-length}
 use Rattle.rc_loss.proofs.Rules.{alike-put, loses-put, stored-put, commit-put, opens-put}
 use Rattle.rc_loss.proofs.Says.{reminds-hold}
 
@@ -71,7 +71,7 @@ module _ (f : ℕ) (W : ℕ → ℕ → Type 0) (m : ServerId) where
     begins-opens master digest ids seg chosen may =
         begins-by master (with_log master (opens_head master.log digest ids)) (places_head (opens_head master.log digest ids))
         (λ sent more good. opens-put f W sent m master.log digest ids
-        (many-chosen seg master.log.own master.log.factor master.known ids chosen ∙ good.factor) may good)
+        (choose-length seg master.log.own master.log.factor master.known ids chosen ∙ good.factor) may good)
         (λ sent good. whole-claims sent (opens_head master.log digest ids) (master.log.head + 1) false _ (λ never. true_false (sym never)))
 
     pub begins-rolls : (master : Master) → Rolls Begins master

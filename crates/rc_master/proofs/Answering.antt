@@ -3,19 +3,9 @@ use Rattle.std.proofs.Common.{◌≡◌, ℕ, Bool, true, false, cond, List, [],
 use Rattle.std.proofs.Common.{is_some, option_map, refl, sym, ap}
 use Rattle.rc_model.specs.Model.{Entry, Ownership, PartState, is_to_answer, to_answer, answered_in, after_answer, Master}
 use Rattle.rc_model.specs.Model.{durable_replayed, answers_part, follows_replay}
+use Rattle.rc_ownership.proofs.PartTables.{answered_in-none}
 use Rattle.rc_notices.specs.Telling.{told_of}
 use Rattle.rc_master.specs.Rules.{did, or_still}
-
-answered-none : (durable : List Entry) (states : List PartState) → find (is_to_answer durable) states ≡ None →
-    answered_in durable states ≡ states
-answered-none durable [] e = refl
-answered-none durable (state ∷ states) e = by (is_to_answer durable state) (answered-none durable states) e
-  where
-    by : (b : Bool) → (find (is_to_answer durable) states ≡ None → answered_in durable states ≡ states) →
-        cond b (Some state) (find (is_to_answer durable) states) ≡ None →
-        cond b (record state { answered = true } ∷ states) (state ∷ answered_in durable states) ≡ state ∷ states
-    by true rec e = cc
-    by false rec e = ap (λ others. state ∷ others) (rec e)
 
 mapped-none : (found : Option PartState) → None ≡ option_map (λ state. state.part.term) found → found ≡ None
 mapped-none None e = refl
@@ -24,7 +14,7 @@ mapped-none (Some state) e = cc
 answer-none : (durable : List Entry) (own : Ownership) → None ≡ to_answer durable own → after_answer durable own ≡ own
 answer-none durable own e =
     ap (λ (parts : List PartState). record own { parts = parts })
-    (answered-none durable own.parts (mapped-none (find (is_to_answer durable) own.parts) e))
+    (answered_in-none durable own.parts (mapped-none (find (is_to_answer durable) own.parts) e))
 
 -- whether or not a part is told of, the ownership is the one after the answer
 pub answered-state : (master : Master) → (or_still master (follows_replay master)).0 ≡

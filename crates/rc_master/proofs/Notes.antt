@@ -1,18 +1,17 @@
 -- The notes of a log stay those of the log, whatever is done to it.
-use Rattle.std.proofs.Common.{◌≡◌, ℕ, zero, suc, ◌+◌, ◌-◌, ◌<◌, ◌≤◌, Bool, true, false, cond, not, ◌&&◌, nat_eq, nat_lt, List, []}
-use Rattle.std.proofs.Common.{◌∷◌, ◌++◌, length, take, map, filter, Option, Some, None, Result, Ok, Err, is_err}
-use Rattle.std.proofs.Common.{refl, sym, ap, ◌∙◌, subst, arith}
+use Rattle.std.proofs.Common.{◌≡◌, ℕ, zero, suc, ◌+◌, ◌-◌, ◌<◌, ◌≤◌, Bool, true, false, cond, not, ◌&&◌, nat_eq, nat_lt, List, [], ◌∷◌}
+use Rattle.std.proofs.Common.{◌++◌, length, take, map, filter, Option, Some, None, Result, Ok, Err, is_err, refl, sym, ap, ◌∙◌, subst}
+use Rattle.std.proofs.Common.{arith}
 use Rattle.std.proofs.lemmas.List.{append-nil, map-append, length-map}
 use Rattle.std.proofs.lemmas.Bool.{and_parts, ltb-true, ne_eqb}
 use Rattle.std.proofs.Math.Numerals.{add-one}
 use Rattle.rc_model.specs.Heads.{opened_on}
 use Rattle.rc_model.specs.Model.{ServerId, Entry, Fault, LogFull, Rolling, Writing, LAST_SEGMENT, put, ServerList, Config, choose, noted}
-use Rattle.rc_model.specs.Model.{committed_at, lose, refill, Segment, new_segment, is_ready, with_closes_sent, Log, LogPlace}
-use Rattle.rc_model.specs.Model.{head_of, old_head_of, has_old_head, has_segment, with_segment, places_in, places_to, places_of}
-use Rattle.rc_model.specs.Model.{entries_of, numbers_to, durable_now, is_closing, is_writing, is_full, append_fault, opens_head, appends}
-use Rattle.rc_model.specs.Model.{next_digest, begin_roll, with_config, stored, commit_noted, opens_change, refills, loses, shuts}
-use Rattle.rc_model.specs.Model.{with_shut, may_start, may_write, left_out, starts, closes_old, writes_on, close_marked}
-use Rattle.rc_model.specs.Model.{PartState, Task, replayed_at}
+use Rattle.rc_model.specs.Model.{committed_at, lose, refill, Segment, new_segment, is_ready, with_closes_sent, Log, LogPlace, head_of}
+use Rattle.rc_model.specs.Model.{old_head_of, has_old_head, has_segment, with_segment, places_in, places_to, places_of, entries_of}
+use Rattle.rc_model.specs.Model.{numbers_to, durable_now, is_closing, is_writing, is_full, append_fault, opens_head, appends, next_digest}
+use Rattle.rc_model.specs.Model.{begin_roll, with_config, stored, commit_noted, opens_change, refills, loses, shuts, with_shut, may_start}
+use Rattle.rc_model.specs.Model.{may_write, left_out, starts, closes_old, writes_on, close_marked, PartState, Task, replayed_at}
 use Rattle.rc_model.proofs.Tests.{either, true_false}
 use Rattle.rc_model.proofs.Tables.{put_each, put-same, put-other}
 use Rattle.rc_model.proofs.LogParts.{places_to-agrees, total, total-places, durable-within, marked, with_freed-marked, marked-alone}
@@ -137,10 +136,10 @@ err_ok {P} {A} {E} e = true_false (ap (λ (r : Result A E). is_err r) e)
 opened-is : (log : Log) (digest : List ℕ) (ids : List ServerId) → IsOpened log (opens_head log digest ids)
 opened-is log digest ids = record { same = same-opened log digest ids; head = refl }
 
-rolled-is : (log new : Log) (dead : List ℕ) (chosen : Option (List ServerId)) (began : Bool) →
+opened_on-is : (log new : Log) (dead : List ℕ) (chosen : Option (List ServerId)) (began : Bool) →
     opened_on log (next_digest log dead) chosen ≡ (new, Ok began) → IsOpened log new
-rolled-is log new dead None began e = err_ok (ap (λ (r : Log × Result Bool Fault). r.1) e)
-rolled-is log new dead (Some ids) began e =
+opened_on-is log new dead None began e = err_ok (ap (λ (r : Log × Result Bool Fault). r.1) e)
+opened_on-is log new dead (Some ids) began e =
     subst (IsOpened log) (ap (λ (r : Log × Result Bool Fault). r.0) e) (opened-is log (next_digest log dead) ids)
 
 -- a roll that began
@@ -149,7 +148,7 @@ pub roll-is : (servers : ServerList) (dead : List ℕ) (log new : Log) (began : 
 roll-is servers dead log new began =
     either (λ (r : Log × Result Bool Fault). r ≡ (new, Ok began) → IsOpened log new) (nat_lt log.head LAST_SEGMENT)
     (opened_on log (next_digest log dead) (choose (log.head + 1) log.own log.factor servers)) (log, Err LogFull)
-    (λ _ e. rolled-is log new dead (choose (log.head + 1) log.own log.factor servers) began e)
+    (λ _ e. opened_on-is log new dead (choose (log.head + 1) log.own log.factor servers) began e)
     (λ _ e. err_ok (ap (λ (r : Log × Result Bool Fault). r.1) e))
 
 -- Lost members

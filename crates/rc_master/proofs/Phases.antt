@@ -1,15 +1,14 @@
 -- The phase goes on as the definitions' rules say, and in their order.
-use Rattle.std.proofs.Common.{◌≡◌, ℕ, ◌-◌, Bool, true, false, cond, not, eqb, ◌&&◌, ◌++◌, List, [], ◌∷◌, filter, Option, Some}
-use Rattle.std.proofs.Common.{None, is_some, Result, IfOk, OnOk, refl, sym, ap, ◌∙◌, subst}
-use Rattle.std.specs.Option.{unwrap_or}
+use Rattle.std.proofs.Common.{◌≡◌, ℕ, ◌-◌, Bool, true, false, cond, not, eqb, ◌&&◌, ◌++◌, List, [], ◌∷◌, filter, Option, Some, None}
+use Rattle.std.proofs.Common.{is_some, Result, IfOk, OnOk, refl, sym, ap, ◌∙◌, subst}
+use Rattle.std.specs.Option.{unwrap_or, option_or}
 use Rattle.std.specs.List.{list_any}
 use Rattle.std.proofs.lemmas.Bool.{and_parts}
-use Rattle.std.specs.Option.{option_or}
 use Rattle.rc_model.specs.Model.{Phase, Opening, Closing, Writing, Message, Free, Config, Segment, has_unclosed, is_ready, all_placed}
 use Rattle.rc_model.specs.Model.{Log, head_of, old_head_of, has_old_head, with_segment, is_opening, is_closing, shuts, with_shut}
-use Rattle.rc_model.specs.Model.{may_start, may_close, may_write, left_out, with_freed, starts, closes_old, writes_on, Master}
-use Rattle.rc_model.specs.Model.{with_log, to_ids, ids_of, not_lost, to_unlost, frees_segments, close_is_due, when}
-use Rattle.rc_model.specs.Model.{follows_closing, follow_up, marks_shut}
+use Rattle.rc_model.specs.Model.{may_start, may_close, may_write, left_out, with_freed, starts, closes_old, writes_on, Master, with_log}
+use Rattle.rc_model.specs.Model.{to_ids, ids_of, not_lost, to_unlost, frees_segments, close_is_due, when, follows_closing, follow_up}
+use Rattle.rc_model.specs.Model.{marks_shut}
 use Rattle.rc_model.proofs.Tests.{either, true_false}
 use Rattle.rc_model.proofs.LogParts.{marked, with_freed-marked, marked-alone}
 use Rattle.rc_headroll.specs.Advancing.{next_phase, advanced, advances}

@@ -7,7 +7,7 @@ use Rattle.rc_model.specs.Model.{may_write, Ownership, grant, owns_term, to_answ
 use Rattle.rc_model.specs.Model.{durable_replayed, dead_segments, appends_entry, when, follow_up, follows_start, follows_placed}
 use Rattle.rc_model.specs.Model.{follows_closing, follows_shut, follows_change, follows_stored, follows_data, follows_replay, first_open}
 use Rattle.rc_model.specs.Model.{wants_commit, commits, commits_open, close_is_due, rolls_for_replay, replays, answers_part, marks_shut}
-use Rattle.rc_model.specs.Model.{further, followed, measure, goes_on, ServerId, Addr, Body, then_does, master_takes_first, deposed_takes}
+use Rattle.rc_model.specs.Model.{further, followed, enough, goes_on, ServerId, Addr, Body, then_does, master_takes_first, deposed_takes}
 use Rattle.rc_model.specs.Model.{master_takes}
 use Rattle.rc_model.proofs.Tests.{either, true_false}
 use Rattle.rc_model.proofs.Measures.{goes_on-up, goes_on-settles, goes_on-marked}
@@ -23,7 +23,7 @@ quiet-after master some = by master.deposed refl
 
     by : (b : Bool) → master.deposed ≡ b → IsQuiet (goes_on master).0
     by true is = λ up.
-        let same : goes_on master ≡ (master, []) = ap (λ b. cond b (master, []) (followed (measure master) master)) is in
+        let same : goes_on master ≡ (master, []) = ap (λ b. cond b (master, []) (followed (enough master) master)) is in
         true_false (sym is ∙ (ap (λ (after : Master × List Message). after.0.deposed) (sym same) ∙ up))
     by false is = λ _. (goes_on-marked master is, goes_on-settles master apart is)
 
@@ -38,8 +38,8 @@ pub quiet-stays : (master : Master) → IsQuiet master → goes_on master ≡ (m
 quiet-stays master quiet = by master.deposed refl
   where
     by : (b : Bool) → master.deposed ≡ b → goes_on master ≡ (master, [])
-    by true is = ap (λ b. cond b (master, []) (followed (measure master) master)) is
-    by false is = let both = quiet is in goes_on-up master is ∙ followed-quiet (measure master) master both.0 both.1
+    by true is = ap (λ b. cond b (master, []) (followed (enough master) master)) is
+    by false is = let both = quiet is in goes_on-up master is ∙ followed-quiet (enough master) master both.0 both.1
 
 -- Whether a rule applies doesn't depend on the ranges
 

@@ -1,13 +1,12 @@
 -- The rules, repeated until none applies, are the definitions' repetition.
-use Rattle.std.proofs.Common.{◌≡◌, ◌≢◌, ℕ, zero, suc, ◌+◌, ◌-◌, ◌<◌, ◌≤◌, true, false, List, [], ◌++◌, drop, get_or}
-use Rattle.std.proofs.Common.{Option, Some, None, refl, sym, ap, ◌∙◌, subst, arith, append_assoc}
+use Rattle.std.proofs.Common.{◌≡◌, ◌≢◌, ℕ, zero, suc, ◌+◌, ◌-◌, ◌<◌, ◌≤◌, true, false, List, [], ◌++◌, drop, get_or, Option, Some, None}
+use Rattle.std.proofs.Common.{refl, sym, ap, ◌∙◌, subst, arith, append_assoc}
 use Rattle.std.proofs.lemmas.List.{append-nil, drop_more}
 use Rattle.std.specs.Option.{option_or}
-use Rattle.rc_model.specs.Model.{Message, Log, with_segment, old_head_of, shuts, Master, follows_change, follows_stored}
-use Rattle.rc_model.specs.Model.{follows_data, follows_replay, follow_up}
-use Rattle.rc_model.specs.Model.{marks_shut, further, followed, measure}
+use Rattle.rc_model.specs.Model.{Message, Log, with_segment, old_head_of, shuts, Master, follows_change, follows_stored, follows_data}
+use Rattle.rc_model.specs.Model.{follows_replay, follow_up, marks_shut, further, followed, measure, enough}
 use Rattle.rc_model.proofs.Tests.{either, true_false}
-use Rattle.rc_model.proofs.Measures.{AllLower, lowers, measure-marks_shut}
+use Rattle.rc_model.proofs.Measures.{AllLower, lowers, measure-marks_shut, measure-enough}
 use Rattle.rc_master.specs.declared.following.TheConstants.{RULES}
 use Rattle.rc_master.specs.declared.following.Rule.{Rule}
 use Rattle.rc_master.specs.declared.following.Rule.TheVariants as rule
@@ -67,7 +66,8 @@ same-enough (suc n) (suc k) master factor a b =
 
 once-more : (master : Master) → master.log.factor ≢ 0 →
     settled master ≡ further (follow_up (marks_shut master)) (marks_shut master) (λ next. followed (measure master) next)
-once-more master factor = same-enough (measure master) (suc (measure master)) master factor (omega arith) (omega arith)
+once-more master factor =
+    same-enough (enough master) (suc (measure master)) master factor (measure-enough master) (omega arith)
 
 -- where the code is: what is still to be done from here leads where all of it leads from the start
 pub record IsOnTheWay (start now : Master) (before sent : List Message) : Type 0 where
@@ -89,7 +89,7 @@ way-on start now before sent done way e =
     ap (λ (d : Option (Master × List Message)). further d (marks_shut now) (λ next. followed (measure now) next))
     e in
     let rest : followed (measure now) done.0 ≡ settled done.0 =
-    same-enough (measure now) (measure done.0) done.0 apart (omega (arith, less.lower)) (omega arith) in
+    same-enough (measure now) (enough done.0) done.0 apart (omega (arith, less.lower)) (measure-enough done.0) in
     let whole : settled now ≡ ((settled done.0).0, done.1 ++ (settled done.0).1) =
     step ∙ ap (λ (after : Master × List Message). (after.0, done.1 ++ after.1)) rest in (
       record {
@@ -178,7 +178,8 @@ pub record IsFirst (start next : Master) (before sent : List Message) : Type 0 w
   pub sends : sent ≡ before ++ (or_still start (follows_rest start)).1
 
 applies : (start next : Master) (before sent : List Message) (one rest : Option (Master × List Message)) →
-    option_or one rest ≡ follows_rest start → true ≡ did one → next ≡ (or_still start one).0 → sent ≡ before ++ (or_still start one).1 →
+    option_or one rest ≡ follows_rest start → true ≡ did one → next ≡ (or_still start one).0 →
+    sent ≡ before ++ (or_still start one).1 →
     IsFirst start next before sent
 applies start next before sent None rest left is state sends = true_false is
 applies start next before sent (Some done) rest left is state sends = record {
@@ -204,7 +205,8 @@ pub record IsStill (start next : Master) (before sent : List Message) (rest : Op
   pub left : rest ≡ follows_rest start
 
 fails : (start next : Master) (before sent : List Message) (one rest : Option (Master × List Message)) →
-    option_or one rest ≡ follows_rest start → false ≡ did one → next ≡ (or_still start one).0 → sent ≡ before ++ (or_still start one).1 →
+    option_or one rest ≡ follows_rest start → false ≡ did one → next ≡ (or_still start one).0 →
+    sent ≡ before ++ (or_still start one).1 →
     IsStill start next before sent rest
 fails start next before sent None rest left isn't state sends = record { same = state; sends = sends ∙ append-nil before; left = left }
 fails start next before sent (Some done) rest left isn't state sends = true_false (sym isn't)

@@ -9,9 +9,8 @@ use Rattle.rc_model.specs.Messages.{to_coordinator}
 use Rattle.rc_model.specs.Log.{Log, is_writing}
 use Rattle.rc_model.specs.Heads.{begin_roll, left_out}
 use Rattle.rc_model.specs.Master.{Master, dead_segments}
-use Rattle.rc_model.specs.FollowUps.{follows_start, follows_placed, follows_shut}
-use Rattle.rc_model.specs.FollowUps.{frees_segments, follows_change, follows_stored, rolls_for_replay, follows_data}
-use Rattle.rc_model.specs.FollowUps.{follows_replay, followed, measure}
+use Rattle.rc_model.specs.FollowUps.{follows_start, follows_placed, follows_shut, frees_segments, follows_change}
+use Rattle.rc_model.specs.FollowUps.{follows_stored, rolls_for_replay, follows_data, follows_replay, followed, enough}
 use Rattle.rc_master.specs.declared.following.Rule.{Rule}
 use Rattle.rc_master.specs.declared.following.Rule.TheVariants as rule
 
@@ -63,4 +62,4 @@ full_replays master = rolls_for_replay master (begin_roll master.known (dead_seg
 
 -- the rules, until none applies
 abbrev pub settled : Master → Master × List Message
-settled master = followed (measure master) master
+settled master = followed (enough master) master

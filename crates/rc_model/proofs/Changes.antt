@@ -67,9 +67,9 @@ all-stay head (seg ∷ digest) =
 abbrev DigestKept : Log → Log × Result Bool Fault → Type 0
 DigestKept old answer = (began : Bool) → answer.1 ≡ Ok began → (head_of answer.0).digest ≡ (head_of old).digest ++ (old.head + 1) ∷ []
 
-kept-rolled : (old : Log) (chosen : Option (List ServerId)) → DigestKept old (opened_on old (next_digest old []) chosen)
-kept-rolled old None began e = cc
-kept-rolled old (Some ids) began e =
+kept-opened_on : (old : Log) (chosen : Option (List ServerId)) → DigestKept old (opened_on old (next_digest old []) chosen)
+kept-opened_on old None began e = cc
+kept-opened_on old (Some ids) began e =
     ap (λ (s : Segment). s.digest) (put-same old.segments (old.head + 1) (new_segment (old.head + 1) (next_digest old []) ids))
     ∙ ap (λ segs. segs ++ (old.head + 1) ∷ []) (all-stay old.head (head_of old).digest)
 
@@ -77,7 +77,7 @@ kept-begun : (old : Log) (servers : ServerList) → DigestKept old (begin_roll s
 kept-begun old servers =
     either (DigestKept old) (nat_lt old.head LAST_SEGMENT)
     (opened_on old (next_digest old []) (choose (old.head + 1) old.own old.factor servers)) (old, Err LogFull)
-    (λ _. kept-rolled old (choose (old.head + 1) old.own old.factor servers)) (λ _ began e. cc)
+    (λ _. kept-opened_on old (choose (old.head + 1) old.own old.factor servers)) (λ _ began e. cc)
 
 -- a master that frees nothing keeps the whole digest
 pub rolls-keep : (master : Master) (log : Log) (began : Bool) → master.free ≡ false →

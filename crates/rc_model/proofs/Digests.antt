@@ -100,10 +100,10 @@ abbrev LeavesDead : Log → List ℕ → ℕ → Log × Result Bool Fault → Ty
 LeavesDead old dead seg answer = (began : Bool) → answer.1 ≡ Ok began → list_any (nat_eq seg) (head_of old).digest ≡ true →
     list_any (nat_eq seg) (head_of answer.0).digest ≡ false → (list_any (nat_eq seg) dead ≡ true) × (nat_eq seg old.head ≡ false)
 
-leaves-rolled : (old : Log) (dead : List ℕ) (seg : ℕ) (chosen : Option (List ServerId)) →
+leaves-opened_on : (old : Log) (dead : List ℕ) (seg : ℕ) (chosen : Option (List ServerId)) →
     LeavesDead old dead seg (opened_on old (next_digest old dead) chosen)
-leaves-rolled old dead seg None began e there gone = cc
-leaves-rolled old dead seg (Some ids) began e there gone =
+leaves-opened_on old dead seg None began e there gone = cc
+leaves-opened_on old dead seg (Some ids) began e there gone =
     let digest : (head_of (opened_on old (next_digest old dead) (Some ids)).0).digest ≡ next_digest old dead =
     ap (λ (s : Segment). s.digest) (put-same old.segments (old.head + 1) (new_segment (old.head + 1) (next_digest old dead) ids)) in
     left-dead old dead seg there (ap (list_any (nat_eq seg)) (sym digest) ∙ gone)
@@ -112,7 +112,7 @@ leaves-begun : (old : Log) (servers : ServerList) (dead : List ℕ) (seg : ℕ) 
 leaves-begun old servers dead seg =
     either (LeavesDead old dead seg) (nat_lt old.head LAST_SEGMENT)
     (opened_on old (next_digest old dead) (choose (old.head + 1) old.own old.factor servers)) (old, Err LogFull)
-    (λ _. leaves-rolled old dead seg (choose (old.head + 1) old.own old.factor servers)) (λ _ began e there gone. cc)
+    (λ _. leaves-opened_on old dead seg (choose (old.head + 1) old.own old.factor servers)) (λ _ began e there gone. cc)
 
 -- a number in the list of the dead segments is that of a dead one
 listed-dead : (master : Master) (seg : ℕ) → list_any (nat_eq seg) (dead_segments master) ≡ true → is_dead_segment master seg ≡ true

@@ -276,12 +276,12 @@ some_or-none : (b : Bool) (breach : Breach) (rest : Option Breach) → b ≡ fal
 some_or-none true breach rest e is = cc
 some_or-none false breach rest e is = is
 
-or_else-parts : (one other : Option Breach) → option_or one other ≡ None → (one ≡ None) × (other ≡ None)
-or_else-parts None other e = (refl, e)
-or_else-parts (Some breach) other e = cc
+option_or-parts : (one other : Option Breach) → option_or one other ≡ None → (one ≡ None) × (other ≡ None)
+option_or-parts None other e = (refl, e)
+option_or-parts (Some breach) other e = cc
 
-or_else-none : (one other : Option Breach) → one ≡ None → other ≡ None → option_or one other ≡ None
-or_else-none one other p q = ap (λ found. option_or found other) p ∙ q
+option_or-none : (one other : Option Breach) → one ≡ None → other ≡ None → option_or one other ≡ None
+option_or-none one other p q = ap (λ found. option_or found other) p ∙ q
 
 first_missing-each : (sent : List Message) (plan : Accepted) (acks : List Ack) → first_missing sent plan acks ≡ None →
     (ack : Ack) → In ack acks → IsThere sent plan ack
@@ -306,11 +306,11 @@ missing_of-each : (sent : List Message) (plans : List Accepted) → missing_of s
     In plan plans → (ack : Ack) → In ack (acknowledged sent plan.master) → IsThere sent plan ack
 missing_of-each sent [] e plan at = absurd at
 missing_of-each sent (first ∷ plans) e plan (inl same) =
-    let parts = or_else-parts (first_missing sent first (acknowledged sent first.master)) (missing_of sent plans) e in
+    let parts = option_or-parts (first_missing sent first (acknowledged sent first.master)) (missing_of sent plans) e in
     let P : Accepted → Type 0 = λ x. (ack : Ack) → In ack (acknowledged sent x.master) → IsThere sent x ack in
     subst P (sym same) (first_missing-each sent first (acknowledged sent first.master) parts.0)
 missing_of-each sent (first ∷ plans) e plan (inr rest) =
-    let parts = or_else-parts (first_missing sent first (acknowledged sent first.master)) (missing_of sent plans) e in
+    let parts = option_or-parts (first_missing sent first (acknowledged sent first.master)) (missing_of sent plans) e in
     missing_of-each sent plans parts.1 plan rest
 
 missing_of-none : (sent : List Message) (plans : List Accepted) →
@@ -318,7 +318,7 @@ missing_of-none : (sent : List Message) (plans : List Accepted) →
     missing_of sent plans ≡ None
 missing_of-none sent [] each = refl
 missing_of-none sent (first ∷ plans) each =
-    or_else-none (first_missing sent first (acknowledged sent first.master)) (missing_of sent plans)
+    option_or-none (first_missing sent first (acknowledged sent first.master)) (missing_of sent plans)
     (first_missing-none sent first (acknowledged sent first.master) (each first (inl refl)))
     (missing_of-none sent plans (λ other at. each other (inr at)))
 
@@ -460,19 +460,19 @@ first_invented-each : (sent : List Message) (plan : Accepted) (segs : List ℕ) 
     (s : ℕ) → In s segs → (o : ℕ) → o < reach plan.rows s → IsOneEntry sent plan.master s o
 first_invented-each sent plan [] e s at o below = absurd at
 first_invented-each sent plan (first ∷ segs) e s (inl same) o below =
-    let parts = or_else-parts (first_invented_from sent plan first 0 (reach plan.rows first)) (first_invented sent plan segs) e in
+    let parts = option_or-parts (first_invented_from sent plan first 0 (reach plan.rows first)) (first_invented sent plan segs) e in
     let from : 0 + o ≡ o = omega arith in
     subst (λ x. IsOneEntry sent plan.master x o) (sym same) (subst (λ x. IsOneEntry sent plan.master first x) from
     (first_invented_from-each sent plan first 0 (reach plan.rows first) parts.0 o (subst (λ x. o < reach plan.rows x) same below)))
 first_invented-each sent plan (first ∷ segs) e s (inr rest) o below =
-    let parts = or_else-parts (first_invented_from sent plan first 0 (reach plan.rows first))
+    let parts = option_or-parts (first_invented_from sent plan first 0 (reach plan.rows first))
     (first_invented sent plan segs) e in first_invented-each sent plan segs parts.1 s rest o below
 
 first_invented-none : (sent : List Message) (plan : Accepted) (segs : List ℕ) →
     ((s o : ℕ) → o < reach plan.rows s → IsOneEntry sent plan.master s o) → first_invented sent plan segs ≡ None
 first_invented-none sent plan [] each = refl
 first_invented-none sent plan (s ∷ segs) each =
-    or_else-none (first_invented_from sent plan s 0 (reach plan.rows s)) (first_invented sent plan segs)
+    option_or-none (first_invented_from sent plan s 0 (reach plan.rows s)) (first_invented sent plan segs)
     (first_invented_from-none sent plan s 0 (reach plan.rows s) (λ k less. each s k (omega arith)))
     (first_invented-none sent plan segs each)
 
@@ -489,11 +489,11 @@ invented_of-each : (sent : List Message) (plans : List Accepted) → invented_of
     In plan plans → (s o : ℕ) → IsHeld plan.rows s o → IsOneEntry sent plan.master s o
 invented_of-each sent [] e plan at = absurd at
 invented_of-each sent (first ∷ plans) e plan (inl same) =
-    let parts = or_else-parts (first_invented sent first (ascending (segments_of first.rows))) (invented_of sent plans) e in
+    let parts = option_or-parts (first_invented sent first (ascending (segments_of first.rows))) (invented_of sent plans) e in
     let P : Accepted → Type 0 = λ x. (s o : ℕ) → IsHeld x.rows s o → IsOneEntry sent x.master s o in
     subst P (sym same) (first_invented-held sent first parts.0)
 invented_of-each sent (first ∷ plans) e plan (inr rest) =
-    let parts = or_else-parts (first_invented sent first (ascending (segments_of first.rows))) (invented_of sent plans)
+    let parts = option_or-parts (first_invented sent first (ascending (segments_of first.rows))) (invented_of sent plans)
     e in invented_of-each sent plans parts.1 plan rest
 
 invented_of-none : (sent : List Message) (plans : List Accepted) →
@@ -501,7 +501,7 @@ invented_of-none : (sent : List Message) (plans : List Accepted) →
     invented_of sent plans ≡ None
 invented_of-none sent [] each = refl
 invented_of-none sent (first ∷ plans) each =
-    or_else-none (first_invented sent first (ascending (segments_of first.rows))) (invented_of sent plans)
+    option_or-none (first_invented sent first (ascending (segments_of first.rows))) (invented_of sent plans)
     (first_invented-none sent first (ascending (segments_of first.rows))
     (λ s o below. each first (inl refl) s o (held-from_reach first.rows s o below)))
     (invented_of-none sent plans (λ other at. each other (inr at)))
@@ -569,11 +569,11 @@ falls_of-each : (sent : List Message) (acks : List Ack) → falls_of sent acks �
     (earlier : Ack) → In earlier (all_acknowledged sent) → RisesOver sent later earlier
 falls_of-each sent [] e later at = absurd at
 falls_of-each sent (first ∷ acks) e later (inl same) =
-    let parts = or_else-parts (first_fall sent first (all_acknowledged sent)) (falls_of sent acks) e in
+    let parts = option_or-parts (first_fall sent first (all_acknowledged sent)) (falls_of sent acks) e in
     let P : Ack → Type 0 = λ x. (earlier : Ack) → In earlier (all_acknowledged sent) → RisesOver sent x earlier in
     subst P (sym same) (first_fall-each sent first (all_acknowledged sent) parts.0)
 falls_of-each sent (first ∷ acks) e later (inr rest) =
-    let parts = or_else-parts (first_fall sent first (all_acknowledged sent)) (falls_of sent acks) e in
+    let parts = option_or-parts (first_fall sent first (all_acknowledged sent)) (falls_of sent acks) e in
     falls_of-each sent acks parts.1 later rest
 
 falls_of-none : (sent : List Message) (acks : List Ack) →
@@ -581,7 +581,7 @@ falls_of-none : (sent : List Message) (acks : List Ack) →
     RisesOver sent later earlier) → falls_of sent acks ≡ None
 falls_of-none sent [] each = refl
 falls_of-none sent (first ∷ acks) each =
-    or_else-none (first_fall sent first (all_acknowledged sent)) (falls_of sent acks)
+    option_or-none (first_fall sent first (all_acknowledged sent)) (falls_of sent acks)
     (first_fall-none sent first (all_acknowledged sent) (each first (inl refl)))
     (falls_of-none sent acks (λ other at. each other (inr at)))
 
@@ -589,9 +589,9 @@ falls_of-none sent (first ∷ acks) each =
 
 headline-of : (sent : List Message) → breach sent ≡ None → Headline sent
 headline-of sent e =
-    let one = or_else-parts (missing_of sent (accepted sent))
+    let one = option_or-parts (missing_of sent (accepted sent))
     (option_or (invented_of sent (accepted sent)) (falls_of sent (all_acknowledged sent))) e in
-    let two = or_else-parts (invented_of sent (accepted sent)) (falls_of sent (all_acknowledged sent)) one.1 in
+    let two = option_or-parts (invented_of sent (accepted sent)) (falls_of sent (all_acknowledged sent)) one.1 in
     record {
       there = λ plan p ack q. missing_of-each sent (accepted sent) one.0 plan (WasAccepted-in sent plan p) ack
           (HasAcknowledged-in sent plan.master ack q);
@@ -602,10 +602,10 @@ headline-of sent e =
 
 breach-none : (sent : List Message) → Headline sent → breach sent ≡ None
 breach-none sent p =
-    or_else-none (missing_of sent (accepted sent)) (option_or (invented_of sent (accepted sent)) (falls_of sent (all_acknowledged sent)))
+    option_or-none (missing_of sent (accepted sent)) (option_or (invented_of sent (accepted sent)) (falls_of sent (all_acknowledged sent)))
     (missing_of-none sent (accepted sent) (λ plan at ack from. p.there plan (WasAccepted-from sent plan at) ack
     (HasAcknowledged-from sent plan.master ack from)))
-    (or_else-none (invented_of sent (accepted sent)) (falls_of sent (all_acknowledged sent))
+    (option_or-none (invented_of sent (accepted sent)) (falls_of sent (all_acknowledged sent))
     (invented_of-none sent (accepted sent) (λ plan at s o h. p.one_entry plan (WasAccepted-from sent plan at) s o h))
     (falls_of-none sent (all_acknowledged sent)
     (λ later at earlier from. p.rises later (WasAcknowledged-from sent later at) earlier

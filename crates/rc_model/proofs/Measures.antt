@@ -1,7 +1,7 @@
 -- Each follow-up lowers the measure, and none applies afterwards.
-use Rattle.std.proofs.Common.{◌≡◌, ◌≢◌, ℕ, zero, suc, ◌+◌, ◌-◌, ◌≤◌, ◌<◌, Bool, true, false, cond, not, ◌&&◌, ◌||◌}
-use Rattle.std.proofs.Common.{nat_eq, nat_lt, List, [], ◌∷◌, ◌++◌, length, map, filter, find, take, Option, Some, None}
-use Rattle.std.proofs.Common.{option_map, Err, refl, sym, ap, ◌∙◌, subst, arith}
+use Rattle.std.proofs.Common.{◌≡◌, ◌≢◌, ℕ, zero, suc, ◌+◌, ◌-◌, ◌≤◌, ◌<◌, Bool, true, false, cond, not, ◌&&◌, ◌||◌, nat_eq, nat_lt, List}
+use Rattle.std.proofs.Common.{[], ◌∷◌, ◌++◌, length, map, filter, find, take, Option, Some, None, option_map, Err, refl, sym, ap, ◌∙◌}
+use Rattle.std.proofs.Common.{subst, arith}
 use Rattle.std.proofs.lemmas.List.{length-append, length-take-le, append-nil}
 use Rattle.std.proofs.lemmas.List.Elements.{filter-append}
 use Rattle.std.proofs.lemmas.Bool.{and_parts, ltb-true, ne_eqb}
@@ -17,12 +17,12 @@ use Rattle.rc_model.specs.Model.{to_coordinator, LAST_SEGMENT, same_id, has_id, 
 use Rattle.rc_model.specs.Model.{Segment, new_segment, with_entry, is_ready, has_unclosed, with_closes_sent, Log, head_of, with_segment}
 use Rattle.rc_model.specs.Model.{old_head_of, has_old_head, places_to, places_in, places_of, numbers_to, durable_now, is_opening}
 use Rattle.rc_model.specs.Model.{is_closing, is_writing, opens_head, next_digest, begin_roll, is_full, appends, shuts, with_shut}
-use Rattle.rc_model.specs.Model.{may_start, may_close, may_write, left_out, starts, closes_old, writes_on, PartState}
-use Rattle.rc_model.specs.Model.{after_replay, is_to_answer, is_complete, answered_in, Master, ids_of, with_log, durable_replayed}
-use Rattle.rc_model.specs.Model.{dead_segments, appends_entry, when, follow_up, follows_start, follows_placed, close_is_due, close_marked}
+use Rattle.rc_model.specs.Model.{may_start, may_close, may_write, left_out, starts, closes_old, writes_on, PartState, after_replay}
+use Rattle.rc_model.specs.Model.{is_to_answer, is_complete, answered_in, Master, ids_of, with_log, durable_replayed, dead_segments}
+use Rattle.rc_model.specs.Model.{appends_entry, when, follow_up, follows_start, follows_placed, close_is_due, close_marked}
 use Rattle.rc_model.specs.Model.{follows_closing, follows_shut, first_open, wants_commit, commits, commits_open, follows_change}
-use Rattle.rc_model.specs.Model.{follows_stored, rolls_for_replay, replays, follows_data, answers_part, follows_replay}
-use Rattle.rc_model.specs.Model.{marks_shut, further, followed, rank, one_if, closes_unsent, commits_unsent, parts_unanswered, measure}
+use Rattle.rc_model.specs.Model.{follows_stored, rolls_for_replay, replays, follows_data, answers_part, follows_replay, marks_shut}
+use Rattle.rc_model.specs.Model.{further, followed, rank, one_if, closes_unsent, commits_unsent, parts_unanswered, measure, enough}
 use Rattle.rc_model.specs.Model.{goes_on}
 use Rattle.rc_model.proofs.Ids.{same_id-refl}
 use Rattle.rc_model.proofs.Tests.{either, true_false}
@@ -327,7 +327,7 @@ lowers-chosen master (Some ids) writes some =
     lowers-opened master (next_digest master.log (dead_segments master)) ids (some ids refl) writes
 
 -- as many members are chosen as a segment has replicas
-choose-length : (seg : ℕ) (own : ServerId) (factor : ℕ) (servers : ServerList) (ids : List ServerId) →
+pub choose-length : (seg : ℕ) (own : ServerId) (factor : ℕ) (servers : ServerList) (ids : List ServerId) →
     choose seg own factor servers ≡ Some ids → length ids ≡ factor
 choose-length seg own factor servers ids e = by (nat_lt (length (candidates seg own servers)) factor) refl e
   where
@@ -538,6 +538,42 @@ with_shut-twice log =
     (λ _. shut_marked-twice log) (λ _. refl))
     (λ isn't. ap (λ b. cond b (shut_marked log) log) isn't)
 
+-- How often is enough
+
+filter-short : {X : Type 0} (test : X → Bool) (xs : List X) → length (filter test xs) ≤ length xs
+filter-short test [] = omega arith
+filter-short {X = X} test (x ∷ xs) = by (test x) (filter-short test xs)
+  where
+    by : (b : Bool) → length (filter test xs) ≤ length xs → length (cond b (x ∷ filter test xs) (filter test xs)) ≤ length (x ∷ xs)
+    by true short = omega (arith, short)
+    by false short = omega (arith, short)
+
+numbers-long : (n : ℕ) → length (numbers_to n) ≡ n
+numbers-long zero = refl
+numbers-long (suc n) =
+    length-append (numbers_to n) (suc n ∷ []) ∙ (let before : length (numbers_to n) ≡ n = numbers-long n in omega (arith, before))
+
+rank-most : (log : Log) (phase : Phase) → rank log phase ≤ 3
+rank-most log Opening = either (λ n. n ≤ 3) (all_placed (head_of log).config) 3 0 (λ _. omega arith) (λ _. omega arith)
+rank-most log Closing = omega arith
+rank-most log Writing = omega arith
+
+one_if-most : (b : Bool) → one_if b ≤ 1
+one_if-most true = omega arith
+one_if-most false = omega arith
+
+pub measure-enough : (master : Master) → measure master ≤ enough master
+measure-enough master =
+    let ranks : rank master.log master.log.phase ≤ 3 = rank-most master.log master.log.phase in
+    let closes : closes_unsent master.log ≤ 1 = one_if-most (has_old_head master.log && has_unclosed (old_head_of master.log)) in
+    let numbers : length (numbers_to master.log.head) ≡ master.log.head = numbers-long master.log.head in
+    let commits : commits_unsent master.log ≤ length (numbers_to master.log.head) =
+    filter-short (λ seg. not (master.log.segments seg).config.committed && not (master.log.segments seg).commit_sent)
+    (numbers_to master.log.head) in
+    let parts : parts_unanswered master.ownership.parts ≤ length master.ownership.parts =
+    filter-short (λ state. not state.answered) master.ownership.parts in
+    omega arith
+
 -- Following up to the end
 
 -- a master whose measure is this at the most is settled by so many rules
@@ -573,15 +609,16 @@ ends-marked (suc times) master = by (follow_up (marks_shut master)) (ends-marked
     by (Some done) rec = rec done.0
 
 -- a master that isn't deposed goes on by the rules
-pub goes_on-up : (master : Master) → master.deposed ≡ false → goes_on master ≡ followed (measure master) master
-goes_on-up master up = ap (λ b. cond b (master, []) (followed (measure master) master)) up
+pub goes_on-up : (master : Master) → master.deposed ≡ false → goes_on master ≡ followed (enough master) master
+goes_on-up master up = ap (λ b. cond b (master, []) (followed (enough master) master)) up
 
 -- and none applies afterwards
 pub goes_on-settles : (master : Master) → master.log.factor ≢ 0 → master.deposed ≡ false → follow_up (goes_on master).0 ≡ None
 goes_on-settles master factor up =
-    ap (λ (after : Master × List Message). follow_up after.0) (goes_on-up master up) ∙ settles (measure master) master factor (omega arith)
+    ap (λ (after : Master × List Message). follow_up after.0) (goes_on-up master up)
+    ∙ settles (enough master) master factor (measure-enough master)
 
 pub goes_on-marked : (master : Master) → master.deposed ≡ false → marks_shut (goes_on master).0 ≡ (goes_on master).0
 goes_on-marked master up =
     subst (λ (after : Master × List Message). marks_shut after.0 ≡ after.0) (sym (goes_on-up master up))
-    (ends-marked (measure master) master)
+    (ends-marked (enough master) master)

@@ -1,15 +1,14 @@
 -- Where the phase changes, what a roll opens, and how members change.
-use Rattle.std.proofs.Common.{◌≡◌, ◌⊎◌, inl, inr, ℕ, ◌+◌, true, false, ◌&&◌, ◌||◌, nat_eq, nat_lt, List, [], ◌∷◌}
-use Rattle.std.proofs.Common.{Option, Some, None, Err, refl, sym, ap, ◌∙◌}
+use Rattle.std.proofs.Common.{◌≡◌, ◌⊎◌, inl, inr, ℕ, ◌+◌, true, false, ◌&&◌, ◌||◌, nat_eq, nat_lt, List, [], ◌∷◌, Option, Some, None, Err}
+use Rattle.std.proofs.Common.{refl, sym, ap, ◌∙◌}
 use Rattle.std.proofs.lemmas.Bool.{and_parts, or_right}
-use Rattle.rc_model.specs.Heads.{next_digest}
-use Rattle.rc_model.specs.Heads.{opened_on}
+use Rattle.rc_model.specs.Heads.{next_digest, opened_on}
 use Rattle.rc_model.specs.Model.{ServerId, Entry, LogFull, Opening, Writing, Message, LAST_SEGMENT, all_placed, choose, is_ready, Log}
-use Rattle.rc_model.specs.Model.{head_of, old_head_of, has_old_head, is_opening, is_closing, is_writing, begin_roll, is_full}
-use Rattle.rc_model.specs.Model.{may_start, may_close, may_write, left_out, with_freed, writes_on, after_replay, to_answer, Master}
-use Rattle.rc_model.specs.Model.{durable_replayed, dead_segments, appends_entry, follow_up, follows_start, follows_placed, close_is_due}
-use Rattle.rc_model.specs.Model.{follows_closing, follows_shut, first_open, wants_commit, commits, commits_open, rolls_for_replay}
-use Rattle.rc_model.specs.Model.{replays, follows_data, answers_part}
+use Rattle.rc_model.specs.Model.{head_of, old_head_of, has_old_head, is_opening, is_closing, is_writing, begin_roll, is_full, may_start}
+use Rattle.rc_model.specs.Model.{may_close, may_write, left_out, with_freed, writes_on, after_replay, to_answer, Master, durable_replayed}
+use Rattle.rc_model.specs.Model.{dead_segments, appends_entry, follow_up, follows_start, follows_placed, close_is_due, follows_closing}
+use Rattle.rc_model.specs.Model.{follows_shut, first_open, wants_commit, commits, commits_open, rolls_for_replay, replays, follows_data}
+use Rattle.rc_model.specs.Model.{answers_part}
 use Rattle.rc_model.proofs.Tests.{either, true_false}
 use Rattle.rc_model.proofs.LogParts.{with_freed-marked}
 use Rattle.rc_model.proofs.Rules.{AllDone, done-or, done-when}

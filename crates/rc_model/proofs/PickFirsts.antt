@@ -1,12 +1,11 @@
 -- `first_by` gives the first by the order and then by its place, where the order is strict.
-use Rattle.std.proofs.Common.{◌≡◌, ◌⊎◌, ⊎_elim, Bool, true, false, cond, List, [], ◌∷◌, ◌++◌, filter, Some, None, refl, sym, ap, ◌∙◌, subst}
+use Rattle.std.proofs.Common.{◌≡◌, ◌⊎◌, ⊎_elim, Bool, true, false, cond, List, [], ◌∷◌, ◌++◌, filter, Some, None, refl, sym, ap, ◌∙◌}
+use Rattle.std.proofs.Common.{subst}
 use Rattle.std.specs.Bool.{Decides}
-use Rattle.std.specs.List.{All}
+use Rattle.std.specs.List.{All, fold}
 use Rattle.std.proofs.lemmas.Bool.{false≢true}
 use Rattle.std.proofs.lemmas.List.Elements.{All-nil, All-cons, All-head, All-tail}
-use Rattle.std.specs.List.{fold}
-use Rattle.rc_model.specs.Pick.{better}
-use Rattle.rc_model.specs.Pick.{HeldRow, first_by}
+use Rattle.rc_model.specs.Pick.{better, HeldRow, first_by}
 use Rattle.rc_model.specs.PickOrders.{IsFirst}
 
 -- what holds of each element holds of this one
@@ -95,15 +94,15 @@ module _ (before : HeldRow → HeldRow → Bool) (ComesBefore : HeldRow → Held
                 (All-cons (λ row. ComesBefore first row) x es over (All-tail (λ row. ComesBefore first row) e es all));
           }
 
-  first_by_from_first : (best : HeldRow) (rows : List HeldRow) → IsFirst ComesBefore (best ∷ rows) (fold (better before) best rows)
-  first_by_from_first best [] = record {
+  fold_better_first : (best : HeldRow) (rows : List HeldRow) → IsFirst ComesBefore (best ∷ rows) (fold (better before) best rows)
+  fold_better_first best [] = record {
     earlier = [];
     later = [];
     place = refl;
     least = All-cons (λ row. ¬ ComesBefore row best) best [] (λ q. apart best best q q) (All-nil (λ row. ¬ ComesBefore row best));
     before_earlier = All-nil (λ row. ComesBefore best row);
   }
-  first_by_from_first best (x ∷ xs) = at (before x best) refl (λ b. first_by_from_first b xs)
+  fold_better_first best (x ∷ xs) = at (before x best) refl (λ b. fold_better_first b xs)
     where
       at : (b : Bool) → before x best ≡ b →
           ((from : HeldRow) → IsFirst ComesBefore (from ∷ xs) (fold (better before) from xs)) →
@@ -134,13 +133,13 @@ module _ (before : HeldRow → HeldRow → Bool) (ComesBefore : HeldRow → Held
   pub first_by_first : (rows : List HeldRow) (first : HeldRow) → first_by before rows ≡ Some first → IsFirst ComesBefore rows first
   first_by_first [] first is = absurd cc
   first_by_first (row ∷ rows) first is = let same : fold (better before) row rows ≡ first =
-      cc in subst (IsFirst ComesBefore (row ∷ rows)) same (first_by_from_first row rows)
+      cc in subst (IsFirst ComesBefore (row ∷ rows)) same (fold_better_first row rows)
 
-  pub first_by_from_IsFirst : (rows : List HeldRow) (first : HeldRow) → IsFirst ComesBefore rows first → first_by before rows ≡ Some first
-  first_by_from_IsFirst [] first is = at is.earlier is.place
+  pub fold_better_IsFirst : (rows : List HeldRow) (first : HeldRow) → IsFirst ComesBefore rows first → first_by before rows ≡ Some first
+  fold_better_IsFirst [] first is = at is.earlier is.place
     where
       at : (earlier : List HeldRow) → [] ≡ earlier ++ first ∷ is.later → None ≡ Some first
       at [] place = cc
       at (e ∷ es) place = cc
-  first_by_from_IsFirst (row ∷ rows) first is =
-      ap Some (one_first (row ∷ rows) (fold (better before) row rows) first (first_by_from_first row rows) is)
+  fold_better_IsFirst (row ∷ rows) first is =
+      ap Some (one_first (row ∷ rows) (fold (better before) row rows) first (fold_better_first row rows) is)

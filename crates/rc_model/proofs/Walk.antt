@@ -15,7 +15,7 @@ use Rattle.rc_model.specs.Model.{is_too_long, written, rolls_for_write, writes_u
 use Rattle.rc_model.specs.Model.{places_segment, replaces_lost, replaces_lost_of, opens_first, tries_first, obeys_list, takes_list}
 use Rattle.rc_model.specs.Model.{close_is_due, close_marked, frees_segments, first_open, wants_commit, commits, commits_open, write_oks}
 use Rattle.rc_model.specs.Model.{new_durable, rolls_for_replay, replays, attempt_of, answers_part, follow_up, marks_shut, further}
-use Rattle.rc_model.specs.Model.{followed, measure, goes_on, fetch_of, reminds, ticks, begins_task, task_of, takes_plan, says_deposed}
+use Rattle.rc_model.specs.Model.{followed, enough, goes_on, fetch_of, reminds, ticks, begins_task, task_of, takes_plan, says_deposed}
 use Rattle.rc_model.specs.Model.{master_takes_first, deposed_takes, master_takes, master_ticks, In}
 use Rattle.rc_types.specs.declared.ids.Addr.TheVariants.{Coordinator}
 use Rattle.rc_types.specs.declared.messages.Body.TheVariants.{Plan, List as ServersOf}
@@ -212,8 +212,8 @@ module _ (R : Master → Master × List Message → Type 0) (joined : Joined R) 
       (kept-follow_up R f (marks_shut master)) (kept-followed f times))
 
   pub kept-goes_on : Followed R → (master : Master) → R master (goes_on master)
-  kept-goes_on f master = either (R master) master.deposed (master, []) (followed (measure master) master)
-      (λ _. joined.still master) (λ _. kept-followed f (measure master) master)
+  kept-goes_on f master = either (R master) master.deposed (master, []) (followed (enough master) master)
+      (λ _. joined.still master) (λ _. kept-followed f (enough master) master)
 
   -- The list rules
 
@@ -236,7 +236,8 @@ module _ (R : Master → Master × List Message → Type 0) (joined : Joined R) 
       kept-then master (replaces_lost master seg) (replaces_lost_of segs) (kept-lost l master seg) (kept-lost_of l segs)
 
   kept-first : Listed R → (master : Master) (chosen : Option (List ServerId)) → master.log.head ≡ 0 →
-      choose 1 master.log.own master.log.factor master.known ≡ chosen → R master (opens_first master (opened_on master.log (1 ∷ []) chosen))
+      choose 1 master.log.own master.log.factor master.known ≡ chosen →
+      R master (opens_first master (opened_on master.log (1 ∷ []) chosen))
   kept-first l master None none e = joined.still master
   kept-first l master (Some ids) none e = l.opens master ids none e
 

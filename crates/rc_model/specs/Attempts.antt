@@ -1,8 +1,7 @@
 -- Attempts to recover a crashed master: the answers that are gathered for one, and what is decided on them.
-use Rattle.std.specs.Prelude.{ℕ, ◌+◌, ◌%◌, Bool, if◌then◌else◌, List, [], ◌∷◌, length, Option}
-use Rattle.std.specs.Prelude.{None, slice_get}
-use Rattle.std.specs.List.{list_any, flat_map, cons_option}
+use Rattle.std.specs.Prelude.{ℕ, ◌+◌, ◌%◌, Bool, if◌then◌else◌, List, [], ◌∷◌, length, Option, None, slice_get}
 use Rattle.std.specs.Prelude.{is_none, option_map}
+use Rattle.std.specs.List.{list_any, flat_map, cons_option}
 use Rattle.rc_types.specs.declared.ids.ServerId.{ServerId}
 use Rattle.rc_types.specs.declared.rows.Row.{Row}
 use Rattle.rc_types.specs.declared.rows.Plan.{Plan}
@@ -42,13 +41,8 @@ is_gathering attempt = is_none attempt.decided
 
 -- the part of a tablet, under a fresh term
 abbrev pub part_of : Tablet → ℕ → Part
-part_of tablet term = record {
-  table = tablet.table;
-  lo = tablet.lo;
-  hi = tablet.hi;
-  previous = tablet.term;
-  term = term;
-}
+part_of tablet term =
+    record { table = tablet.table; lo = tablet.lo; hi = tablet.hi; previous = tablet.term; term = term }
 
 -- a part for this id, before others
 abbrev pub given_to : Option ServerId → Part → List GivenPart → List GivenPart

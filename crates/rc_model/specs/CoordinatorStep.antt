@@ -2,6 +2,7 @@
 use Rattle.std.specs.Prelude.{ℕ, ◌+◌, Bool, not, nat_eq, nat_le, ◌&&◌, if◌then◌else◌, List, [], ◌∷◌, ◌++◌, length}
 use Rattle.std.specs.Prelude.{filter, Option, Some, None}
 use Rattle.std.specs.List.{list_any}
+use Rattle.rc_types.specs.declared.rows.KeyRange.{KeyRange}
 use Rattle.rc_types.specs.declared.ids.ServerId.{ServerId}
 use Rattle.rc_types.specs.declared.ids.Addr.{Addr}
 use Rattle.rc_types.specs.declared.ids.Addr.TheVariants.{Server}
@@ -28,13 +29,8 @@ use Rattle.rc_model.specs.Deciding.{is_current, keeps_answer, own_body, takes_re
 -- the grant of a new table
 abbrev pub first_grant : ℕ → ServerId → ℕ → Grant
 first_grant table owner term =
-    record {
-      range = record { table = table; lo = 0; hi = LAST_KEY };
-      term = term;
-      previous = 0;
-      attempt = 0;
-      owner = owner;
-    }
+    let range : KeyRange = record { table = table; lo = 0; hi = LAST_KEY } in
+    record { range = range; term = term; previous = 0; attempt = 0; owner = owner }
 
 -- the table goes to its owner under a fresh term
 abbrev pub creates_table : Coordinator → ℕ → ServerId → Coordinator × List Message

@@ -7,8 +7,6 @@ use Rattle.std.specs.Option.{option_or}
 use Rattle.rc_types.specs.declared.ids.ServerId.{ServerId}
 use Rattle.rc_types.specs.declared.entries.Entry.{Entry}
 use Rattle.rc_types.specs.declared.faults.Fault.{Fault}
-use Rattle.rc_types.specs.declared.kept.Phase.{Phase}
-use Rattle.rc_types.specs.declared.kept.Phase.TheVariants.{Opening, Closing, Writing}
 use Rattle.rc_types.specs.declared.messages.Message.{Message}
 use Rattle.rc_types.specs.declared.messages.Body.TheVariants.{WriteOk, Close, Commit, Free, Ready, Recovered}
 use Rattle.rc_model.specs.Messages.{to_coordinator, to_outside}
@@ -18,7 +16,7 @@ use Rattle.rc_model.specs.Log.{Log, LogPlace, places_of, head_of, old_head_of, h
 use Rattle.rc_model.specs.Log.{numbers_to, is_closing, is_writing, durable_now}
 use Rattle.rc_model.specs.Heads.{is_full, begin_roll, with_shut, may_start, may_close, may_write, left_out, starts}
 use Rattle.rc_model.specs.Heads.{closes_old, writes_on}
-use Rattle.rc_model.specs.Ownership.{after_replay, to_answer, after_answer, PartState}
+use Rattle.rc_model.specs.Ownership.{after_replay, to_answer, after_answer}
 use Rattle.rc_model.specs.Master.{Master, Task, with_log, durable_replayed, to_ids, ids_of, to_unlost, places_head}
 use Rattle.rc_model.specs.Master.{appends_entry, dead_segments}
 
@@ -165,36 +163,13 @@ abbrev pub followed : ℕ → Master → Master × List Message
 followed zero master = (marks_shut master, [])
 followed (suc times) master = further (follow_up (marks_shut master)) (marks_shut master) (λ next. followed times next)
 
--- How often a rule can still apply
-
--- a head that is placed on all can go through all phases, one that isn't through none
-abbrev pub rank : Log → Phase → ℕ
-rank log Opening = if all_placed (head_of log).config then 3 else 0
-rank log Closing = 2
-rank log Writing = 1
-
-abbrev pub one_if : Bool → ℕ
-one_if true = 1
-one_if false = 0
-
-abbrev pub closes_unsent : Log → ℕ
-closes_unsent log = one_if (has_old_head log && has_unclosed (old_head_of log))
-
-abbrev pub commits_unsent : Log → ℕ
-commits_unsent log =
-    length (filter (λ seg. not (log.segments seg).config.committed && not (log.segments seg).commit_sent)
-    (numbers_to log.head))
-
-abbrev pub parts_unanswered : List PartState → ℕ
-parts_unanswered states = length (filter (λ state. not state.answered) states)
-
--- each rule lowers this
-abbrev pub measure : Master → ℕ
-measure master =
-    2 * rank master.log master.log.phase + 2 * length master.ownership.replay +
-    (length (places_of master.log) - master.log.durable)
-    + closes_unsent master.log + commits_unsent master.log + parts_unanswered master.ownership.parts
+-- the rules are made at most so often: for an entry that waits a head is rolled or it is appended, a place becomes
+-- durable, a Commit is sent for a segment, a part is answered, and the heads go through their phases
+abbrev pub enough : Master → ℕ
+enough master =
+    7 + 2 * length master.ownership.replay + length (places_of master.log) + master.log.head
+    + length master.ownership.parts
 
 -- the rules, until none applies; a deposed master follows none
 abbrev pub goes_on : Master → Master × List Message
-goes_on master = if master.deposed then (master, []) else followed (measure master) master
+goes_on master = if master.deposed then (master, []) else followed (enough master) master

@@ -31,6 +31,7 @@ abbrev pub opened_on : Log → List ℕ → Option (List ServerId) → Log × Re
 opened_on log digest None = (log, Err NoBackups)
 opened_on log digest (Some ids) = (opens_head log digest ids, Ok true)
 
+-- the first head: segment 1, alone in its digest
 abbrev pub open_first : ServerList → Log → Log × Result Bool Fault
 open_first servers log = opened_on log (1 ∷ []) (choose 1 log.own log.factor servers)
 

@@ -16,6 +16,7 @@ pub mod Master
 pub mod Writing
 pub mod ListRules
 pub mod FollowUps
+pub mod Measure
 pub mod MasterTick
 pub mod MasterStep
 pub mod Pick

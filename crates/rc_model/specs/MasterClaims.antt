@@ -2,7 +2,8 @@
 use Rattle.std.specs.Prelude.{◌≡◌, ◌≢◌, ◌<◌, false, List, Some, None}
 use Rattle.rc_types.specs.declared.messages.Message.{Message}
 use Rattle.rc_model.specs.Master.{Master}
-use Rattle.rc_model.specs.FollowUps.{follow_up, marks_shut, measure, goes_on}
+use Rattle.rc_model.specs.FollowUps.{follow_up, marks_shut, goes_on}
+use Rattle.rc_model.specs.Measure.{measure}
 
 -- Following up
 

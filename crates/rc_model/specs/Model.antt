@@ -46,13 +46,12 @@ pub use Rattle.rc_types.specs.declared.verdicts.Breach.{Breach}
 pub use Rattle.rc_types.specs.declared.verdicts.Breach.TheVariants.{Invented, Missing, Version}
 pub use Rattle.rc_model.specs.Ascending.{ascending, insert_once}
 pub use Rattle.rc_model.specs.Attempts.{Attempt, Decision, GivenPart, given_to, gives_parts, has_answered}
-pub use Rattle.rc_model.specs.Attempts.{is_gathering, new_attempt, part_of, parts_of, plan_message}
-pub use Rattle.rc_model.specs.Attempts.{plan_messages}
-pub use Rattle.rc_model.specs.Backup.{Backup, Held, answers_fetch, backup_takes, data_of, fences, frees}
-pub use Rattle.rc_model.specs.Backup.{is_freed, is_in_part, is_kept, is_refused, keeps, new_backup}
-pub use Rattle.rc_model.specs.Backup.{nothing_held, open_names, open_names_among, open_names_of, put_replica}
-pub use Rattle.rc_model.specs.Backup.{replica_after, replica_of, restart, restarted, row_of_replica, rows_of_replicas}
-pub use Rattle.rc_model.specs.Backup.{stays, stored_of, stores, with_held, without_replica}
+pub use Rattle.rc_model.specs.Attempts.{is_gathering, new_attempt, part_of, parts_of, plan_message, plan_messages}
+pub use Rattle.rc_model.specs.Backup.{Backup, Held, answers_fetch, backup_takes, data_of, fences, frees, is_freed}
+pub use Rattle.rc_model.specs.Backup.{is_in_part, is_kept, is_refused, keeps, new_backup, nothing_held, open_names}
+pub use Rattle.rc_model.specs.Backup.{open_names_among, open_names_of, put_replica, replica_after, replica_of}
+pub use Rattle.rc_model.specs.Backup.{restart, restarted, row_of_replica, rows_of_replicas, stays, stored_of, stores}
+pub use Rattle.rc_model.specs.Backup.{with_held, without_replica}
 pub use Rattle.rc_model.specs.BackupClaims.{ClosedStaysTheSame, ClosesAtTheStatedLength, FencedReplicasStay}
 pub use Rattle.rc_model.specs.BackupClaims.{FencedStoresNothing, FreedIsMarked, FreedStoresNothing, GatherFences}
 pub use Rattle.rc_model.specs.BackupClaims.{ReplicasOnlyGrow, RestartFencesNobody, RestartKeeps, RestartKeepsNoOther}
@@ -62,12 +61,11 @@ pub use Rattle.rc_model.specs.Breach.{agrees, all_agree, all_same, breach, falls
 pub use Rattle.rc_model.specs.Breach.{first_invented, first_invented_from, first_missing, has_greater, holds_greater}
 pub use Rattle.rc_model.specs.Breach.{invented_of, is_greater, is_missing, is_of_ack, is_one_entry, is_superseded}
 pub use Rattle.rc_model.specs.Breach.{missing_of, same_entry, same_numbers, same_value, segments_of}
-pub use Rattle.rc_model.specs.Config.{Config, all_closed, all_placed, any_lost, candidates, changed}
-pub use Rattle.rc_model.specs.Config.{changes_to, choose, committed_at, durable_len, first_free, of_other_hosts}
-pub use Rattle.rc_model.specs.Config.{is_closed, is_heard, is_placed, least_told, lose, lost_if_crashed, new_config}
-pub use Rattle.rc_model.specs.Config.{new_member, noted, notes, refill, refills_with, replaced}
-pub use Rattle.rc_model.specs.Config.{staying, substitutes, substitutes_for, told_closed, told_if_heard, told_len}
-pub use Rattle.rc_model.specs.Config.{told_with, with_lost}
+pub use Rattle.rc_model.specs.Config.{Config, all_closed, all_placed, any_lost, candidates, changed, changes_to}
+pub use Rattle.rc_model.specs.Config.{choose, committed_at, durable_len, first_free, is_closed, is_heard, is_placed}
+pub use Rattle.rc_model.specs.Config.{least_told, lose, lost_if_crashed, new_config, new_member, noted, notes}
+pub use Rattle.rc_model.specs.Config.{of_other_hosts, refill, refills_with, replaced, staying, substitutes}
+pub use Rattle.rc_model.specs.Config.{substitutes_for, told_closed, told_if_heard, told_len, told_with, with_lost}
 pub use Rattle.rc_model.specs.Coordinator.{attempt_at, begins_attempt, begins_if_needed, commits_pair, enlists}
 pub use Rattle.rc_model.specs.Coordinator.{follows_generation, has_tablets, list_body, new_coordinator, notes_ready}
 pub use Rattle.rc_model.specs.Coordinator.{refuses_server, spreads_list, spreads_then_begins, suspects, up_of_host}
@@ -82,13 +80,11 @@ pub use Rattle.rc_model.specs.Deciding.{grant_to, grants_if_given, grants_or_rep
 pub use Rattle.rc_model.specs.Deciding.{is_grant_to, keeps_answer, keeps_answer_in, own_body, part_if_current}
 pub use Rattle.rc_model.specs.Deciding.{part_in, part_of_sender, range_of, ready_ids, takes_recovered, with_answer}
 pub use Rattle.rc_model.specs.Durable.{EarlierWereStored, IsDurable, WasStored, all_shut_to, is_stored_on_all}
-pub use Rattle.rc_model.specs.FollowUps.{answers_part, attempt_of, close_is_due, close_marked, closes_unsent, commits}
-pub use Rattle.rc_model.specs.FollowUps.{commits_open, commits_unsent, first_open, follow_up, followed}
-pub use Rattle.rc_model.specs.FollowUps.{follows_change, follows_closing, follows_data, follows_placed}
-pub use Rattle.rc_model.specs.FollowUps.{follows_replay, follows_shut, follows_start, follows_stored, frees_segments}
-pub use Rattle.rc_model.specs.FollowUps.{further, goes_on, marks_shut, measure, new_durable, one_if}
-pub use Rattle.rc_model.specs.FollowUps.{parts_unanswered, rank, replays, rolls_for_replay, wants_commit, when}
-pub use Rattle.rc_model.specs.FollowUps.{write_oks}
+pub use Rattle.rc_model.specs.FollowUps.{answers_part, attempt_of, close_is_due, close_marked, commits, commits_open}
+pub use Rattle.rc_model.specs.FollowUps.{enough, first_open, follow_up, followed, follows_change, follows_closing}
+pub use Rattle.rc_model.specs.FollowUps.{follows_data, follows_placed, follows_replay, follows_shut, follows_start}
+pub use Rattle.rc_model.specs.FollowUps.{follows_stored, frees_segments, further, goes_on, marks_shut, new_durable}
+pub use Rattle.rc_model.specs.FollowUps.{replays, rolls_for_replay, wants_commit, when, write_oks}
 pub use Rattle.rc_model.specs.HeadClaims.{ChangesTakeAFreshEpoch, ClosesOnlyWherePlaced, DeadIsOutdated}
 pub use Rattle.rc_model.specs.HeadClaims.{NothingIsToldUnderIt, OtherEpochsAreNotNoted, RollsKeepTheDigest}
 pub use Rattle.rc_model.specs.HeadClaims.{RollsLeaveOutOnlyDead, StepsCloseOnlyWherePlaced, TicksCloseOnlyWherePlaced}
@@ -100,8 +96,8 @@ pub use Rattle.rc_model.specs.Headline.{NothingIsMissing, OnlyIt, RisesOver, The
 pub use Rattle.rc_model.specs.Headline.{WasAccepted, WasAcknowledged}
 pub use Rattle.rc_model.specs.Heads.{append_fault, appends, begin_roll, closes_old, commit_noted, is_full, left_out}
 pub use Rattle.rc_model.specs.Heads.{loses, may_close, may_start, may_write, next_digest, notes_stored, open_first}
-pub use Rattle.rc_model.specs.Heads.{opened_on, opens_change, opens_head, refills, shuts, starts, stored}
-pub use Rattle.rc_model.specs.Heads.{with_config, with_freed, with_shut, writes_on}
+pub use Rattle.rc_model.specs.Heads.{opened_on, opens_change, opens_head, refills, shuts, starts, stored, with_config}
+pub use Rattle.rc_model.specs.Heads.{with_freed, with_shut, writes_on}
 pub use Rattle.rc_model.specs.Ids.{has_id, id_before, ids_in_order, insert_id, insert_id_once, is_server, same_id}
 pub use Rattle.rc_model.specs.ListRules.{obeys_list, opens_first, places_segment, replaces_lost, replaces_lost_of}
 pub use Rattle.rc_model.specs.ListRules.{takes_list, then_does, tries_first}
@@ -119,29 +115,30 @@ pub use Rattle.rc_model.specs.MasterTick.{awaits_commit, awaits_grant, commits_a
 pub use Rattle.rc_model.specs.MasterTick.{has_not_come, is_closing_old, lacking, ready_again, recovered_again}
 pub use Rattle.rc_model.specs.MasterTick.{reminds, reminds_member, reminds_members, reminds_open, reminds_shut}
 pub use Rattle.rc_model.specs.MasterTick.{reminds_shut_members, standing, stood, ticks, to_remind}
+pub use Rattle.rc_model.specs.Measure.{closes_unsent, commits_unsent, measure, one_if, parts_unanswered, rank}
 pub use Rattle.rc_model.specs.Messages.{between, coordinator_refuses, coordinator_tells, from_coordinator, refuses}
 pub use Rattle.rc_model.specs.Messages.{to_coordinator, to_each, to_outside}
 pub use Rattle.rc_model.specs.Nodes.{Create, HostNode, Split, Take, Work, coordinator_can, coordinator_step}
 pub use Rattle.rc_model.specs.Nodes.{factor_of, host_can, host_step, is_for_backup, is_for_clients, is_running_at}
-pub use Rattle.rc_model.specs.Nodes.{master_setup, new_host, next_server, outside_can}
-pub use Rattle.rc_model.specs.Nodes.{outside_sends, runs, server_of, server_takes, starts_host, takes_if_running}
-pub use Rattle.rc_model.specs.Nodes.{ticks_if_running, with_backup, with_master}
+pub use Rattle.rc_model.specs.Nodes.{master_setup, new_host, next_server, outside_can, outside_sends, runs, server_of}
+pub use Rattle.rc_model.specs.Nodes.{server_takes, starts_host, takes_if_running, ticks_if_running, with_backup}
+pub use Rattle.rc_model.specs.Nodes.{with_master}
 pub use Rattle.rc_model.specs.Owners.{Granted, IsBefore, IsEarlier, IsGranted, covers, grant_in, granted, grants_of}
 pub use Rattle.rc_model.specs.Owners.{is_before, is_earlier, onward, previous}
 pub use Rattle.rc_model.specs.Ownership.{Ownership, PartRow, PartState, after_answer, after_replay, all_came}
-pub use Rattle.rc_model.specs.Ownership.{answered_in, awaited_row, awaits, awaits_data, begin_part}
-pub use Rattle.rc_model.specs.Ownership.{count_under, data_in, entries_that_came, grant, has_part, in_range}
-pub use Rattle.rc_model.specs.Ownership.{insert_row, is_awaited, is_complete, is_to_answer, joined, joining}
-pub use Rattle.rc_model.specs.Ownership.{knows_term, new_part, owns_nothing, owns_term, part_with_row, put_data}
-pub use Rattle.rc_model.specs.Ownership.{replay_in, rows_in_order, term_of, to_answer, under_term, with_row}
-pub use Rattle.rc_model.specs.Pick.{better, AreTaken, HeldRow, IsPickable, closed_first, first_by}
-pub use Rattle.rc_model.specs.Pick.{greater_pair}
-pub use Rattle.rc_model.specs.Pick.{head_first, head_row, held_rows, is_below, is_open_valid, is_valid, is_valid_of}
-pub use Rattle.rc_model.specs.Pick.{longer_first, pick, pick_by, plan_of, plan_row, row_of, row_then}
+pub use Rattle.rc_model.specs.Ownership.{answered_in, awaited_row, awaits, awaits_data, begin_part, count_under}
+pub use Rattle.rc_model.specs.Ownership.{data_in, entries_that_came, grant, has_part, in_range, insert_row}
+pub use Rattle.rc_model.specs.Ownership.{is_awaited, is_complete, is_to_answer, joined, joining, knows_term, new_part}
+pub use Rattle.rc_model.specs.Ownership.{owns_nothing, owns_term, part_with_row, put_data, replay_in, rows_in_order}
+pub use Rattle.rc_model.specs.Ownership.{term_of, to_answer, under_term, with_row}
+pub use Rattle.rc_model.specs.Pick.{AreTaken, HeldRow, IsPickable, better, closed_first, first_by, greater_first}
+pub use Rattle.rc_model.specs.Pick.{greater_pair, head_first, head_row, held_rows, is_below, is_open_valid, is_valid}
+pub use Rattle.rc_model.specs.Pick.{is_valid_of, longer_first, pick, pick_by, plan_of, plan_row, row_of, row_then}
 pub use Rattle.rc_model.specs.Pick.{rows_of, taken_row, taken_rows, then_by}
-pub use Rattle.rc_model.specs.PickClaims.{AscendingIncreases, AscendingListsTheSame, ClosedRowsAreValid, FirstByIsFirst}
-pub use Rattle.rc_model.specs.PickClaims.{FirstByOfNone, HeadIsMissing, HeadRowIsFirst, OnePlanIsPickable}
-pub use Rattle.rc_model.specs.PickClaims.{PickableIsPicked, RowOfIsFirst, RowsAreOfSegments, SegmentIsMissing, Tells}
+pub use Rattle.rc_model.specs.PickClaims.{AscendingIncreases, AscendingListsTheSame, ClosedRowsAreValid}
+pub use Rattle.rc_model.specs.PickClaims.{FirstByIsFirst, FirstByOfNone, HeadIsMissing, HeadRowIsFirst}
+pub use Rattle.rc_model.specs.PickClaims.{OnePlanIsPickable, PickableIsPicked, RowOfIsFirst, RowsAreOfSegments}
+pub use Rattle.rc_model.specs.PickClaims.{SegmentIsMissing, Tells}
 pub use Rattle.rc_model.specs.PickMissing.{HasNoHead, IsLeastMissing}
 pub use Rattle.rc_model.specs.PickOrders.{IsBetter, IsFirst, IsHigher, IsLonger, IsLower}
 pub use Rattle.rc_model.specs.Recovered.{Accepted, Ack, accepted, ack_in, acknowledged, all_acknowledged}
@@ -159,8 +156,8 @@ pub use Rattle.rc_model.specs.Tables.{put, put_id}
 pub use Rattle.rc_model.specs.Tablets.{assigned, count_to_mark, has_range, has_table, holds, insert_tablet, is_range}
 pub use Rattle.rc_model.specs.Tablets.{mark_if_owned, marked_crashed, split_at, tablet_of, tablets_of, whole_table}
 pub use Rattle.rc_model.specs.Tablets.{with_table}
-pub use Rattle.rc_model.specs.Versions.{Found, found_in, greatest_version, is_above, is_dead, is_of}
-pub use Rattle.rc_model.specs.Versions.{is_outdated, next_version, or_greater, read_of}
+pub use Rattle.rc_model.specs.Versions.{Found, found_in, greatest_version, is_above, is_dead, is_of, is_outdated}
+pub use Rattle.rc_model.specs.Versions.{next_version, or_greater, read_of}
 pub use Rattle.rc_model.specs.Works.{coordinator_after, host_after, work_if_for, work_in, works_of}
 pub use Rattle.rc_model.specs.World.{Job, NodeName, TheCoordinator, TheHost, TheOutside, World, coordinator_done}
 pub use Rattle.rc_model.specs.World.{delivery, host_done, is_possible, is_possible_job, job_done, master_of, node_can}

@@ -1,9 +1,7 @@
 -- The nodes: the outside, the coordinator, and each host with its backup and, where it runs, its master. What a node
 -- can be given and what it then does depend on its own state and on that work alone.
 use Rattle.std.specs.Prelude.{ℕ, ◌+◌, Bool, true, false, nat_lt, ◌&&◌, if◌then◌else◌, List, [], ◌∷◌, Option, Some}
-use Rattle.std.specs.Prelude.{None, slice_get}
-use Rattle.std.specs.Prelude.{is_some}
-use Rattle.std.specs.Prelude.{unwrap_or}
+use Rattle.std.specs.Prelude.{None, slice_get, is_some, unwrap_or}
 use Rattle.rc_types.specs.declared.ids.ServerId.{ServerId}
 use Rattle.rc_types.specs.declared.ids.Addr.{Addr}
 use Rattle.rc_types.specs.declared.ids.Addr.TheVariants.{Server, Outside}
@@ -53,10 +51,13 @@ outside_sends _ = []
 -- The coordinator
 
 abbrev pub coordinator_can : Work → Bool
-coordinator_can (Ask to body) = false
-coordinator_can (Stop id) = false
-coordinator_can (Start kept) = false
-coordinator_can _ = true
+coordinator_can (Take message) = true
+coordinator_can (Tick addr) = true
+coordinator_can (Suspect id) = true
+coordinator_can (Decide id) = true
+coordinator_can (Create table owner) = true
+coordinator_can (Split table at) = true
+coordinator_can _ = false
 
 abbrev pub coordinator_step : Coordinator → Work → Coordinator × List Message
 coordinator_step c (Take message) = coordinator_takes c message.from message.body

@@ -1,6 +1,5 @@
 -- Who was granted what, and which of two ownerships of a point is the earlier one, by the messages sent alone.
-use Rattle.std.specs.Prelude.{◌≡◌, ℕ, nat_eq, nat_le, ◌&&◌, ◌||◌, Bool, false, List, [], ◌∷◌, filter, Some}
-use Rattle.std.specs.Prelude.{slice_get}
+use Rattle.std.specs.Prelude.{◌≡◌, ℕ, nat_eq, nat_le, ◌&&◌, ◌||◌, Bool, false, List, [], ◌∷◌, filter, Some, slice_get}
 use Rattle.std.specs.List.{flat_map}
 use Rattle.rc_types.specs.declared.ids.Addr.{Addr}
 use Rattle.rc_types.specs.declared.messages.Message.{Message}

@@ -1,9 +1,8 @@
 -- What a master owns, and the parts of crashed masters' logs that it replays.
 use Rattle.std.specs.Prelude.{ℕ, Bool, true, false, not, nat_eq, nat_lt, nat_le, ◌&&◌, ◌||◌, if◌then◌else◌, List, []}
-use Rattle.std.specs.Prelude.{◌∷◌, ◌++◌, length, map, filter, find, Option, Some, None, option_map, is_some}
-use Rattle.std.specs.List.{list_any, list_all, flat_map}
-use Rattle.std.specs.Prelude.{drop}
+use Rattle.std.specs.Prelude.{◌∷◌, ◌++◌, length, map, filter, find, Option, Some, None, option_map, is_some, drop}
 use Rattle.std.specs.Prelude.{unwrap_or}
+use Rattle.std.specs.List.{list_any, list_all, flat_map}
 use Rattle.rc_types.specs.declared.ids.ServerId.{ServerId}
 use Rattle.rc_types.specs.declared.entries.Entry.{Entry}
 use Rattle.rc_types.specs.declared.rows.KeyRange.{KeyRange}

@@ -47,17 +47,18 @@ abbrev pub then_by : (HeldRow → HeldRow → Bool) → (HeldRow → HeldRow →
 then_by first next a b = first a b || (not (first b a) && next a b)
 
 -- a greater number comes first
-abbrev pub greater : (Row → ℕ) → HeldRow → HeldRow → Bool
-greater number a b = nat_lt (number b.row) (number a.row)
+abbrev pub greater_first : (Row → ℕ) → HeldRow → HeldRow → Bool
+greater_first number a b = nat_lt (number b.row) (number a.row)
 
 -- by greater epoch, then greater length, then least holder
 abbrev pub longer_first : HeldRow → HeldRow → Bool
 longer_first =
-    then_by (greater (λ row. row.epoch)) (then_by (greater (λ row. row.len)) (λ a b. id_before a.holder b.holder))
+    then_by (greater_first (λ row. row.epoch))
+    (then_by (greater_first (λ row. row.len)) (λ a b. id_before a.holder b.holder))
 
 -- a greater segment, and in one segment as above
 abbrev pub head_first : HeldRow → HeldRow → Bool
-head_first = then_by (greater (λ row. row.seg)) longer_first
+head_first = then_by (greater_first (λ row. row.seg)) longer_first
 
 -- closed before open, and then as above
 abbrev pub closed_first : HeldRow → HeldRow → Bool

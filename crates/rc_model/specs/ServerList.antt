@@ -50,10 +50,8 @@ index_crashed index rows = map (λ row. (row.0, (if nat_eq row.0.index index the
 
 -- a new id is up, and older generations of its index have crashed
 abbrev pub enlisted : ServerId → ServerList → ServerList
-enlisted id servers = record {
-  version = servers.version + 1;
-  rows = index_crashed id.index servers.rows ++ (id, true) ∷ [];
-}
+enlisted id servers =
+    record { version = servers.version + 1; rows = index_crashed id.index servers.rows ++ (id, true) ∷ [] }
 
 -- the id is marked crashed
 abbrev pub id_crashed : ServerId → List (ServerId × Bool) → List (ServerId × Bool)

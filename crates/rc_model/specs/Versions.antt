@@ -1,8 +1,7 @@
 -- How an owner numbers versions, what it reads, and which entries are outdated: all by the entries of its log.
 use Rattle.std.specs.Prelude.{ℕ, ◌+◌, Bool, true, nat_eq, nat_lt, ◌&&◌, if◌then◌else◌, List, [], ◌∷◌, max, Option}
 use Rattle.std.specs.Prelude.{Some, None}
-use Rattle.std.specs.List.{list_any, list_all}
-use Rattle.std.specs.List.{fold}
+use Rattle.std.specs.List.{list_any, list_all, fold}
 use Rattle.rc_types.specs.declared.entries.Entry.{Entry}
 
 -- the entry is of this key, under this term

@@ -87,6 +87,7 @@ abbrev pub with_last_view : (ServerId → Master) → Option Master → ServerId
 with_last_view masters None = masters
 with_last_view masters (Some master) = put_id masters master.log.own master
 
+-- a host's new state is put into place
 abbrev pub with_host : World → ℕ → HostNode → World
 with_host world index host =
     record world { hosts = put world.hosts index host; masters = with_last_view world.masters host.master }

@@ -11,7 +11,7 @@ use Rattle.rc_model.specs.Messages.{to_outside, refuses}
 use Rattle.rc_model.specs.Log.{Log, entries_of, is_writing}
 use Rattle.rc_model.specs.Heads.{is_full, begin_roll}
 use Rattle.rc_model.specs.Ownership.{term_of}
-use Rattle.rc_model.specs.Versions.{next_version, Found, read_of}
+use Rattle.rc_model.specs.Versions.{next_version, read_of}
 use Rattle.rc_model.specs.Master.{Master, with_log, durable_entries, places_head, appends_entry, dead_segments}
 
 -- a refusal changes nothing

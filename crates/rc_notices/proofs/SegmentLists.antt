@@ -5,6 +5,7 @@ use Rattle.std.proofs.lemmas.Bool.{cases_eq, and_parts, cond_both, cond-false, f
 use Rattle.std.proofs.lemmas.List.{append-nil}
 use Rattle.rc_model.specs.Model.{Member, Message, Commit, between, to_coordinator, all_placed, Segment, Log, numbers_to}
 use Rattle.rc_model.specs.Model.{place_of, stood, standing, reminds_shut_members, reminds_open, reminds_shut, awaits_commit}
+use Rattle.rc_headroll.proofs.WatchLemmas.{wants-parts}
 use Rattle.rc_segment.specs.Resting.{have_told, wants_nothing}
 use Rattle.rc_notices.specs.Reminders.{reminds_if_open, reminds_if_shut, commit_again}
 
@@ -89,13 +90,6 @@ skips-to walk one more done (suc n) above none =
     let last : walk (n + 1) ≡ walk done ++ one (n + 1) =
     more n ∙ ap (λ l. l ++ one (n + 1)) (skips walk one more done n (omega arith) (λ o later below. none o later (omega arith))) in
     subst (λ (m : ℕ). walk m ≡ walk done ++ one m) next last
-
-wants-parts : (s : Segment) → wants_nothing s ≡ true →
-    (s.shut ≡ true) × (s.config.committed ≡ true) × ((s.freed || have_told s.config.members) ≡ true)
-wants-parts s e =
-    let first = and_parts s.shut (s.config.committed && (s.freed || have_told s.config.members)) e in
-    let second = and_parts s.config.committed (s.freed || have_told s.config.members) first.1 in
-    (first.0, second.0, second.1)
 
 pub open-none : (before log : Log) (seg : ℕ) → wants_nothing (log.segments seg) ≡ true → reminds_if_open before log seg ≡ []
 open-none before log seg nothing = rw (wants-parts (log.segments seg) nothing).0 refl

@@ -2,12 +2,11 @@
 use Rattle.std.proofs.Common.{ℕ, ◌≤◌, true, nat_lt, List, [], ◌∷◌, ◌++◌, map, length, Some}
 use Rattle.std.specs.List.{All}
 use Rattle.std.proofs.lemmas.List.Elements.{All-nil, All-cons, All-head, All-tail, All-push, All-append, All-map}
-use Rattle.std.specs.Prelude.{drop}
-use Rattle.std.specs.Prelude.{unwrap_or}
+use Rattle.std.specs.Prelude.{drop, unwrap_or}
 use Rattle.rc_model.specs.Model.{ServerId, Entry, Part, GrantedRange, Ownership, PartState, PartRow, knows_term, owns_term, grant}
 use Rattle.rc_model.specs.Model.{insert_row, rows_in_order, awaited_row, new_part, begin_part, is_awaited, with_row, awaits, all_came}
-use Rattle.rc_model.specs.Model.{entries_that_came, under_term, joined, joining, part_with_row, data_in, replay_in}
-use Rattle.rc_model.specs.Model.{put_data, is_to_answer, answered_in}
+use Rattle.rc_model.specs.Model.{entries_that_came, under_term, joined, joining, part_with_row, data_in, replay_in, put_data}
+use Rattle.rc_model.specs.Model.{is_to_answer, answered_in}
 use Rattle.rc_model.proofs.Tests.{either}
 use Rattle.rc_numbers.specs.Numbers.{VersionsUpTo, OwnershipWithin}
 use Rattle.rc_numbers.proofs.Entries.{All-one}

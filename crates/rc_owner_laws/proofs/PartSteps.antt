@@ -6,11 +6,10 @@ use Rattle.std.proofs.lemmas.List.{append-nil}
 use Rattle.rc_model.specs.Model.{ServerId, Addr, Server, Outside, Entry, Part, PlanRow, GrantedRange, Fault, Message, Body, between}
 use Rattle.rc_model.specs.Model.{to_coordinator, refuses, from_rows, Log, LogPlace, places_of, head_of, is_writing, durable_now, stored}
 use Rattle.rc_model.specs.Model.{commit_noted, PartState, Ownership, term_of, owns_term, knows_term, put_data, grant, is_to_answer}
-use Rattle.rc_model.specs.Model.{is_complete, to_answer, after_answer, after_replay, Master, Task, with_log}
-use Rattle.rc_model.specs.Model.{durable_replayed, ids_of, not_lost, appends_entry, refused, written, reads_if_owned}
-use Rattle.rc_model.specs.Model.{write_oks, new_durable, attempt_of, fetch_of, reminds, task_of, In, closes_old, left_out}
-use Rattle.rc_model.specs.Model.{starts, writes_on, old_head_of, with_segment, is_unclosed, with_closes_sent, close_marked}
-use Rattle.rc_model.specs.Model.{frees_segments}
+use Rattle.rc_model.specs.Model.{is_complete, to_answer, after_answer, after_replay, Master, Task, with_log, durable_replayed, ids_of}
+use Rattle.rc_model.specs.Model.{not_lost, appends_entry, refused, written, reads_if_owned, write_oks, new_durable, attempt_of, fetch_of}
+use Rattle.rc_model.specs.Model.{reminds, task_of, In, closes_old, left_out, starts, writes_on, old_head_of, with_segment, is_unclosed}
+use Rattle.rc_model.specs.Model.{with_closes_sent, close_marked, frees_segments}
 use Rattle.rc_types.specs.declared.ids.Addr.TheVariants.{Coordinator}
 use Rattle.rc_types.specs.declared.messages.Body.TheVariants as body
 use Rattle.rc_model.proofs.Members.{In-left, In-right, In-get}
@@ -26,8 +25,8 @@ use Rattle.rc_model.proofs.Sending.{each-map, each-frees, each-write_oks, each-r
 use Rattle.rc_owner_laws.proofs.Quiet.{Kept, parts-joined, parts-listed, parts-rolls}
 use Rattle.rc_owner_laws.proofs.Appending.{good-durable, with_place, owns-point, good-client, replayed, good-replayed}
 use Rattle.rc_owner_laws.proofs.States.{data-stays, SameState, was-answered}
-use Rattle.rc_owner_laws.proofs.Recovering.{with_own, good-data, owning, good-owning, attempt-stays, begun, good-begun}
-use Rattle.rc_owner_laws.proofs.Recovering.{good-answered, complete-is}
+use Rattle.rc_owner_laws.proofs.Recovering.{with_own, good-data, owning, good-owning, attempt-stays, begun, good-begun, good-answered}
+use Rattle.rc_owner_laws.proofs.Recovering.{complete-is}
 use Rattle.rc_model.proofs.Tests.{either}
 
 -- What only grows

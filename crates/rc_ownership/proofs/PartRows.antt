@@ -1,11 +1,10 @@
 -- The rows of a part once one more has come, and what is counted of them.
-use Rattle.std.proofs.Common.{◌≡◌, ℕ, ◌+◌, ◌-◌, ◌<◌, Bool, true, false, cond, not, ◌||◌, ◌&&◌, nat_eq, nat_lt, is_some}
-use Rattle.std.proofs.Common.{Option, Some, None, position, map, List, [], ◌∷◌, ◌++◌, length, length-append, filter}
-use Rattle.std.proofs.Common.{zero, suc, sym, ap, subst, ◌∙◌, refl, arith, true≢false}
+use Rattle.std.proofs.Common.{◌≡◌, ℕ, ◌+◌, ◌-◌, ◌<◌, Bool, true, false, cond, not, ◌||◌, ◌&&◌, nat_eq, nat_lt, is_some, Option, Some}
+use Rattle.std.proofs.Common.{None, position, map, List, [], ◌∷◌, ◌++◌, length, length-append, filter, zero, suc, sym, ap, subst, ◌∙◌}
+use Rattle.std.proofs.Common.{refl, arith, true≢false}
 use Rattle.std.proofs.lemmas.Bool.Decides.{nat_tests}
-use Rattle.std.specs.Prelude.{slice_index_or, slice_set}
+use Rattle.std.specs.Prelude.{slice_index_or, slice_set, unwrap_or}
 use Rattle.std.specs.List.{list_any, position_or_len}
-use Rattle.std.specs.Prelude.{unwrap_or}
 use Rattle.rc_model.specs.Model.{ServerId, Part, Entry, PartRow, PartState, part_with_row, is_awaited, awaited_row, with_row, insert_row}
 use Rattle.rc_model.specs.Model.{rows_in_order, all_came, entries_that_came}
 use Rattle.rc_ownership.specs.Rows.{count_missing, size_of, AreInOrder, AreCounted}

@@ -1,9 +1,8 @@
 -- What a read finds is the last record high; what is outdated is below it.
-use Rattle.std.proofs.Common.{◌≡◌, ℕ, ◌+◌, ◌-◌, Bool, true, false, cond, ◌&&◌, ◌||◌, nat_le, nat_lt, List, [], ◌∷◌, ◌++◌, length, slice_get}
-use Rattle.std.proofs.Common.{Option, Some, None, max, sym, ap, ◌∙◌, refl, arith, length-append, append_assoc, zero, suc}
+use Rattle.std.proofs.Common.{◌≡◌, ℕ, ◌+◌, ◌-◌, Bool, true, false, cond, ◌&&◌, ◌||◌, nat_le, nat_lt, List, [], ◌∷◌, ◌++◌, length}
+use Rattle.std.proofs.Common.{slice_get, Option, Some, None, max, sym, ap, ◌∙◌, refl, arith, length-append, append_assoc, zero, suc}
 use Rattle.std.proofs.lemmas.Bool.Decides.{nat_tests}
-use Rattle.std.specs.List.{list_any}
-use Rattle.std.specs.List.{fold}
+use Rattle.std.specs.List.{list_any, fold}
 use Rattle.rc_model.specs.Versions.{or_greater}
 use Rattle.rc_model.specs.Model.{Entry, is_of, is_above, greatest_version, found_in, read_of}
 use Rattle.rc_ownership.specs.Highs.{highs_from, highs_of}

@@ -1,9 +1,8 @@
 -- The rows of a part, where one that came has not come.
-use Rattle.std.proofs.Common.{◌≡◌, ℕ, ◌+◌, ◌-◌, ◌<◌, ◌≤◌, Bool, true, false, cond, not, ◌||◌, is_some, Some, None}
-use Rattle.std.proofs.Common.{Option, List, [], ◌∷◌, ◌++◌, length, length-append, filter, zero, suc, sym, ap, ◌∙◌, refl, arith}
-use Rattle.std.specs.Prelude.{slice_index_or, slice_set}
+use Rattle.std.proofs.Common.{◌≡◌, ℕ, ◌+◌, ◌-◌, ◌<◌, ◌≤◌, Bool, true, false, cond, not, ◌||◌, is_some, Some, None, Option, List, [], ◌∷◌}
+use Rattle.std.proofs.Common.{◌++◌, length, length-append, filter, zero, suc, sym, ap, ◌∙◌, refl, arith}
+use Rattle.std.specs.Prelude.{slice_index_or, slice_set, unwrap_or}
 use Rattle.std.specs.List.{list_any, position_or_len}
-use Rattle.std.specs.Prelude.{unwrap_or}
 use Rattle.rc_model.specs.Model.{ServerId, Part, Entry, PartRow, PartState, is_awaited, with_row, entries_that_came}
 use Rattle.rc_ownership.specs.Rows.{count_missing, size_of, AreInOrder, AreCounted, awaited_again}
 use Rattle.rc_ownership.proofs.PartRows.{awaited-none, size_of-some, some-length, length-with_row}

@@ -1,12 +1,11 @@
 -- The entries that wait: at the cursor, once one is taken, and once rows have joined.
-use Rattle.std.proofs.Common.{◌≡◌, ℕ, ◌+◌, ◌-◌, ◌<◌, ◌≤◌, List, [], ◌∷◌, ◌++◌, map, length, take, drop, append_assoc}
-use Rattle.std.proofs.Common.{length-append, sym, ap, subst, ◌∙◌, refl, arith, zero, suc, nat_lt}
+use Rattle.std.proofs.Common.{◌≡◌, ℕ, ◌+◌, ◌-◌, ◌<◌, ◌≤◌, List, [], ◌∷◌, ◌++◌, map, length, take, drop, append_assoc, length-append, sym}
+use Rattle.std.proofs.Common.{ap, subst, ◌∙◌, refl, arith, zero, suc, nat_lt}
 use Rattle.std.proofs.lemmas.Bool.Decides.{nat_tests}
-use Rattle.std.proofs.lemmas.List.{append-nil, map-append, length-drop, drop-drop, drop-append-le, take-append-le}
-use Rattle.std.proofs.lemmas.List.{take-take, length-take-le}
+use Rattle.std.proofs.lemmas.List.{append-nil, map-append, length-drop, drop-drop, drop-append-le, take-append-le, take-take}
+use Rattle.std.proofs.lemmas.List.{length-take-le}
 use Rattle.std.proofs.Math.Seq.{drop-append_seam}
-use Rattle.std.specs.Prelude.{slice_get, slice_index_or}
-use Rattle.std.specs.Prelude.{unwrap_or}
+use Rattle.std.specs.Prelude.{slice_get, slice_index_or, unwrap_or}
 use Rattle.rc_model.specs.Model.{Entry, PartRow, under_term, entries_that_came}
 use Rattle.rc_ownership.specs.Replay.{all_waiting, waiting_from, NoneIsEmpty, IsPlace, IsReplay}
 

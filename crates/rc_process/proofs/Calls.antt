@@ -1,9 +1,6 @@
 -- Each call but coming back, as happenings.
-use Rattle.std.proofs.Common.{◌≡◌, ◌≤◌, ◌<◌, ◌+◌, ℕ, true, cond, max, min, ◌⊎◌, inl, inr, List, [], ◌∷◌, ◌++◌}
-use Rattle.std.proofs.Common.{length}
-use Rattle.std.proofs.Common.{map}
-use Rattle.std.proofs.Common.{filter}
-use Rattle.std.proofs.Common.{refl, sym, ap, ◌∙◌, subst, arith, append_assoc, length-append, Some}
+use Rattle.std.proofs.Common.{◌≡◌, ◌≤◌, ◌<◌, ◌+◌, ℕ, true, cond, max, min, ◌⊎◌, inl, inr, List, [], ◌∷◌, ◌++◌, length, map, filter, refl}
+use Rattle.std.proofs.Common.{sym, ap, ◌∙◌, subst, arith, append_assoc, length-append, Some}
 use Rattle.std.proofs.Math.Nat.{le-max_left, le-max_right, le-min, min-eq_left, min-le_left}
 use Rattle.std.proofs.lemmas.List.{append-nil}
 use Rattle.rc_codec.proofs.Lawful.{some_is}
@@ -22,8 +19,8 @@ use Rattle.rc_history.specs.Nodes.{Node, new_node, name_of, node_can, node_step}
 use Rattle.rc_history.specs.Nodes as node
 use Rattle.rc_world.specs.NodeView.{node_seen, work_at, may_take}
 use Rattle.rc_lives.specs.Lives.{Life, new_life, keeps, life_next, rests_on, node_after, SameNode}
-use Rattle.rc_lives.specs.Processes.{Deed, Process, Processes, Takes, Syncs, Leaves, deed_of, after, with_process}
-use Rattle.rc_lives.specs.Processes.{IsAddressed, IsBrought, MayTake, safe_at}
+use Rattle.rc_lives.specs.Processes.{Deed, Process, Processes, Takes, Syncs, Leaves, deed_of, after, with_process, IsAddressed, IsBrought}
+use Rattle.rc_lives.specs.Processes.{MayTake, safe_at}
 use Rattle.rc_lives.proofs.Own.{works_of, life_journal}
 use Rattle.rc_lives.proofs.Global.{Goes, Well, own, name-life}
 use Rattle.rc_lives.proofs.Telling.{journals-make}
@@ -32,13 +29,13 @@ use Rattle.rc_keeping.specs.Spelling.{journal_of}
 use Rattle.rc_keeping.specs.Saved.{Saved, save_of}
 use Rattle.rc_files.specs.Files.{file_of}
 use Rattle.rc_files.proofs.Anew.{saves-stand}
+use Rattle.rc_files.proofs.Back.{le_or_lt}
 use Rattle.rc_process.specs.declared.saving.Saving.{Saving}
 use Rattle.rc_process.specs.View.{Held, ProcessView, written_down, moved_place, move_mark, move_held, moved_by, LARGEST}
-use Rattle.rc_process.specs.Running.{Running, Machine, HasJournal, MayBring, IsGiven, IsSynced, HasLeft, IsSaving}
-use Rattle.rc_process.specs.Running.{IsMoved, HasAsked}
-use Rattle.rc_process.proofs.Places.{place, place-within, place-moved, le_or_lt, journal-size, file-length}
-use Rattle.rc_process.proofs.Simulated.{Waits, HasSecond, IsRunning, Reached, reach, goes-reached, Simulated, put-one}
-use Rattle.rc_process.proofs.Simulated.{keep-one, running-more}
+use Rattle.rc_process.specs.Running.{Running, Machine, HasJournal, MayBring, IsGiven, IsSynced, HasLeft, IsSaving, IsMoved, HasAsked}
+use Rattle.rc_process.proofs.Places.{place, place-within, place-moved, journal-size, file-length}
+use Rattle.rc_process.proofs.Simulated.{Waits, HasSecond, IsRunning, Reached, reach, goes-reached, Simulated, put-one, keep-one}
+use Rattle.rc_process.proofs.Simulated.{running-more}
 use Rattle.rc_process.proofs.Giving.{given-runs, next_with}
 
 -- A work

@@ -1,7 +1,6 @@
 -- Where the works of a journal end in a file.
 use Rattle.std.proofs.Common.{◌≡◌, ◌≤◌, ◌<◌, ◌+◌, ◌-◌, ◌⊎◌, inl, inr, ℕ, zero, suc, Bool, true, false, cond, nat_le, List, [], ◌∷◌, ◌++◌}
-use Rattle.std.proofs.Common.{length, take, drop}
-use Rattle.std.proofs.Common.{refl, sym, ap, ◌∙◌, arith, append_assoc, length-append}
+use Rattle.std.proofs.Common.{length, take, drop, refl, sym, ap, ◌∙◌, arith, append_assoc, length-append}
 use Rattle.std.proofs.Math.Seq.{take-append-add}
 use Rattle.std.proofs.lemmas.List.{take-append-le, take-append-drop}
 use Rattle.std.proofs.lemmas.Bool.{le-leb, lt-leb}
@@ -17,22 +16,13 @@ use Rattle.rc_lives.specs.Lives.{node_after}
 use Rattle.rc_keeping.specs.Saved.{Saved, save_of}
 use Rattle.rc_files.specs.Files.{file_of}
 use Rattle.rc_files.specs.Standing.{StandsFor, works_at}
-use Rattle.rc_files.proofs.Back.{journal-append}
+use Rattle.rc_files.proofs.Back.{journal-append, le_or_lt}
 use Rattle.rc_process.specs.declared.saving.Saving.{Saving}
 use Rattle.rc_process.specs.View.{moved_place}
 
 -- how many bytes of the file the first so many works of a journal take, of which the save stands for the first ones
 abbrev pub place : ℕ → Saved → List NodeWork → ℕ → ℕ
 place before saved works count = cond (nat_le count before) 0 (length (file_of saved (take (count - before) works)))
-
-pub le_or_lt : (a b : ℕ) → (a ≤ b) ⊎ (b < a)
-le_or_lt zero b = inl (omega arith)
-le_or_lt (suc a) zero = inr (omega arith)
-le_or_lt (suc a) (suc b) = by (le_or_lt a b)
-  where
-    by : (a ≤ b) ⊎ (b < a) → (suc a ≤ suc b) ⊎ (suc b < suc a)
-    by (inl h) = inl (omega arith)
-    by (inr h) = inr (omega arith)
 
 pub place-below : (before : ℕ) (saved : Saved) (works : List NodeWork) (count : ℕ) → count ≤ before → place before saved works count ≡ 0
 place-below before saved works count h =

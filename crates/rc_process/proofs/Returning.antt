@@ -1,7 +1,6 @@
 -- A process that has ended, and comes back.
-use Rattle.std.proofs.Common.{◌≡◌, ◌≤◌, ◌<◌, ◌+◌, ◌-◌, ℕ, Bool, true, false, cond, min, nat_le, List, [], ◌∷◌, ◌++◌, length, filter}
-use Rattle.std.proofs.Common.{take, drop}
-use Rattle.std.proofs.Common.{refl, sym, ap, ◌∙◌, subst, arith, Some, None, ◌⊎◌, inl, inr}
+use Rattle.std.proofs.Common.{◌≡◌, ◌≤◌, ◌<◌, ◌+◌, ◌-◌, ℕ, Bool, true, false, cond, min, nat_le, List, [], ◌∷◌, ◌++◌, length, filter, take}
+use Rattle.std.proofs.Common.{drop, refl, sym, ap, ◌∙◌, subst, arith, Some, None, ◌⊎◌, inl, inr}
 use Rattle.std.proofs.Math.Nat.{le-min}
 use Rattle.std.proofs.lemmas.List.{append-nil, take_at, length-take-le, take-append-drop}
 use Rattle.rc_types.specs.declared.events.Setup.{Setup}
@@ -25,10 +24,10 @@ use Rattle.rc_keeping.specs.Saved.{Saved, node_from}
 use Rattle.rc_files.specs.Files.{file_of, IsLeft, GivesBack}
 use Rattle.rc_files.specs.Standing.{StandsFor, node_given}
 use Rattle.rc_files.proofs.Anew.{files-make-anew, fewer-stand, stops-make-equal, same-itself, name-after, name-new}
-use Rattle.rc_files.proofs.Back.{what-is-left}
+use Rattle.rc_files.proofs.Back.{what-is-left, le_or_lt}
 use Rattle.rc_process.specs.View.{ProcessView, written_down, given, ended, end_written, IsReplayed, IsBack}
 use Rattle.rc_process.specs.Running.{Running, Machine, HasJournal, MayStand, First, Second, HasComeBack}
-use Rattle.rc_process.proofs.Places.{place, place-within, place-push, place-above, place-none, place-moved, le_or_lt, journal-size}
+use Rattle.rc_process.proofs.Places.{place, place-within, place-push, place-above, place-none, place-moved, journal-size}
 use Rattle.rc_process.proofs.Simulated.{HasSecond, IsRunning, Stay, reach, goes-reached, Simulated, put-one}
 use Rattle.rc_process.proofs.Giving.{given-runs}
 

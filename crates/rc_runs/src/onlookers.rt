@@ -17,7 +17,7 @@ impl Onlooker for () {
 
 /// The onlooker looks at these, if so many are there. The answer is how many there are to be before it looks again.
 #[inline]
-pub(crate) fn looked(onlooker: &mut dyn Onlooker, due: usize, sent: &[Message]) -> usize {
+pub(crate) fn looked<W: Onlooker>(onlooker: &mut W, due: usize, sent: &[Message]) -> usize {
     if due <= sent.len() {
         return onlooker.look(sent);
     }

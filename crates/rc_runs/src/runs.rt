@@ -156,11 +156,11 @@ impl<A: Allocator + Clone> Run<A> {
 
     /// One pass over the messages. Where it stops, the messages before the one that could not be
     /// delivered are.
-    fn settle(
+    fn settle<W: Onlooker>(
         &mut self,
         alloc: Global,
         passing: &Passing,
-        onlooker: &mut dyn Onlooker,
+        onlooker: &mut W,
     ) -> Result<(), Fault>
         ensures ok { OnOk result (GoesOn (λ most. settles most passing.now) self.old self.new) }
         ensures err { IfErr result (λ fault. StopsIn (λ most. settles most passing.now) fault self.old self.new) }
@@ -179,11 +179,11 @@ impl<A: Allocator + Clone> Run<A> {
     }
 
     /// One event of a scenario.
-    fn play(
+    fn play<W: Onlooker>(
         &mut self,
         alloc: Global,
         event: &ScenarioEvent,
-        onlooker: &mut dyn Onlooker,
+        onlooker: &mut W,
     ) -> Result<(), Fault>
         ensures ok { OnOk result (GoesOn (λ most world. scenario_event most world event.now) self.old self.new) }
         ensures err { IfErr result (λ fault. StopsIn (λ most world. scenario_event most world event.now) fault
@@ -207,11 +207,11 @@ impl<A: Allocator + Clone> Run<A> {
     /// The events of a scenario, one after another. Else the place of the one at which the run
     /// stopped comes back, with the fault: F18 where it was not possible, F1 where memory was refused. The onlooker
     /// looks at what was sent where that is due, also within a pass.
-    pub fn play_all(
+    pub fn play_all<W: Onlooker>(
         &mut self,
         alloc: Global,
         events: &[ScenarioEvent],
-        onlooker: &mut dyn Onlooker,
+        onlooker: &mut W,
     ) -> Result<(), (usize, Fault)>
         ensures ok { OnOk result (RunsThrough events.now self.old self.new) }
         ensures err { IfErr result (λ stop. StopsAt events.now stop.0 stop.1 self.old self.new) }

@@ -10,9 +10,6 @@ use Rattle.rc_model.specs.Model.{ServerId, same_id, id_before, insert_id}
 same_parts : (a b : ServerId) → a.index ≡ b.index → a.generation ≡ b.generation → a ≡ b
 same_parts a b p q j = record { index = p j; generation = q j }
 
-pub same_id-true : (a b : ServerId) → same_id a b ≡ true → a ≡ b
-same_id-true a b h = same_parts a b (grind (arith, nat_tests)) (grind (arith, nat_tests))
-
 pub same_id-sym : (a b : ServerId) → same_id a b ≡ same_id b a
 same_id-sym a b = grind (arith, nat_tests)
 

@@ -10,7 +10,8 @@ use Rattle.std.proofs.lemmas.List.{take_at, drop_at}
 use Rattle.std.proofs.lemmas.Map.Keys.{IsDistinct-head, IsDistinct-tail}
 use Rattle.indexmap.specs.IndexMap.{insert_entry, insert_all, set_value_at}
 use Rattle.rc_model.specs.Model.{ServerId, same_id, knows, marked_up, is_newest, index_crashed, id_crashed, first_rows}
-use Rattle.rc_serverlist.proofs.IdLemmas.{same_id-true, same_id-sym}
+use Rattle.rc_model.proofs.Ids.{same_id-true}
+use Rattle.rc_serverlist.proofs.IdLemmas.{same_id-sym}
 
 abbrev pub Rows : Type 0
 Rows = List (ServerId × Bool)

@@ -10,7 +10,9 @@ ghost use Rattle.rc_reading.specs.Scenario.{reading};
 ghost use Rattle.rc_sim.specs.declared.verdicts.Verdict.TheVariants.{Bad, Stopped};
 ghost use Rattle.rc_sim.specs.Verdicts.{audited, verdict_of, printed_of, last_line, Comes, Judged};
 
+use crate::counted::Counted;
 use crate::playing::Kept;
+use crate::scales::Scales;
 use crate::verdicts::{Output, Verdict};
 use rc_audit::audit;
 use rc_reading::{ReadFault, Scenario, read_scenario};
@@ -21,6 +23,7 @@ use rc_traces::write_trace;
 use rc_types::{Code, Message};
 use rc_world::World;
 use std::alloc::{AllocError, Allocator, Global};
+use std::io::Write;
 
 /// What is answered, and what is printed.
 #[derive(Drop)]
@@ -33,29 +36,32 @@ pub struct Answer {
 
 /// The answer to these bytes as a scenario. The run's tablets lie in memory of the second allocator. It
 /// fails only where memory was refused outside a step of the run. What may not have been meant in the run is kept.
-pub(crate) fn answer_to<A: Allocator + Clone>(
+/// `errors` is told where its messages take much memory.
+pub(crate) fn answer_to<E: Write, A: Allocator + Clone>(
     alloc: Global,
     bytes: &[u8],
     tablets: A,
     output: Output,
     kept: &mut Kept,
+    errors: &mut Counted<E>,
 ) -> Result<Answer, AllocError>
     ensures ok { IfOk result (λ answer. Comes output (reading bytes.now) answer.verdict (string_bytes answer.text)) }
 {
     match read_scenario(alloc, bytes) {
-        Ok(scenario) => played(alloc, scenario, tablets, output, kept),
+        Ok(scenario) => played(alloc, scenario, tablets, output, kept, errors),
         Err(ReadFault::OutOfMemory) => Err(AllocError),
         Err(ReadFault::BadInput(place)) => bad(alloc, place),
     }
 }
 
 /// The answer to a scenario.
-fn played<A: Allocator + Clone>(
+fn played<E: Write, A: Allocator + Clone>(
     alloc: Global,
     scenario: Scenario,
     tablets: A,
     output: Output,
     kept: &mut Kept,
+    errors: &mut Counted<E>,
 ) -> Result<Answer, AllocError>
     requires { IsWithinLimits scenario.setup }
     ensures ok { IfOk result (λ answer. Comes output (Ok scenario) answer.verdict (string_bytes answer.text)) }
@@ -63,7 +69,7 @@ fn played<A: Allocator + Clone>(
     let Scenario { setup, events } = scenario;
     let factors = Factors::of(&setup);
     let mut run = Run::new(alloc, setup, tablets);
-    match run.play_all(alloc, events.as_slice(), &mut ()) {
+    match run.play_all(alloc, events.as_slice(), &mut Scales::new(errors)) {
         Ok(()) => {
             let world = run.world();
             kept.hint(alloc, factors, world);

@@ -16,6 +16,7 @@ mod histories;
 mod narrating;
 mod outlets;
 mod playing;
+mod scales;
 mod seeking;
 mod shrinking;
 mod simulating;

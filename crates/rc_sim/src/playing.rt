@@ -105,7 +105,7 @@ pub(crate) fn play<R: Read, W: Write, E: Write, A: Allocator + Clone>(
 {
     let mut kept = Kept::new(alloc);
     let bytes = read_all(alloc, reader)?;
-    let answer = answer_to(alloc, bytes.as_slice(), tablets, output, &mut kept)?;
+    let answer = answer_to(alloc, bytes.as_slice(), tablets, output, &mut kept, errors)?;
     let kept = kept.with(bytes, &answer);
     finish(alloc, Dialect::Scenario, &kept, &answer, writer, errors)
 }

@@ -7,8 +7,7 @@ use Rattle.std.specs.List.{list_any}
 use Rattle.std.specs.Option.{option_map}
 use Rattle.std.specs.Prelude.{option_and_then}
 use Rattle.rc_model.specs.Model.{ServerId, Member, id_before, insert_id, ids_in_order, ServerList, knows, first_rows, up_rows, up}
-use Rattle.rc_model.specs.Model.{new_member, of_other_hosts, candidates, choose, staying, first_free, substitutes}
-use Rattle.rc_model.specs.Model.{replaced, ids_of, In}
+use Rattle.rc_model.specs.Model.{new_member, of_other_hosts, candidates, choose, staying, first_free, substitutes, replaced, ids_of, In}
 use Rattle.rc_model.proofs.Members.{In-left, In-right, In-append, In-map, map-In, In-filter}
 use Rattle.rc_step_laws.specs.Words.{NotOnHostOf, OnDifferentHosts}
 use Rattle.rc_step_laws.proofs.Tests.{any-here, find-one}

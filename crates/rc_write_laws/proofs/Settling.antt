@@ -8,7 +8,7 @@ use Rattle.std.specs.Option.{option_or}
 use Rattle.rc_model.specs.Model.{ServerId, Addr, Entry, Message, Body, WriteOk, Setup, to_outside, durable_len, Segment, durable_in, Log}
 use Rattle.rc_model.specs.Model.{LogPlace, places_in, places_to, places_of, numbers_to, durable_among, durable_now, has_segment, Master}
 use Rattle.rc_model.specs.Model.{then_does, when, follows_start, follows_placed, follows_closing, follows_shut, follows_change}
-use Rattle.rc_model.specs.Model.{follows_stored, follows_data, follows_replay, follow_up, write_oks, followed, measure, goes_on}
+use Rattle.rc_model.specs.Model.{follows_stored, follows_data, follows_replay, follow_up, write_oks, followed, enough, goes_on}
 use Rattle.rc_model.specs.Model.{ticks, master_takes_first, deposed_takes, master_takes, master_ticks, factor_of, replay, all_shut_to}
 use Rattle.rc_model.specs.Model.{is_stored_on_all, In}
 use Rattle.rc_model.proofs.Measures.{goes_on-up, goes_on-settles}
@@ -178,7 +178,7 @@ Settled master = master.deposed ≡ false → durable_now master.log ≤ master.
 
 goes-settled : (master : Master) → master.log.factor ≢ 0 → Settled (goes_on master).0
 goes-settled master factor =
-    either (λ (after : Master × List Message). Settled after.0) master.deposed (master, []) (followed (measure master) master)
+    either (λ (after : Master × List Message). Settled after.0) master.deposed (master, []) (followed (enough master) master)
     (λ is up. true_false (sym is ∙ up))
     (λ isn't. subst (λ (after : Master × List Message). Settled after.0) (goes_on-up master isn't)
     (λ _. nothing-stored (goes_on master).0 (goes_on-settles master factor isn't)))

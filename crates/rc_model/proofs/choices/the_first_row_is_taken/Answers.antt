@@ -3,25 +3,25 @@ use Rattle.rc_model.specs.Pick.{longer_first, head_first, closed_first, first_by
 use Rattle.rc_model.specs.PickOrders.{IsLonger, IsHigher, IsBetter}
 use Rattle.rc_model.proofs.PickOrders.{tells_longer, tells_higher, tells_better, apart_longer, apart_higher}
 use Rattle.rc_model.proofs.PickOrders.{apart_better, split_longer, split_higher, split_better}
-use Rattle.rc_model.proofs.PickFirsts.{first_by_first, first_by_from_IsFirst, first_by_none}
+use Rattle.rc_model.proofs.PickFirsts.{first_by_first, fold_better_IsFirst, first_by_none}
 use Rattle.rc_model.proofs.choices.the_first_row_is_taken.Goals as goal
 
 pub returns-clause-longer : goal.returns-clause-longer
 returns-clause-longer c = λ rows first. (
   first_by_first longer_first IsLonger tells_longer apart_longer split_longer rows first,
-  first_by_from_IsFirst longer_first IsLonger tells_longer apart_longer split_longer rows first,
+  fold_better_IsFirst longer_first IsLonger tells_longer apart_longer split_longer rows first,
 )
 
 pub returns-clause-higher : goal.returns-clause-higher
 returns-clause-higher c = λ rows first. (
   first_by_first head_first IsHigher tells_higher apart_higher split_higher rows first,
-  first_by_from_IsFirst head_first IsHigher tells_higher apart_higher split_higher rows first,
+  fold_better_IsFirst head_first IsHigher tells_higher apart_higher split_higher rows first,
 )
 
 pub returns-clause-better : goal.returns-clause-better
 returns-clause-better c = λ rows first. (
   first_by_first closed_first IsBetter tells_better apart_better split_better rows first,
-  first_by_from_IsFirst closed_first IsBetter tells_better apart_better split_better rows first,
+  fold_better_IsFirst closed_first IsBetter tells_better apart_better split_better rows first,
 )
 
 pub returns-clause-longer_of_none : goal.returns-clause-longer_of_none

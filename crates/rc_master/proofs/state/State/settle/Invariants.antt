@@ -1,4 +1,4 @@
-use Rattle.rc_model.specs.FollowUps.{measure}
+use Rattle.rc_model.specs.Measure.{measure}
 use Rattle.rc_master.specs.View.{state_view, before_step, IsNoted}
 use Rattle.rc_master.proofs.Settling.{IsOnTheWay}
 use Rattle.std.proofs.Common.{◌≡◌}

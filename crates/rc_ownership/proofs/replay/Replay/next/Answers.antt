@@ -1,7 +1,6 @@
 use Rattle.std.proofs.Common.{◌+◌, ◌<◌, ◌≤◌, length, take, ap, ◌∙◌, arith}
 use Rattle.std.proofs.lemmas.Grind.{common_steps}
-use Rattle.std.specs.Prelude.{slice_get}
-use Rattle.std.specs.Prelude.{drop}
+use Rattle.std.specs.Prelude.{slice_get, drop}
 use Rattle.rc_ownership.specs.Replay.{Waiting, waiting_from}
 use Rattle.rc_ownership.proofs.Waiting.{IsRowAt, first_waiting, next_place, next_row, replay-next_row}
 use Rattle.rc_ownership.proofs.replay.Replay.next.Goals as goal
