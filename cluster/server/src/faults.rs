@@ -199,7 +199,7 @@ impl Mangle {
 #[cfg(test)]
 mod tests {
     use super::*;
-    use crate::wire::frames;
+    use crate::wire::{frames, sound};
 
     #[test]
     fn what_is_asked_for_is_read_again() {
@@ -230,7 +230,7 @@ mod tests {
             for message in ["first message", "second one", "third"] {
                 mangle.put(7, message.as_bytes(), &mut out);
             }
-            for (clock, message) in frames(&out) {
+            for (clock, message) in frames(sound(&out)) {
                 assert_eq!(clock, 7);
                 match message {
                     b"first message" | b"second one" | b"third" => whole += 1,

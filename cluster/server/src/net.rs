@@ -2,7 +2,7 @@
 //! once the node's thread writes.
 
 use crate::events::{Event, EventSender, part_of};
-use crate::wire::{HEAD, MOST, Seal, split_urgent};
+use crate::wire::{HEAD, MOST, Seal, sound, split_urgent};
 use sevunthi::message::{framed, u32_at};
 use std::fs::File;
 use std::io::{self, ErrorKind, Read, Write};
@@ -316,7 +316,7 @@ fn serve_peer(mut stream: TcpStream, number: u64, secret: &[u8], events: &EventS
         while let Some(length) = u32_at(rest, 0) {
             let (batch, others) = rest.split_at(4 + length as usize);
             match seal.open(batch) {
-                Some(frames) if give(events, number, frames) => rest = others,
+                Some(frames) if give(events, number, sound(frames)) => rest = others,
                 _ => return false,
             }
         }
