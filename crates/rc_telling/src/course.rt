@@ -112,10 +112,18 @@ impl Course {
         let Some(message) = message else {
             return;
         };
-        if let (Body::Ready, Addr::Server(id)) = (&message.body, message.from) {
-            self.ready(id);
-        } else if let (Body::Write { .. }, Addr::Server(id)) = (&message.body, message.to) {
-            self.ask(Early::Write(id), id);
+        match &message.body {
+            Body::Ready => {
+                if let Addr::Server(id) = message.from {
+                    self.ready(id);
+                }
+            }
+            Body::Write { .. } => {
+                if let Addr::Server(id) = message.to {
+                    self.ask(Early::Write(id), id);
+                }
+            }
+            _ => {}
         }
     }
 
@@ -219,12 +227,14 @@ impl Course {
 
     /// Whether this message waits: it was not delivered, and its addressee is there.
     pub(crate) fn waits(&self, number: usize, message: &Message) -> bool {
-        let is_there = match message.to {
+        if self.delivered.get(number).copied().unwrap_or(true) {
+            return false;
+        }
+        match message.to {
             Addr::Server(id) => self.runs(id),
             Addr::Coordinator => true,
             Addr::Outside => false,
-        };
-        is_there && !self.delivered.get(number).copied().unwrap_or(true)
+        }
     }
 
     /// How many hosts run.
