@@ -1,11 +1,11 @@
 -- The rules of the coordinator, case by case.
 use Rattle.std.proofs.Common.{◌≡◌, ℕ, ◌+◌, ◌-◌, ◌<◌, ◌≤◌, Bool, true, false, cond, nat_eq, nat_lt, ◌&&◌, List, [], ◌∷◌}
-use Rattle.std.proofs.Common.{◌++◌, length, get_or, slice_get, Option, Some, None, refl, sym, ap, ◌∙◌, arith}
+use Rattle.std.proofs.Common.{◌++◌, length, get_or, slice_get, Option, Some, None, refl, sym, ap, ◌∙◌, arith, option_and_then}
 use Rattle.std.proofs.lemmas.Bool.Decides.{nat_tests}
 use Rattle.std.proofs.lemmas.Option.{slice_get-get_or}
 use Rattle.rc_model.specs.Model.{ServerId, Message, Gather, put_id, to_each, ServerList, has_crashed, up, marked_crashed, Attempt}
 use Rattle.rc_model.specs.Model.{new_attempt, spreads_list, has_tablets, begins_attempt, begins_if_needed, spreads_then_begins}
-use Rattle.rc_model.specs.Model.{attempt_at, part_in, part_if_current}
+use Rattle.rc_model.specs.Model.{attempt_at, part_in, is_current}
 use Rattle.rc_model.specs.Coordinator.{Coordinator}
 use Rattle.rc_coordinator.proofs.TabletLemmas.{tablets_of-marked}
 
@@ -48,7 +48,9 @@ follows-beginning c servers gone e =
 
 -- a part of a sender goes by the attempts and the current numbers alone
 pub part-by_numbers : (c one : Coordinator) → c.current ≡ one.current → (id : ServerId) (number term : ℕ)
-    (found : Option Attempt) → part_if_current c id number term found ≡ part_if_current one id number term found
+    (found : Option Attempt) →
+    option_and_then (λ attempt. cond (is_current c number attempt) (part_in id term attempt.decided) None) found ≡
+    option_and_then (λ attempt. cond (is_current one number attempt) (part_in id term attempt.decided) None) found
 part-by_numbers c one same id number term None = refl
 part-by_numbers c one same id number term (Some attempt) =
     ap (λ f. cond (nat_eq (f attempt.master) number) (part_in id term attempt.decided) None) same

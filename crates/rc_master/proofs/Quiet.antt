@@ -1,12 +1,12 @@
 -- A master that follows no rule stays as it is, and so does one that is granted a range.
 use Rattle.std.proofs.Common.{◌≡◌, ◌≢◌, ℕ, zero, suc, ◌<◌, Bool, true, false, cond, List, [], ◌∷◌, ◌++◌, Option, Some}
-use Rattle.std.proofs.Common.{None, Result, Ok, Err, OnOk, OnErr, refl, sym, ap, ◌∙◌, subst, arith}
+use Rattle.std.proofs.Common.{None, Result, Ok, Err, OnOk, OnErr, refl, sym, ap, ◌∙◌, subst, arith, option_and_then}
 use Rattle.std.specs.Option.{option_or}
 use Rattle.rc_model.specs.Model.{Entry, Fault, GrantedRange, Message, Log, is_writing, is_full, begin_roll, may_start, may_close}
 use Rattle.rc_model.specs.Model.{may_write, Ownership, grant, owns_term, to_answer, after_replay, Master, MasterSetup, new_master}
 use Rattle.rc_model.specs.Model.{durable_replayed, dead_segments, appends_entry, when, follow_up, follows_start, follows_placed}
 use Rattle.rc_model.specs.Model.{follows_closing, follows_shut, follows_change, follows_stored, follows_data, follows_replay, first_open}
-use Rattle.rc_model.specs.Model.{wants_commit, commits, commits_open, close_is_due, rolls_for_replay, replays, answers_part, marks_shut}
+use Rattle.rc_model.specs.Model.{wants_commit, commits, close_is_due, rolls_for_replay, replays, answers_part, marks_shut}
 use Rattle.rc_model.specs.Model.{further, followed, enough, goes_on, ServerId, Addr, Body, then_does, master_takes_first, deposed_takes}
 use Rattle.rc_model.specs.Model.{master_takes}
 use Rattle.rc_model.proofs.Tests.{either, true_false}
@@ -57,7 +57,8 @@ abbrev with_own : Master → Ownership → Master
 with_own master own = record master { ownership = own }
 
 did-commits : (one other : Master) → other.log ≡ one.log → (open_one : Option ℕ) →
-    did (commits_open one open_one) ≡ did (commits_open other open_one)
+    did (option_and_then (λ seg. when (wants_commit (one.log.segments seg)) (commits one seg)) open_one) ≡
+    did (option_and_then (λ seg. when (wants_commit (other.log.segments seg)) (commits other seg)) open_one)
 did-commits one other same None = refl
 did-commits one other same (Some seg) =
     did-when (wants_commit (one.log.segments seg)) (commits one seg) (commits other seg)

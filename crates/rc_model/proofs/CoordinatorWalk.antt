@@ -14,8 +14,8 @@ use Rattle.rc_model.specs.Model.{has_answered, is_gathering, parts_of, plan_mess
 use Rattle.rc_model.specs.Model.{list_body, spreads_list, begins_attempt, has_tablets, begins_if_needed, attempt_at, with_attempt}
 use Rattle.rc_model.specs.Model.{up_of_host, follows_generation, enlists, notes_ready, with_crashed, suspects, spreads_then_begins}
 use Rattle.rc_model.specs.Model.{commits_pair, is_current, with_answer, keeps_answer_in, ready_ids, decision_of, decides_on, decides_with}
-use Rattle.rc_model.specs.Model.{decides_attempt, own_body, range_of, grant_of, grant_to, part_of_sender, grants_part, grants_if_given}
-use Rattle.rc_model.specs.Model.{grants_or_repeats, takes_recovered, creates_table, is_too_many, creates, split_fault, splits_unless}
+use Rattle.rc_model.specs.Model.{decides_attempt, own_body, range_of, grant_of, grant_to, part_of_sender, grants_part}
+use Rattle.rc_model.specs.Model.{takes_recovered, creates_table, is_too_many, creates, split_fault}
 use Rattle.rc_model.specs.Model.{has_open_part, asks_again, asks_again_of, coordinator_ticks, coordinator_takes, Work, Take, Create}
 use Rattle.rc_model.specs.Model.{Split, coordinator_step}
 use Rattle.rc_types.specs.declared.rows.Plan.{Plan}
@@ -24,6 +24,8 @@ use Rattle.rc_model.specs.Coordinator.{Coordinator}
 use Rattle.rc_model.specs.Nodes.{Tick, Suspect, Decide}
 use Rattle.rc_model.proofs.Sending.{Each, each-none, each-one, each-more, each-both, each-if}
 use Rattle.rc_model.proofs.Tests.{either}
+use Rattle.rc_model.proofs.Granting.{by_part, by_grant}
+use Rattle.std.specs.Option.{option_map_or}
 
 -- What has to hold, of a coordinator and of what it hears: of what a rule leaves, with what it sends
 
@@ -31,6 +33,12 @@ use Rattle.rc_model.proofs.Tests.{either}
 abbrev pub is_lack : Fault → Bool
 is_lack NoTable = true
 is_lack _ = false
+
+-- what a split does, given why it can't be made, if so
+abbrev splits_unless : Coordinator → ℕ → ℕ → Option Fault → Coordinator × List Message
+splits_unless c table at fault =
+    option_map_or (λ why. (c, coordinator_refuses why ∷ [])) fault
+    (record c { tablets = split_at table at c.tablets }, coordinator_tells (SplitOk table at) ∷ [])
 
 -- a part that is asked for, and wasn't granted
 pub record IsAsked (c : Coordinator) (H : Addr → Body → Type 0) (id : ServerId) (number term : ℕ) (part : Part) : Type 0 where
@@ -178,7 +186,7 @@ module _ (c : Coordinator) (H : Addr → Body → Type 0) (N M : Coordinator × 
       ) (c, refuses_server id Deposed ∷ []) (w.commits id pair h) (λ _. s.denies id Deposed refl)
 
   walked-keeps : (from : ServerId) (number : ℕ) (rows : List Row) (found : Option Attempt) → attempt_at c number ≡ found →
-      H (Server from) (Replicas number rows) → M (keeps_answer_in c from number rows found, [])
+      H (Server from) (Replicas number rows) → M (option_map_or (keeps_answer_in c from number rows) found c, [])
   walked-keeps from number rows None is h = w.done c [] w.same
   walked-keeps from number rows (Some attempt) is h =
       either (λ (new : Coordinator). M (new, []))
@@ -221,19 +229,19 @@ module _ (c : Coordinator) (H : Addr → Body → Type 0) (N M : Coordinator × 
 
   walked-given : (id : ServerId) (number term : ℕ) (part : Option Part) → H (Server id) (Recovered number term) →
       is_up c.servers id ≡ true → grant_to c id term ≡ None → part_of_sender c id number term ≡ part →
-      M (grants_if_given c id number part)
+      M (by_part c id number part)
   walked-given id number term None h is none found = s.denies id StaleAttempt refl
   walked-given id number term (Some part) h is none found =
       walked-part id number term part (record { heard = h; up = is; ungranted = none; found = found })
 
   walked-grants : (id : ServerId) (number term : ℕ) (grant : Option Grant) → H (Server id) (Recovered number term) →
-      is_up c.servers id ≡ true → grant_to c id term ≡ grant → M (grants_or_repeats c id number term grant)
+      is_up c.servers id ≡ true → grant_to c id term ≡ grant → M (by_grant c id number term grant)
   walked-grants id number term (Some grant) h is found = s.repeats id term grant is found
   walked-grants id number term None h is found = walked-given id number term (part_of_sender c id number term) h is found refl
 
   walked-recovered : (id : ServerId) (number term : ℕ) → H (Server id) (Recovered number term) → M (takes_recovered c id number term)
   walked-recovered id number term h =
-      either M (is_up c.servers id) (grants_or_repeats c id number term (grant_to c id term)) (c, refuses_server id Deposed ∷ [])
+      either M (is_up c.servers id) (by_grant c id number term (grant_to c id term)) (c, refuses_server id Deposed ∷ [])
       (λ is. walked-grants id number term (grant_to c id term) h is refl) (λ _. s.denies id Deposed refl)
 
   pub walked-creates : (table : ℕ) (owner : ServerId) → M (creates c table owner)

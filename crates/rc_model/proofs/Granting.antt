@@ -1,12 +1,24 @@
 -- What the coordinator commits and grants.
 use Rattle.std.proofs.Common.{◌≡◌, ℕ, true, false, cond, List, [], ◌∷◌, Some, None, refl, ap, ◌∙◌, arith}
 use Rattle.std.proofs.lemmas.Bool.Decides.{nat_tests}
+use Rattle.std.specs.Prelude.{Option, option_and_then}
+use Rattle.std.specs.Option.{option_map_or}
+use Rattle.rc_model.specs.Model.{Part, Grant, grants_part, own_body}
 use Rattle.rc_model.specs.Model.{ServerId, Pair, Deposed, StaleAttempt, Message, CommitOk, put_id, is_up, is_below, greater_pair, Attempt}
-use Rattle.rc_model.specs.Model.{from_coordinator, refuses_server, attempt_at, commits_pair, is_current, grant_to, part_if_current}
-use Rattle.rc_model.specs.Model.{part_in, part_of_sender, grants_if_given, grants_or_repeats, takes_recovered}
+use Rattle.rc_model.specs.Model.{from_coordinator, refuses_server, attempt_at, commits_pair, is_current, grant_to}
+use Rattle.rc_model.specs.Model.{part_in, part_of_sender, takes_recovered}
 use Rattle.rc_model.specs.Coordinator.{Coordinator}
 use Rattle.rc_model.proofs.Tests.{either}
 use Rattle.rc_model.proofs.Tables.{put_id_each, put_id-same}
+
+-- how a Recovered is answered, by the sender's part, and by its grant where it has one
+abbrev pub by_part : Coordinator → ServerId → ℕ → Option Part → Coordinator × List Message
+by_part c id number part = option_map_or (grants_part c id number) part (c, refuses_server id StaleAttempt ∷ [])
+
+abbrev pub by_grant : Coordinator → ServerId → ℕ → ℕ → Option Grant → Coordinator × List Message
+by_grant c id number term grant =
+    option_map_or (λ one. (c, from_coordinator id (own_body one) ∷ [])) grant
+    (by_part c id number (part_of_sender c id number term))
 
 -- no pair is below itself, and of two one isn't below the other
 below-itself : (a : Pair) → is_below a a ≡ false
@@ -54,6 +66,7 @@ pub stale-refused : (c : Coordinator) (id : ServerId) (number term : ℕ) (attem
     takes_recovered c id number term ≡ (c, refuses_server id StaleAttempt ∷ [])
 stale-refused c id number term attempt is fresh at stale =
     let none : part_of_sender c id number term ≡ None =
-    ap (part_if_current c id number term) at ∙ ap (λ b. cond b (part_in id term attempt.decided) None) stale in
-    ap (λ b. cond b (grants_or_repeats c id number term (grant_to c id term)) (c, refuses_server id Deposed ∷ [])) is
-    ∙ (ap (grants_or_repeats c id number term) fresh ∙ ap (grants_if_given c id number) none)
+    ap (option_and_then (λ one. cond (is_current c number one) (part_in id term one.decided) None)) at
+    ∙ ap (λ b. cond b (part_in id term attempt.decided) None) stale in
+    ap (λ b. cond b (by_grant c id number term (grant_to c id term)) (c, refuses_server id Deposed ∷ [])) is
+    ∙ (ap (by_grant c id number term) fresh ∙ ap (by_part c id number) none)

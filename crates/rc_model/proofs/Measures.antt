@@ -1,7 +1,7 @@
 -- Each follow-up lowers the measure, and none applies afterwards.
 use Rattle.std.proofs.Common.{◌≡◌, ◌≢◌, ℕ, zero, suc, ◌+◌, ◌-◌, ◌≤◌, ◌<◌, Bool, true, false, cond, not, ◌&&◌, ◌||◌, nat_eq, nat_lt, List}
 use Rattle.std.proofs.Common.{[], ◌∷◌, ◌++◌, length, map, filter, find, take, Option, Some, None, option_map, Err, refl, sym, ap, ◌∙◌}
-use Rattle.std.proofs.Common.{subst, arith}
+use Rattle.std.proofs.Common.{subst, arith, option_and_then}
 use Rattle.std.proofs.lemmas.List.{length-append, length-take-le, append-nil}
 use Rattle.std.proofs.lemmas.List.Elements.{filter-append}
 use Rattle.std.proofs.lemmas.Bool.{and_parts, ltb-true, ne_eqb}
@@ -20,7 +20,7 @@ use Rattle.rc_model.specs.Model.{is_closing, is_writing, opens_head, next_digest
 use Rattle.rc_model.specs.Model.{may_start, may_close, may_write, left_out, starts, closes_old, writes_on, PartState, after_replay}
 use Rattle.rc_model.specs.Model.{is_to_answer, is_complete, answered_in, Master, ids_of, with_log, durable_replayed, dead_segments}
 use Rattle.rc_model.specs.Model.{appends_entry, when, follow_up, follows_start, follows_placed, close_is_due, close_marked}
-use Rattle.rc_model.specs.Model.{follows_closing, follows_shut, first_open, wants_commit, commits, commits_open, follows_change}
+use Rattle.rc_model.specs.Model.{follows_closing, follows_shut, first_open, wants_commit, commits, follows_change}
 use Rattle.rc_model.specs.Model.{follows_stored, rolls_for_replay, replays, follows_data, answers_part, follows_replay, marks_shut}
 use Rattle.rc_model.specs.Model.{further, followed, rank, one_if, closes_unsent, commits_unsent, parts_unanswered, measure, enough}
 use Rattle.rc_model.specs.Model.{goes_on}
@@ -240,7 +240,8 @@ lowers-commit master seg found wants =
     rank-same master.log (commits master seg).0.log master.log.phase (config master.log.head) in
     record { lower = omega arith; factor = refl }
 
-lowers-open : (master : Master) (open_one : Option ℕ) → first_open master.log ≡ open_one → AllLower master (commits_open master open_one)
+lowers-open : (master : Master) (open_one : Option ℕ) → first_open master.log ≡ open_one → AllLower master
+    (option_and_then (λ one. when (wants_commit (master.log.segments one)) (commits master one)) open_one)
 lowers-open master None found = tt
 lowers-open master (Some seg) found =
     lower-when master (wants_commit (master.log.segments seg)) (commits master seg) (lowers-commit master seg found)

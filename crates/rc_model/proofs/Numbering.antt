@@ -5,10 +5,12 @@ use Rattle.std.proofs.lemmas.Bool.{ne_eqb}
 use Rattle.std.proofs.lemmas.List.{append_assoc}
 use Rattle.rc_model.specs.Model.{Entry, Message, Rolling, ValueTooLong, put, Segment, with_entry, LogPlace, places_in, places_to}
 use Rattle.rc_model.specs.Model.{places_of, entries_of, is_writing, is_full, begin_roll, term_of, is_of, greatest_version, Master}
-use Rattle.rc_model.specs.Model.{dead_segments, appends_entry, is_too_long, written, writes, writes_if_owned, rolls_for_write, refused}
+use Rattle.rc_model.specs.Model.{dead_segments, appends_entry, is_too_long, written, writes, rolls_for_write, refused, if_owned}
+use Rattle.rc_model.specs.Model.{writes_under, NotOwner}
 use Rattle.rc_model.proofs.Tests.{either}
 use Rattle.rc_model.proofs.Tables.{put-same, put-other}
 use Rattle.rc_model.proofs.LogParts.{places_to-agrees}
+use Rattle.std.specs.Option.{option_map_or}
 
 -- no version of the key under the term is above the greatest
 pub greatest-above : (term table key : ℕ) (entries : List Entry) (k : ℕ) (entry : Entry) → slice_get entries k ≡ Some entry →
@@ -73,8 +75,8 @@ pub writes-appended : (master : Master) (term table key : ℕ) (value : Option (
     term_of master.ownership table key ≡ Some term → is_writing master.log.phase ≡ true → is_full master.log ≡ false →
     writes master table key value ≡ appends_entry master (written master term table key value) true
 writes-appended master term table key value short owned writing room =
-    ap (λ b. cond b (refused master ValueTooLong) (writes_if_owned master (term_of master.ownership table key) table key value)) short
-    ∙ (ap (λ t. writes_if_owned master t table key value) owned
+    ap (λ b. cond b (refused master ValueTooLong) (if_owned master table key (λ one. writes_under master one table key value))) short
+    ∙ (ap (λ found. option_map_or (λ one. writes_under master one table key value) found (refused master NotOwner)) owned
     ∙ (ap (λ b. cond (not b) (refused master Rolling)
     (cond (is_full master.log) (rolls_for_write master (begin_roll master.known (dead_segments master) master.log))
     (appends_entry master (written master term table key value) true))) writing

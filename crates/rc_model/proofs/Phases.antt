@@ -1,14 +1,14 @@
 -- Where the phase changes, what a roll opens, and how members change.
 use Rattle.std.proofs.Common.{◌≡◌, ◌⊎◌, inl, inr, ℕ, ◌+◌, true, false, ◌&&◌, ◌||◌, nat_eq, nat_lt, List, [], ◌∷◌, Option, Some, None, Err}
-use Rattle.std.proofs.Common.{refl, sym, ap, ◌∙◌}
+use Rattle.std.proofs.Common.{refl, sym, ap, ◌∙◌, option_and_then}
 use Rattle.std.proofs.lemmas.Bool.{and_parts, or_right}
 use Rattle.rc_model.specs.Heads.{next_digest, opened_on}
 use Rattle.rc_model.specs.Model.{ServerId, Entry, LogFull, Opening, Writing, Message, LAST_SEGMENT, all_placed, choose, is_ready, Log}
 use Rattle.rc_model.specs.Model.{head_of, old_head_of, has_old_head, is_opening, is_closing, is_writing, begin_roll, is_full, may_start}
 use Rattle.rc_model.specs.Model.{may_close, may_write, left_out, with_freed, writes_on, after_replay, to_answer, Master, durable_replayed}
 use Rattle.rc_model.specs.Model.{dead_segments, appends_entry, follow_up, follows_start, follows_placed, close_is_due, follows_closing}
-use Rattle.rc_model.specs.Model.{follows_shut, first_open, wants_commit, commits, commits_open, rolls_for_replay, replays, follows_data}
-use Rattle.rc_model.specs.Model.{answers_part}
+use Rattle.rc_model.specs.Model.{follows_shut, first_open, wants_commit, commits, rolls_for_replay, replays, follows_data}
+use Rattle.rc_model.specs.Model.{answers_part, when}
 use Rattle.rc_model.proofs.Tests.{either, true_false}
 use Rattle.rc_model.proofs.LogParts.{with_freed-marked}
 use Rattle.rc_model.proofs.Rules.{AllDone, done-or, done-when}
@@ -20,7 +20,8 @@ pub record KeepsPhase (old new : Master) : Type 0 where
 abbrev KeepsPhaseDone : Master → Master × List Message → Type 0
 KeepsPhaseDone master done = KeepsPhase master done.0
 
-keeps-change : (master : Master) (open_one : Option ℕ) → AllDone (KeepsPhaseDone master) (commits_open master open_one)
+keeps-change : (master : Master) (open_one : Option ℕ) → AllDone (KeepsPhaseDone master)
+    (option_and_then (λ one. when (wants_commit (master.log.segments one)) (commits master one)) open_one)
 keeps-change master None = tt
 keeps-change master (Some seg) =
     done-when (KeepsPhaseDone master) (wants_commit (master.log.segments seg)) (commits master seg) (λ _. record { phase = inl refl })

@@ -1,6 +1,6 @@
 -- One walk over the rules of a master: a relation that each single rule keeps is kept by its whole steps.
 use Rattle.std.proofs.Common.{◌≡◌, ℕ, zero, suc, ◌+◌, ◌-◌, ◌<◌, not, Bool, true, false, cond, nat_lt, nat_eq, ◌&&◌, List, [], ◌∷◌}
-use Rattle.std.proofs.Common.{◌++◌, map, filter, length, Option, Some, None, Result, Ok, Err, refl, inl, inr}
+use Rattle.std.proofs.Common.{◌++◌, map, filter, length, Option, Some, None, Result, Ok, Err, refl, inl, inr, option_and_then}
 use Rattle.std.proofs.lemmas.Bool.{and_parts, eqb-true, ltb-true}
 use Rattle.rc_model.specs.Heads.{opened_on}
 use Rattle.rc_model.specs.Model.{ServerId, Addr, Server, Entry, Part, PlanRow, Fault, NotOwner, Rolling, ValueTooLong, Deposed, LogFull}
@@ -11,16 +11,17 @@ use Rattle.rc_model.specs.Model.{open_first, is_full, appends, next_digest, begi
 use Rattle.rc_model.specs.Model.{may_start, may_close, may_write, left_out, starts, closes_old, writes_on, knows_term, term_of}
 use Rattle.rc_model.specs.Model.{begin_part, put_data, grant, after_replay, to_answer, after_answer, Master, Task, with_log}
 use Rattle.rc_model.specs.Model.{durable_replayed, to_ids, ids_of, place_of, places_head, appends_entry, dead_segments, refused}
-use Rattle.rc_model.specs.Model.{is_too_long, written, rolls_for_write, writes_under, writes_if_owned, writes, reads_if_owned, then_does}
+use Rattle.rc_model.specs.Model.{is_too_long, written, rolls_for_write, writes_under, writes, then_does}
 use Rattle.rc_model.specs.Model.{places_segment, replaces_lost, replaces_lost_of, opens_first, tries_first, obeys_list, takes_list}
-use Rattle.rc_model.specs.Model.{close_is_due, close_marked, frees_segments, first_open, wants_commit, commits, commits_open, write_oks}
+use Rattle.rc_model.specs.Model.{close_is_due, close_marked, frees_segments, first_open, wants_commit, commits, write_oks}
 use Rattle.rc_model.specs.Model.{new_durable, rolls_for_replay, replays, attempt_of, answers_part, follow_up, marks_shut, further}
 use Rattle.rc_model.specs.Model.{followed, enough, goes_on, fetch_of, reminds, ticks, begins_task, task_of, takes_plan, says_deposed}
-use Rattle.rc_model.specs.Model.{master_takes_first, deposed_takes, master_takes, master_ticks, In}
+use Rattle.rc_model.specs.Model.{master_takes_first, deposed_takes, master_takes, master_ticks, In, reads_under, if_owned, when}
 use Rattle.rc_types.specs.declared.ids.Addr.TheVariants.{Coordinator}
 use Rattle.rc_types.specs.declared.messages.Body.TheVariants.{Plan, List as ServersOf}
 use Rattle.rc_model.proofs.Tests.{either}
 use Rattle.rc_model.proofs.Rules.{AllDone, done-or, done-when}
+use Rattle.std.specs.Option.{option_map_or}
 
 -- What has to hold: the relation goes from a master to what a rule leaves, with what it sends
 
@@ -60,7 +61,7 @@ pub record Taken (R : Master → Master × List Message → Type 0) (master : Ma
       term_of master.ownership table key ≡ Some term → is_writing master.log.phase ≡ true → is_full master.log ≡ false →
       R master (appends_entry master (written master term table key value) true)
   pub reads : (term table key : ℕ) → body ≡ Read table key → term_of master.ownership table key ≡ Some term →
-      R master (reads_if_owned master (Some term) table key)
+      R master (reads_under master term table key)
   pub lists : (version : ℕ) (rows : List (ServerId × Bool)) → body ≡ ServersOf version rows →
       newer_than (from_rows version rows) master.known ≡ true →
       R master (record master { known = from_rows version rows }, [])
@@ -151,7 +152,8 @@ roll-cases master P none opened =
 -- The rules that follow up, one by one
 
 module _ (R : Master → Master × List Message → Type 0) (f : Followed R) where
-  kept-commits : (master : Master) (seg : Option ℕ) → first_open master.log ≡ seg → AllDone (R master) (commits_open master seg)
+  kept-commits : (master : Master) (seg : Option ℕ) → first_open master.log ≡ seg → AllDone (R master)
+      (option_and_then (λ one. when (wants_commit (master.log.segments one)) (commits master one)) seg)
   kept-commits master None e = tt
   kept-commits master (Some seg) e =
       done-when (R master) (wants_commit (master.log.segments seg)) (commits master seg) (λ wants. f.commits master seg e wants)
@@ -291,7 +293,7 @@ module _ (R : Master → Master × List Message → Type 0) (joined : Joined R) 
     kept-owned : (master : Master) (term : Option ℕ) (table key : ℕ) (value : Option (List ℕ)) → Rolls R master →
         ((one : ℕ) → term ≡ Some one → is_writing master.log.phase ≡ true → is_full master.log ≡ false →
         R master (appends_entry master (written master one table key value) true)) →
-        R master (writes_if_owned master term table key value)
+        R master (option_map_or (λ one. writes_under master one table key value) term (refused master NotOwner))
     kept-owned master None table key value rolls p = refuses master NotOwner
     kept-owned master (Some term) table key value rolls p = kept-under master term table key value rolls (p term refl)
 
@@ -301,13 +303,13 @@ module _ (R : Master → Master × List Message → Type 0) (joined : Joined R) 
         R master (writes master table key value)
     kept-writes master table key value rolls p =
         either (R master) (is_too_long value) (refused master ValueTooLong)
-        (writes_if_owned master (term_of master.ownership table key) table key value)
+        (if_owned master table key (λ one. writes_under master one table key value))
         (λ _. refuses master ValueTooLong)
         (λ _. kept-owned master (term_of master.ownership table key) table key value rolls p)
 
     pub kept-reads : (master : Master) (term : Option ℕ) (table key : ℕ) →
-        ((one : ℕ) → term ≡ Some one → R master (reads_if_owned master (Some one) table key)) →
-        R master (reads_if_owned master term table key)
+        ((one : ℕ) → term ≡ Some one → R master (reads_under master one table key)) →
+        R master (option_map_or (λ one. reads_under master one table key) term (refused master NotOwner))
     kept-reads master None table key p = refuses master NotOwner
     kept-reads master (Some term) table key p = p term refl
 

@@ -83,11 +83,10 @@ is_refused seg held = held.fenced || is_freed seg held
 -- the replica as it has become is kept, and answered
 abbrev pub keeps : Backup → ServerId → ℕ → Option Replica → Backup × List Message
 keeps backup master seg None = (backup, [])
-keeps backup master seg (Some replica) = (
-  with_held master (record (backup.held master) { replicas = put_replica seg replica (backup.held master).replicas })
-      backup,
-  between backup.own master (stored_of seg replica) ∷ [],
-)
+keeps backup master seg (Some replica) =
+    let held = backup.held master in
+    let kept : Held = record held { replicas = put_replica seg replica held.replicas } in
+    (with_held master kept backup, between backup.own master (stored_of seg replica) ∷ [])
 
 -- a Place, an Append or a Close of a segment of this master
 abbrev pub stores : Backup → ServerId → ℕ → Body → Backup × List Message
@@ -99,23 +98,16 @@ stores backup master seg body =
 -- nothing
 abbrev pub frees : Backup → ServerId → ℕ → Backup
 frees backup master seg =
-    if (backup.held master).fenced then backup
-    else with_held master (record {
-      fenced = false;
-      replicas = without_replica seg (backup.held master).replicas;
-      freed = insert_once seg (backup.held master).freed;
-    }) backup
+    let held = backup.held master in
+    if held.fenced then backup
+    else with_held master
+    (record { fenced = false; replicas = without_replica seg held.replicas; freed = insert_once seg held.freed }) backup
 
 -- Answering
 
 abbrev pub row_of_replica : ℕ × Replica → Row
-row_of_replica one = record {
-  seg = one.0;
-  epoch = one.1.epoch;
-  closed = one.1.closed;
-  len = length one.1.entries;
-  digest = one.1.digest;
-}
+row_of_replica (seg, kept) =
+    record { seg = seg; epoch = kept.epoch; closed = kept.closed; len = length kept.entries; digest = kept.digest }
 
 -- a row for each replica
 abbrev pub rows_of_replicas : List (ℕ × Replica) → List Row
@@ -154,11 +146,9 @@ backup_takes backup (Server master) (Place seg epoch digest entries closed) =
 backup_takes backup (Server master) (Append seg offset entries) = stores backup master seg (Append seg offset entries)
 backup_takes backup (Server master) (Close seg len) = stores backup master seg (Close seg len)
 backup_takes backup (Server master) (Free seg) = (frees backup master seg, [])
-backup_takes backup (Server asker) (Fetch attempt master seg len part) = (
-  backup,
-  answers_fetch backup asker master
-      (data_of attempt seg len part (replica_of seg (backup.held master).replicas)),
-)
+backup_takes backup (Server asker) (Fetch attempt master seg len part) =
+    let bodies = data_of attempt seg len part (replica_of seg (backup.held master).replicas) in
+    (backup, answers_fetch backup asker master bodies)
 backup_takes backup from (Gather attempt master) = fences backup attempt master
 backup_takes backup _ _ = (backup, [])
 

@@ -3,6 +3,7 @@
 use Rattle.std.specs.Prelude.{ℕ, ◌+◌, ◌-◌, ◌%◌, Bool, true, false, not, nat_eq, nat_lt, ◌&&◌, ◌||◌, if◌then◌else◌}
 use Rattle.std.specs.Prelude.{List, [], ◌∷◌, ◌++◌, length, take, drop, min, max, map, filter, find, Option, Some}
 use Rattle.std.specs.Prelude.{None, option_map, is_some, Result, Ok, Err, option_and_then}
+use Rattle.std.specs.Option.{option_map_or}
 use Rattle.std.specs.List.{list_all, list_any}
 use Rattle.rc_types.specs.declared.ids.ServerId.{ServerId}
 use Rattle.rc_types.specs.declared.kept.Member.{Member}
@@ -82,8 +83,7 @@ abbrev pub all_placed : Config → Bool
 all_placed config = list_all is_placed config.members
 
 abbrev pub told_closed : Option Told → Bool
-told_closed None = false
-told_closed (Some told) = told.closed
+told_closed told = option_map_or (λ one. one.closed) told false
 
 -- the member isn't lost and has told that its replica is closed
 abbrev pub is_closed : Member → Bool
@@ -98,8 +98,7 @@ any_lost members = list_any (λ member. member.lost) members
 
 -- the length that a member told, 0 where it told none
 abbrev pub told_len : Option Told → ℕ
-told_len None = 0
-told_len (Some told) = told.len
+told_len told = option_map_or (λ one. one.len) told 0
 
 -- the least length told by these, which are not none
 abbrev pub least_told : List Member → ℕ
@@ -152,11 +151,9 @@ replaced (member ∷ members) (id ∷ ids) =
 -- Changing members: an open segment takes a fresh epoch, under which nobody has told anything
 
 abbrev pub changed : Config → List ServerId → Config
-changed config ids = record config {
-  members = map (λ member. new_member member.id) (replaced config.members ids);
-  epoch = config.epoch + 1;
-  committed = false;
-}
+changed config ids =
+    let members = map (λ member. new_member member.id) (replaced config.members ids) in
+    record config { members = members; epoch = config.epoch + 1; committed = false }
 
 -- the change begins, where all lost members can be replaced and an epoch is left
 abbrev pub changes_to : Config → Option (List ServerId) → Config × Result Bool Fault

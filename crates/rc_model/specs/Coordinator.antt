@@ -62,13 +62,10 @@ spreads_list servers = to_each (up servers) (list_body servers)
 
 -- an attempt for a master has a fresh number, replaces the earlier one, and asks every id that is up
 abbrev pub begins_attempt : Coordinator → ServerId → Coordinator × List Message
-begins_attempt c master = (
-  record c {
-    attempts = c.attempts ++ new_attempt master ∷ [];
-    current = put_id c.current master (length c.attempts + 1);
-  },
-  to_each (up c.servers) (Gather (length c.attempts + 1) master),
-)
+begins_attempt c master =
+    let number = length c.attempts + 1 in
+    (record c { attempts = c.attempts ++ new_attempt master ∷ []; current = put_id c.current master number },
+    to_each (up c.servers) (Gather number master))
 
 -- the master still has tablets
 abbrev pub has_tablets : Coordinator → ServerId → Bool
@@ -109,11 +106,13 @@ enlists c id =
     then follows_generation (record c { servers = enlisted id c.servers }) (up_of_host id.index c.servers)
     else (c, refuses_server id StaleGeneration ∷ []))
 
--- a Ready is noted where the sender is up
+-- this is done where the sender is up; else it is refused
+abbrev pub if_up : Coordinator → ServerId → Coordinator × List Message → Coordinator × List Message
+if_up c id done = if is_up c.servers id then done else (c, refuses_server id Deposed ∷ [])
+
+-- a Ready is noted
 abbrev pub notes_ready : Coordinator → ServerId → Coordinator × List Message
-notes_ready c id =
-    if is_up c.servers id then (record c { ready = put_id c.ready id true }, [])
-    else (c, refuses_server id Deposed ∷ [])
+notes_ready c id = if_up c id (record c { ready = put_id c.ready id true }, [])
 
 -- Going
 
@@ -130,10 +129,7 @@ suspects c id = if is_up c.servers id then spreads_then_begins (with_crashed c i
 
 -- a Commit: the sender's least pair becomes the greater of the two, and the commit's own pair is answered
 abbrev pub commits_pair : Coordinator → ServerId → Pair → Coordinator × List Message
-commits_pair c id pair =
-    if is_up c.servers id
-    then (
-      record c { least = put_id c.least id (greater_pair (c.least id) pair) },
-      from_coordinator id (CommitOk pair.seg pair.epoch) ∷ [],
-    )
-    else (c, refuses_server id Deposed ∷ [])
+commits_pair c id pair = if_up c id (
+  record c { least = put_id c.least id (greater_pair (c.least id) pair) },
+  from_coordinator id (CommitOk pair.seg pair.epoch) ∷ [],
+)

@@ -2,6 +2,7 @@
 use Rattle.std.specs.Prelude.{ℕ, ◌+◌, Bool, not, nat_eq, nat_le, ◌&&◌, if◌then◌else◌, List, [], ◌∷◌, ◌++◌, length}
 use Rattle.std.specs.Prelude.{filter, Option, Some, None}
 use Rattle.std.specs.List.{list_any}
+use Rattle.std.specs.Option.{option_map_or}
 use Rattle.rc_types.specs.declared.rows.KeyRange.{KeyRange}
 use Rattle.rc_types.specs.declared.ids.ServerId.{ServerId}
 use Rattle.rc_types.specs.declared.ids.Addr.{Addr}
@@ -22,7 +23,7 @@ use Rattle.rc_model.specs.ServerList.{is_up, up}
 use Rattle.rc_model.specs.Tablets.{tablet_of, has_table, with_table, split_at}
 use Rattle.rc_model.specs.Attempts.{Decision, Attempt, has_answered, parts_of, plan_messages}
 use Rattle.rc_model.specs.Coordinator.{Coordinator, spreads_list, enlists, notes_ready, commits_pair}
-use Rattle.rc_model.specs.Deciding.{is_current, keeps_answer, own_body, takes_recovered}
+use Rattle.rc_model.specs.Deciding.{is_current, keeps_answer, grants_anew, takes_recovered}
 
 -- Tables
 
@@ -34,14 +35,9 @@ first_grant table owner term =
 
 -- the table goes to its owner under a fresh term
 abbrev pub creates_table : Coordinator → ℕ → ServerId → Coordinator × List Message
-creates_table c table owner = (
-  record c {
-    tablets = with_table table owner (c.last_term + 1) c.tablets;
-    grants = c.grants ++ first_grant table owner (c.last_term + 1) ∷ [];
-    last_term = c.last_term + 1;
-  },
-  from_coordinator owner (own_body (first_grant table owner (c.last_term + 1))) ∷ [],
-)
+creates_table c table owner =
+    let term = c.last_term + 1 in
+    grants_anew (record c { last_term = term }) (with_table table owner term c.tablets) (first_grant table owner term)
 
 abbrev pub is_too_many : List Tablet → Bool
 is_too_many tablets = nat_le MAX_TABLETS (length tablets)
@@ -60,14 +56,12 @@ split_fault tablets at (Some tablet) =
     if nat_eq at tablet.lo then Some BadSplit
     else (if tablet.crashed then Some Recovering else (if is_too_many tablets then Some TooManyTablets else None))
 
-abbrev pub splits_unless : Coordinator → ℕ → ℕ → Option Fault → Coordinator × List Message
-splits_unless c table at (Some fault) = (c, coordinator_refuses fault ∷ [])
-splits_unless c table at None =
-    (record c { tablets = split_at table at c.tablets }, coordinator_tells (SplitOk table at) ∷ [])
-
 -- a split of the tablet that holds the key
 abbrev pub splits : Coordinator → ℕ → ℕ → Coordinator × List Message
-splits c table at = splits_unless c table at (split_fault c.tablets at (tablet_of c.tablets table at))
+splits c table at =
+    let fault = split_fault c.tablets at (tablet_of c.tablets table at) in
+    option_map_or (λ why. (c, coordinator_refuses why ∷ [])) fault
+    (record c { tablets = split_at table at c.tablets }, coordinator_tells (SplitOk table at) ∷ [])
 
 -- The timer
 

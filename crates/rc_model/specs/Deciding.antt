@@ -1,24 +1,26 @@
 -- What the coordinator does for recoveries: answers, the decision, and the grants.
 use Rattle.std.specs.Prelude.{ℕ, ◌+◌, ◌-◌, Bool, not, nat_eq, ◌&&◌, if◌then◌else◌, List, [], ◌∷◌, ◌++◌, length}
 use Rattle.std.specs.Prelude.{filter, find, Option, Some, None, Result, Ok, Err, option_and_then}
+use Rattle.std.specs.Option.{option_map_or}
 use Rattle.rc_types.specs.declared.ids.ServerId.{ServerId}
 use Rattle.rc_types.specs.declared.rows.Row.{Row}
 use Rattle.rc_types.specs.declared.rows.Plan.{Plan}
 use Rattle.rc_types.specs.declared.rows.Part.{Part}
 use Rattle.rc_types.specs.declared.rows.KeyRange.{KeyRange}
+use Rattle.rc_types.specs.declared.rows.Tablet.{Tablet}
 use Rattle.rc_types.specs.declared.kept.Grant.{Grant}
 use Rattle.rc_types.specs.declared.faults.Fault.{Fault}
-use Rattle.rc_types.specs.declared.faults.Fault.TheVariants.{Deposed, StaleAttempt, NotReady, NoTable}
+use Rattle.rc_types.specs.declared.faults.Fault.TheVariants.{StaleAttempt, NotReady, NoTable}
 use Rattle.rc_types.specs.declared.messages.Message.{Message}
 use Rattle.rc_types.specs.declared.messages.Body.{Body}
 use Rattle.rc_types.specs.declared.messages.Body.TheVariants.{Own}
 use Rattle.rc_model.specs.Ids.{same_id}
 use Rattle.rc_model.specs.Messages.{from_coordinator, coordinator_refuses}
-use Rattle.rc_model.specs.ServerList.{is_up, up}
+use Rattle.rc_model.specs.ServerList.{up}
 use Rattle.rc_model.specs.Tablets.{tablets_of, has_range, assigned}
 use Rattle.rc_model.specs.Pick.{pick}
 use Rattle.rc_model.specs.Attempts.{Decision, Attempt, is_gathering, has_answered, gives_parts, parts_of, plan_messages}
-use Rattle.rc_model.specs.Coordinator.{Coordinator, refuses_server, attempt_at, with_attempt}
+use Rattle.rc_model.specs.Coordinator.{Coordinator, refuses_server, attempt_at, with_attempt, if_up}
 
 -- the attempt of this number is its master's current one
 abbrev pub is_current : Coordinator → ℕ → Attempt → Bool
@@ -30,15 +32,13 @@ abbrev pub with_answer : ServerId → List Row → Attempt → Attempt
 with_answer from rows attempt = record attempt { replies = attempt.replies ++ (from, rows) ∷ [] }
 
 -- an answer is kept where its attempt is its master's current one, still gathering, and has none of the sender
-abbrev pub keeps_answer_in : Coordinator → ServerId → ℕ → List Row → Option Attempt → Coordinator
-keeps_answer_in c from number rows None = c
-keeps_answer_in c from number rows (Some attempt) =
+abbrev pub keeps_answer_in : Coordinator → ServerId → ℕ → List Row → Attempt → Coordinator
+keeps_answer_in c from number rows attempt =
     if is_current c number attempt && (is_gathering attempt && not (has_answered from attempt.replies))
-    then with_attempt c number (with_answer from rows attempt)
-    else c
+    then with_attempt c number (with_answer from rows attempt) else c
 
 abbrev pub keeps_answer : Coordinator → ServerId → ℕ → List Row → Coordinator
-keeps_answer c from number rows = keeps_answer_in c from number rows (attempt_at c number)
+keeps_answer c from number rows = option_map_or (keeps_answer_in c from number rows) (attempt_at c number) c
 
 -- The decision
 
@@ -53,11 +53,9 @@ decision_of c number master plan ids =
 
 -- the decision is kept, its terms are used up, and the plan goes out
 abbrev pub decides_on : Coordinator → ℕ → Attempt → Decision → List ServerId → Coordinator × List Message
-decides_on c number attempt decision ids = (
-  record (with_attempt c number (record attempt { decided = Some decision }))
-      { last_term = c.last_term + length decision.parts },
-  plan_messages number attempt.master decision ids,
-)
+decides_on c number attempt decision ids =
+    let kept = with_attempt c number (record attempt { decided = Some decision }) in
+    (record kept { last_term = c.last_term + length decision.parts }, plan_messages number attempt.master decision ids)
 
 -- no log can be picked, or nobody is ready: the attempt goes on gathering
 abbrev pub decides_with : Coordinator → ℕ → Attempt → Result Plan Fault → List ServerId → Coordinator × List Message
@@ -101,39 +99,30 @@ abbrev pub part_in : ServerId → ℕ → Option Decision → Option Part
 part_in id term decided =
     option_and_then (λ decision. find (λ part. nat_eq part.term term) (parts_of id decision.parts)) decided
 
-abbrev pub part_if_current : Coordinator → ServerId → ℕ → ℕ → Option Attempt → Option Part
-part_if_current c id number term None = None
-part_if_current c id number term (Some attempt) =
-    if is_current c number attempt then part_in id term attempt.decided else None
-
 -- the part of this term that the id has in this attempt, where that is its master's current one
 abbrev pub part_of_sender : Coordinator → ServerId → ℕ → ℕ → Option Part
-part_of_sender c id number term = part_if_current c id number term (attempt_at c number)
+part_of_sender c id number term =
+    option_and_then (λ attempt. if is_current c number attempt then part_in id term attempt.decided else None)
+    (attempt_at c number)
 
--- the tablet of the part's range gets its new owner and term, and the grant is remembered for good
+-- a new grant is remembered for good, with the tablets that it makes, and its owner gets the Own
+abbrev pub grants_anew : Coordinator → List Tablet → Grant → Coordinator × List Message
+grants_anew c tablets grant = (
+  record c { tablets = tablets; grants = c.grants ++ grant ∷ [] },
+  from_coordinator grant.owner (own_body grant) ∷ [],
+)
+
+-- the tablet of the part's range gets its new owner and term
 abbrev pub grants_part : Coordinator → ServerId → ℕ → Part → Coordinator × List Message
 grants_part c id number part =
     if has_range (range_of part) c.tablets
-    then (
-      record c {
-        tablets = assigned (range_of part) id part.term c.tablets;
-        grants = c.grants ++ grant_of number id part ∷ [];
-      },
-      from_coordinator id (own_body (grant_of number id part)) ∷ [],
-    )
+    then grants_anew c (assigned (range_of part) id part.term c.tablets) (grant_of number id part)
     else (c, refuses_server id NoTable ∷ [])
 
-abbrev pub grants_if_given : Coordinator → ServerId → ℕ → Option Part → Coordinator × List Message
-grants_if_given c id number None = (c, refuses_server id StaleAttempt ∷ [])
-grants_if_given c id number (Some part) = grants_part c id number part
-
--- a term that was granted to the sender before is granted by the same Own again
-abbrev pub grants_or_repeats : Coordinator → ServerId → ℕ → ℕ → Option Grant → Coordinator × List Message
-grants_or_repeats c id number term (Some grant) = (c, from_coordinator id (own_body grant) ∷ [])
-grants_or_repeats c id number term None = grants_if_given c id number (part_of_sender c id number term)
-
--- a Recovered of a term
+-- a Recovered of a term: one that was granted to the sender before is granted by the same Own again, and one that it
+-- has in its attempt is granted now
 abbrev pub takes_recovered : Coordinator → ServerId → ℕ → ℕ → Coordinator × List Message
-takes_recovered c id number term =
-    if is_up c.servers id then grants_or_repeats c id number term (grant_to c id term)
-    else (c, refuses_server id Deposed ∷ [])
+takes_recovered c id number term = if_up c id (
+    option_map_or (λ grant. (c, from_coordinator id (own_body grant) ∷ [])) (grant_to c id term)
+    (option_map_or (grants_part c id number) (part_of_sender c id number term)
+    (c, refuses_server id StaleAttempt ∷ [])))

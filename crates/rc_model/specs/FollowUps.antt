@@ -1,9 +1,11 @@
 -- The rules that a master follows up each input with: the first that applies is made, and the search begins anew.
 use Rattle.std.specs.Prelude.{ℕ, ◌+◌, ◌*◌, ◌-◌, Bool, true, false, not, nat_eq, nat_lt, ◌&&◌, if◌then◌else◌, List}
 use Rattle.std.specs.Prelude.{[], ◌∷◌, ◌++◌, length, drop, take, find, filter, Option, Some, None, zero, suc, Result}
-use Rattle.std.specs.Prelude.{Ok, Err}
+use Rattle.std.specs.Prelude.{Ok, Err, option_and_then}
 use Rattle.std.specs.List.{flat_map}
-use Rattle.std.specs.Option.{option_or}
+use Rattle.std.specs.Option.{option_or, option_map_or}
+-- the rule applies, and does this
+pub use Rattle.std.specs.Bool.{then_some as when}
 use Rattle.rc_types.specs.declared.ids.ServerId.{ServerId}
 use Rattle.rc_types.specs.declared.entries.Entry.{Entry}
 use Rattle.rc_types.specs.declared.faults.Fault.{Fault}
@@ -19,11 +21,7 @@ use Rattle.rc_model.specs.Heads.{closes_old, writes_on}
 use Rattle.rc_model.specs.Ownership.{after_replay, to_answer, after_answer}
 use Rattle.rc_model.specs.Master.{Master, Task, with_log, durable_replayed, to_ids, ids_of, to_unlost, places_head}
 use Rattle.rc_model.specs.Master.{appends_entry, dead_segments}
-
--- the rule applies, and does this
-abbrev pub when : Bool → Master × List Message → Option (Master × List Message)
-when false done = None
-when true done = Some done
+use Rattle.rc_model.specs.ListRules.{then_does}
 
 -- Starting, closing the old head, writing in the new one
 
@@ -55,11 +53,8 @@ abbrev pub frees_segments : Log → List ℕ → List Message
 frees_segments log segs = flat_map (λ seg. to_unlost log seg (Free seg)) segs
 
 abbrev pub follows_shut : Master → Option (Master × List Message)
-follows_shut master =
-    when (may_write master.log) (
-      with_log master (writes_on master.log),
-      frees_segments master.log (left_out master.log),
-    )
+follows_shut master = when (may_write master.log)
+    (with_log master (writes_on master.log), frees_segments master.log (left_out master.log))
 
 -- Commits
 
@@ -72,18 +67,14 @@ abbrev pub wants_commit : Segment → Bool
 wants_commit segment = not segment.config.committed && (all_placed segment.config && not segment.commit_sent)
 
 abbrev pub commits : Master → ℕ → Master × List Message
-commits master seg = (
-  with_log master (with_segment seg (record (master.log.segments seg) { commit_sent = true }) master.log),
-  to_coordinator master.log.own (Commit seg (master.log.segments seg).config.epoch) ∷ [],
-)
-
-abbrev pub commits_open : Master → Option ℕ → Option (Master × List Message)
-commits_open master None = None
-commits_open master (Some seg) = when (wants_commit (master.log.segments seg)) (commits master seg)
+commits master seg =
+    let log = with_segment seg (record (master.log.segments seg) { commit_sent = true }) master.log in
+    (with_log master log, to_coordinator master.log.own (Commit seg (master.log.segments seg).config.epoch) ∷ [])
 
 -- Commit of a segment, where no earlier one is open
 abbrev pub follows_change : Master → Option (Master × List Message)
-follows_change master = commits_open master (first_open master.log)
+follows_change master =
+    option_and_then (λ seg. when (wants_commit (master.log.segments seg)) (commits master seg)) (first_open master.log)
 
 -- Acknowledging
 
@@ -155,8 +146,7 @@ marks_shut master = with_log master (with_shut master.log)
 
 -- what one rule did, and then the others
 abbrev pub further : Option (Master × List Message) → Master → (Master → Master × List Message) → Master × List Message
-further None master others = (master, [])
-further (Some (next, messages)) master others = let after = others next in (after.0, messages ++ after.1)
+further done master others = option_map_or (λ one. then_does one others) done (master, [])
 
 -- the rules, at most so many times: from the first on again after each
 abbrev pub followed : ℕ → Master → Master × List Message

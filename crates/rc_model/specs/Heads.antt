@@ -3,6 +3,7 @@
 use Rattle.std.specs.Prelude.{ℕ, ◌+◌, ◌-◌, Bool, true, false, not, nat_eq, nat_lt, nat_le, ◌&&◌, ◌||◌, if◌then◌else◌}
 use Rattle.std.specs.Prelude.{List, [], ◌∷◌, ◌++◌, length, map, filter, Option, Some, None, Result, Ok, Err}
 use Rattle.std.specs.List.{list_any, fold}
+use Rattle.std.specs.Option.{option_map_or}
 use Rattle.rc_types.specs.declared.ids.ServerId.{ServerId}
 use Rattle.rc_types.specs.declared.entries.Entry.{Entry}
 use Rattle.rc_types.specs.declared.kept.Phase.TheVariants.{Opening, Closing, Writing}
@@ -20,16 +21,13 @@ use Rattle.rc_model.specs.Log.{is_closing, is_writing}
 
 -- a head is opened with this digest on these members
 abbrev pub opens_head : Log → List ℕ → List ServerId → Log
-opens_head log digest ids = record log {
-  head = log.head + 1;
-  segments = put log.segments (log.head + 1) (new_segment (log.head + 1) digest ids);
-  phase = Opening;
-}
+opens_head log digest ids =
+    let seg = log.head + 1 in
+    record log { head = seg; segments = put log.segments seg (new_segment seg digest ids); phase = Opening }
 
 -- a head with this digest on these members, if they can be chosen
 abbrev pub opened_on : Log → List ℕ → Option (List ServerId) → Log × Result Bool Fault
-opened_on log digest None = (log, Err NoBackups)
-opened_on log digest (Some ids) = (opens_head log digest ids, Ok true)
+opened_on log digest ids = option_map_or (λ on. (opens_head log digest on, Ok true)) ids (log, Err NoBackups)
 
 -- the first head: segment 1, alone in its digest
 abbrev pub open_first : ServerList → Log → Log × Result Bool Fault
@@ -123,8 +121,7 @@ left_out log = filter (λ seg. not (list_any (nat_eq seg) (head_of log).digest))
 
 -- these segments are marked freed
 abbrev pub with_freed : List ℕ → Log → Log
-with_freed segs log =
-    fold (λ now seg. with_segment seg (record (now.segments seg) { freed = true }) now) log segs
+with_freed segs log = fold (λ now seg. with_segment seg (record (now.segments seg) { freed = true }) now) log segs
 
 abbrev pub starts : Log → Log
 starts log = record log { phase = Writing }

@@ -37,8 +37,7 @@ opens_first master (log, Err fault) = (master, [])
 abbrev pub tries_first : Master → Master × List Message
 tries_first master =
     if nat_eq master.log.head 0 && is_up master.known master.log.own
-    then opens_first master (open_first master.known master.log)
-    else (master, [])
+    then opens_first master (open_first master.known master.log) else (master, [])
 
 -- the list rules: over the segments, ascending, and then the first head
 abbrev pub obeys_list : Master → Master × List Message

@@ -5,6 +5,7 @@ use Rattle.rc_types.specs.declared.ids.Addr.{Addr}
 use Rattle.rc_types.specs.declared.ids.Addr.TheVariants.{Server, Coordinator}
 use Rattle.rc_types.specs.declared.rows.Part.{Part}
 use Rattle.rc_types.specs.declared.rows.PlanRow.{PlanRow}
+use Rattle.rc_types.specs.declared.kept.GrantedRange.{GrantedRange}
 use Rattle.rc_types.specs.declared.faults.Code.{Code}
 use Rattle.rc_types.specs.declared.faults.Code.TheVariants as code
 use Rattle.rc_types.specs.declared.faults.Fault.TheVariants.{Deposed}
@@ -24,14 +25,10 @@ use Rattle.rc_model.specs.MasterTick.{fetch_of, ticks}
 -- a part whose term isn't known is begun, and each of its rows is fetched from its holder
 abbrev pub begins_task : Task → Master → Master × List Message
 begins_task task master =
+    let begun = begin_part task.part (map (λ row. (row.seg, row.holder)) task.rows) master.ownership in
     if knows_term master.ownership task.part.term then (master, [])
-    else (
-      record master {
-        ownership = begin_part task.part (map (λ row. (row.seg, row.holder)) task.rows) master.ownership;
-        tasks = master.tasks ++ task ∷ [];
-      },
-      map (fetch_of master.log.own task) task.rows,
-    )
+    else (record master { ownership = begun; tasks = master.tasks ++ task ∷ [] },
+    map (fetch_of master.log.own task) task.rows)
 
 abbrev pub task_of : ℕ → ServerId → List PlanRow → Part → Task
 task_of attempt master rows part = record { attempt = attempt; master = master; rows = rows; part = part }
@@ -61,13 +58,9 @@ master_takes_first master Coordinator (Refused reason) =
 master_takes_first master from (Plan head attempt crashed rows parts) = takes_plan attempt crashed rows parts master
 master_takes_first master (Server from) (Data attempt seg term entries) =
     (record master { ownership = put_data term seg from entries master.ownership }, [])
-master_takes_first master from (Own table lo hi term previous attempt) = (
-  record master {
-    ownership = grant (record { range = record { table = table; lo = lo; hi = hi }; term = term })
-        master.ownership;
-  },
-  [],
-)
+master_takes_first master from (Own table lo hi term previous attempt) =
+    let granted : GrantedRange = record { range = record { table = table; lo = lo; hi = hi }; term = term } in
+    (record master { ownership = grant granted master.ownership }, [])
 master_takes_first master from _ = (master, [])
 
 -- a deposed master refuses clients, and does nothing else

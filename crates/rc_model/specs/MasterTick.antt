@@ -24,8 +24,7 @@ use Rattle.rc_model.specs.FollowUps.{attempt_of}
 -- tick
 abbrev pub stood : Log → Log → ℕ → ServerId → Bool
 stood before log seg id =
-    has_segment before seg
-    && (nat_eq (before.segments seg).config.epoch (log.segments seg).config.epoch
+    has_segment before seg && (nat_eq (before.segments seg).config.epoch (log.segments seg).config.epoch
     && has_id id (ids_of (before.segments seg).config.members))
 
 -- the members of a segment to which the list rules have sent nothing
@@ -105,17 +104,14 @@ recovered_again master =
 abbrev pub ready_again : Master → List Message
 ready_again master =
     if is_writing master.log.phase && nat_eq (length master.ownership.grants) 0
-    then to_coordinator master.log.own Ready ∷ []
-    else []
+    then to_coordinator master.log.own Ready ∷ [] else []
 
 -- all that was not answered, but for what the list rules have just sent
 abbrev pub reminds : Log → Master → Master × List Message
-reminds before master = (
-  master,
-  reminds_open before master.log (numbers_to master.log.head) ++
-      reminds_shut before master.log (numbers_to master.log.head)
-      ++ commits_again master.log ++ fetches_again master master.tasks ++ recovered_again master ++ ready_again master,
-)
+reminds before master =
+    let segs = numbers_to master.log.head in
+    (master, reminds_open before master.log segs ++ reminds_shut before master.log segs ++ commits_again master.log
+    ++ fetches_again master master.tasks ++ recovered_again master ++ ready_again master)
 
 -- the timer: a master that isn't up by its list enlists; another obeys its list anew, and reminds
 abbrev pub ticks : Master → Master × List Message

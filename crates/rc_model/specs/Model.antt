@@ -74,13 +74,13 @@ pub use Rattle.rc_model.specs.CoordinatorClaims.{CommitsAreCovered, CrashedAreGr
 pub use Rattle.rc_model.specs.CoordinatorClaims.{LeastPairsNeverFall, StaleAttemptsGrantNothing}
 pub use Rattle.rc_model.specs.CoordinatorStep.{asks_again, asks_again_of, coordinator_takes, coordinator_ticks}
 pub use Rattle.rc_model.specs.CoordinatorStep.{creates, creates_table, first_grant, has_open_part, is_granted_term}
-pub use Rattle.rc_model.specs.CoordinatorStep.{is_too_many, split_fault, splits, splits_unless}
+pub use Rattle.rc_model.specs.CoordinatorStep.{is_too_many, split_fault, splits}
 pub use Rattle.rc_model.specs.Deciding.{decides, decides_attempt, decides_on, decides_with, decision_of, grant_of}
-pub use Rattle.rc_model.specs.Deciding.{grant_to, grants_if_given, grants_or_repeats, grants_part, is_current}
-pub use Rattle.rc_model.specs.Deciding.{is_grant_to, keeps_answer, keeps_answer_in, own_body, part_if_current}
+pub use Rattle.rc_model.specs.Deciding.{grant_to, grants_anew, grants_part, is_current}
+pub use Rattle.rc_model.specs.Deciding.{is_grant_to, keeps_answer, keeps_answer_in, own_body}
 pub use Rattle.rc_model.specs.Deciding.{part_in, part_of_sender, range_of, ready_ids, takes_recovered, with_answer}
 pub use Rattle.rc_model.specs.Durable.{EarlierWereStored, IsDurable, WasStored, all_shut_to, is_stored_on_all}
-pub use Rattle.rc_model.specs.FollowUps.{answers_part, attempt_of, close_is_due, close_marked, commits, commits_open}
+pub use Rattle.rc_model.specs.FollowUps.{answers_part, attempt_of, close_is_due, close_marked, commits}
 pub use Rattle.rc_model.specs.FollowUps.{enough, first_open, follow_up, followed, follows_change, follows_closing}
 pub use Rattle.rc_model.specs.FollowUps.{follows_data, follows_placed, follows_replay, follows_shut, follows_start}
 pub use Rattle.rc_model.specs.FollowUps.{follows_stored, frees_segments, further, goes_on, marks_shut, new_durable}
@@ -166,5 +166,5 @@ pub use Rattle.rc_model.specs.World.{with_last_view, work_of}
 pub use Rattle.rc_model.specs.WorldClaims.{CoordinatorFollowsItsWorks, EachNodeIsTheSame, GenerationsNeverFall}
 pub use Rattle.rc_model.specs.WorldClaims.{HostsFollowTheirWorks, ImpossibleChangesNothing, OneMoreEventIsAStep}
 pub use Rattle.rc_model.specs.WorldClaims.{PossibleIsNoted, SameNodesAreEqual, SentOnlyGrows}
-pub use Rattle.rc_model.specs.Writing.{is_too_long, reads, reads_if_owned, refused, rolls_for_write, writes}
-pub use Rattle.rc_model.specs.Writing.{writes_if_owned, writes_under, written}
+pub use Rattle.rc_model.specs.Writing.{if_owned, is_too_long, reads, reads_under, refused, rolls_for_write, writes}
+pub use Rattle.rc_model.specs.Writing.{writes_under, written}

@@ -2,6 +2,7 @@
 -- can be given and what it then does depend on its own state and on that work alone.
 use Rattle.std.specs.Prelude.{ℕ, ◌+◌, Bool, true, false, nat_lt, ◌&&◌, if◌then◌else◌, List, [], ◌∷◌, Option, Some}
 use Rattle.std.specs.Prelude.{None, slice_get, is_some, unwrap_or}
+use Rattle.std.specs.Option.{option_map_or}
 use Rattle.rc_types.specs.declared.ids.ServerId.{ServerId}
 use Rattle.rc_types.specs.declared.ids.Addr.{Addr}
 use Rattle.rc_types.specs.declared.ids.Addr.TheVariants.{Server, Outside}
@@ -85,13 +86,9 @@ abbrev pub master_setup : Setup → ℕ → MasterSetup
 master_setup setup index = record { factor = factor_of setup index; size = setup.segment; free = setup.free }
 
 abbrev pub new_host : ℕ → MasterSetup → HostNode
-new_host index setup = record {
-  index = index;
-  setup = setup;
-  generation = 0;
-  backup = new_backup (record { index = index; generation = 0 });
-  master = None;
-}
+new_host index setup =
+    let backup = new_backup (record { index = index; generation = 0 }) in
+    record { index = index; setup = setup; generation = 0; backup = backup; master = None }
 
 -- the server of the host's last start
 abbrev pub server_of : HostNode → ServerId
@@ -139,19 +136,14 @@ takes_if_running host (Some master) message =
     if is_server (server_of host) message.to then server_takes host master message else (host, [])
 
 abbrev pub ticks_if_running : HostNode → Option Master → HostNode × List Message
-ticks_if_running host None = (host, [])
-ticks_if_running host (Some master) = with_master host (master_ticks master)
+ticks_if_running host running = option_map_or (λ master. with_master host (master_ticks master)) running (host, [])
 
 -- a start gives the next generation, a new master, and the backup restarted; the server enlists
 abbrev pub starts_host : HostNode → ServerId → List (ServerId × ℕ) → HostNode × List Message
-starts_host host own kept = (
-  record host {
-    generation = own.generation;
-    backup = restart own kept host.backup;
-    master = Some (new_master own host.setup);
-  },
-  to_coordinator own Enlist ∷ [],
-)
+starts_host host own kept =
+    let backup = restart own kept host.backup in
+    let master = new_master own host.setup in
+    (record host { generation = own.generation; backup = backup; master = Some master }, to_coordinator own Enlist ∷ [])
 
 abbrev pub next_server : HostNode → ServerId
 next_server host = record { index = host.index; generation = host.generation + 1 }

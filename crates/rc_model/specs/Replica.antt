@@ -30,8 +30,7 @@ placed replica epoch sent closed =
 abbrev pub appended : Replica → ℕ → List Entry → Replica
 appended replica offset sent =
     if not replica.closed && nat_le offset (length replica.entries)
-    then record replica { entries = grown replica.entries offset sent }
-    else replica
+    then record replica { entries = grown replica.entries offset sent } else replica
 
 -- a Close at this length closes it
 abbrev pub closes : Replica → ℕ → Bool

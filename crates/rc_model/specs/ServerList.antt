@@ -59,10 +59,8 @@ id_crashed id rows = map (λ row. (row.0, (if same_id id row.0 then false else r
 
 -- an id that is up crashes; of another nothing changes
 abbrev pub crashed : ServerId → ServerList → ServerList
-crashed id servers = if is_up servers id then record {
-  version = servers.version + 1;
-  rows = id_crashed id servers.rows;
-} else servers
+crashed id servers =
+    if is_up servers id then record { version = servers.version + 1; rows = id_crashed id servers.rows } else servers
 
 -- of rows with one id the first counts
 abbrev pub first_rows : List (ServerId × Bool) → List (ServerId × Bool) → List (ServerId × Bool)

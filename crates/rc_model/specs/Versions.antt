@@ -2,6 +2,7 @@
 use Rattle.std.specs.Prelude.{ℕ, ◌+◌, Bool, true, nat_eq, nat_lt, ◌&&◌, if◌then◌else◌, List, [], ◌∷◌, max, Option}
 use Rattle.std.specs.Prelude.{Some, None}
 use Rattle.std.specs.List.{list_any, list_all, fold}
+use Rattle.std.specs.Option.{option_map_or}
 use Rattle.rc_types.specs.declared.entries.Entry.{Entry}
 
 -- the entry is of this key, under this term
@@ -21,8 +22,7 @@ next_version term table key entries = greatest_version term table key entries + 
 
 -- a version is above that of the entry that was found, and where none was found any is
 abbrev pub is_above : Option Entry → ℕ → Bool
-is_above None version = true
-is_above (Some found) version = nat_lt found.version version
+is_above found version = option_map_or (λ entry. nat_lt entry.version version) found true
 
 -- an entry of the key is found, unless one of as great a version was
 abbrev pub or_greater : ℕ → ℕ → ℕ → Option Entry → Entry → Option Entry

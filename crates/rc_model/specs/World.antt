@@ -1,6 +1,7 @@
 -- The world: all nodes, and all messages ever sent. An event is one input, taken by one node.
 use Rattle.std.specs.Prelude.{ℕ, Bool, true, false, nat_eq, if◌then◌else◌, List, [], ◌∷◌, ◌++◌, Option, Some, None}
 use Rattle.std.specs.Prelude.{slice_get, option_map}
+use Rattle.std.specs.Option.{option_map_or}
 use Rattle.std.specs.List.{fold}
 use Rattle.rc_types.specs.declared.ids.ServerId.{ServerId}
 pub use Rattle.rc_types.specs.declared.ids.NodeName.{NodeName}
@@ -73,8 +74,7 @@ node_can world TheCoordinator work = coordinator_can work
 node_can world (TheHost index) work = host_can (world.hosts index) work
 
 abbrev pub is_possible_job : World → Option Job → Bool
-is_possible_job world None = false
-is_possible_job world (Some job) = node_can world job.node job.work
+is_possible_job world job = option_map_or (λ one. node_can world one.node one.work) job false
 
 -- the event is possible in this world
 abbrev pub is_possible : World → Event → Bool
@@ -84,8 +84,7 @@ is_possible world event = is_possible_job world (work_of world.sent event)
 
 -- the last views with that of the host's master, where it runs
 abbrev pub with_last_view : (ServerId → Master) → Option Master → ServerId → Master
-with_last_view masters None = masters
-with_last_view masters (Some master) = put_id masters master.log.own master
+with_last_view masters running = option_map_or (λ master. put_id masters master.log.own master) running masters
 
 -- a host's new state is put into place
 abbrev pub with_host : World → ℕ → HostNode → World
@@ -110,8 +109,7 @@ node_done world event TheCoordinator work = coordinator_done world event (coordi
 node_done world event (TheHost index) work = host_done world event index (host_step (world.hosts index) work)
 
 abbrev pub job_done : World → Event → Option Job → World
-job_done world event None = world
-job_done world event (Some job) = node_done world event job.node job.work
+job_done world event job = option_map_or (λ one. node_done world event one.node one.work) job world
 
 -- a step; an event that isn't possible changes nothing
 abbrev pub step : World → Event → World

@@ -1,6 +1,7 @@
 -- A client's write and read at a master, with their refusals in order.
 use Rattle.std.specs.Prelude.{ℕ, Bool, true, false, not, nat_lt, if◌then◌else◌, List, [], ◌∷◌, ◌++◌, length, Option}
-use Rattle.std.specs.Prelude.{Some, None, Result, Ok, Err}
+use Rattle.std.specs.Prelude.{Result, Ok, Err}
+use Rattle.std.specs.Option.{option_map_or}
 use Rattle.rc_types.specs.declared.entries.Entry.{Entry}
 use Rattle.rc_types.specs.declared.faults.Fault.{Fault}
 use Rattle.rc_types.specs.declared.faults.Fault.TheVariants.{NotOwner, Rolling, ValueTooLong}
@@ -20,18 +21,13 @@ refused master fault = (master, refuses master.log.own fault ∷ [])
 
 -- the value is longer than a value may be
 abbrev pub is_too_long : Option (List ℕ) → Bool
-is_too_long None = false
-is_too_long (Some bytes) = nat_lt MAX_VALUE (length bytes)
+is_too_long value = option_map_or (λ bytes. nat_lt MAX_VALUE (length bytes)) value false
 
 -- the entry of a write under a term
 abbrev pub written : Master → ℕ → ℕ → ℕ → Option (List ℕ) → Entry
-written master term table key value = record {
-  term = term;
-  table = table;
-  key = key;
-  version = next_version term table key (entries_of master.log);
-  value = value;
-}
+written master term table key value =
+    let version = next_version term table key (entries_of master.log) in
+    record { term = term; table = table; key = key; version = version; value = value }
 
 -- what a full head means to a write: a roll begins, and the client is to ask again; or why none can
 abbrev pub rolls_for_write : Master → Log × Result Bool Fault → Master × List Message
@@ -45,22 +41,21 @@ writes_under master term table key value =
     else (if is_full master.log then rolls_for_write master (begin_roll master.known (dead_segments master) master.log)
     else appends_entry master (written master term table key value) true)
 
-abbrev pub writes_if_owned : Master → Option ℕ → ℕ → ℕ → Option (List ℕ) → Master × List Message
-writes_if_owned master None table key value = refused master NotOwner
-writes_if_owned master (Some term) table key value = writes_under master term table key value
+-- this is done under the term of the key's range, where the master owns it
+abbrev pub if_owned : Master → ℕ → ℕ → (ℕ → Master × List Message) → Master × List Message
+if_owned master table key done = option_map_or done (term_of master.ownership table key) (refused master NotOwner)
 
 -- a write: refused for its length, for its owner, for the phase or for a full head, in this order; else appended
 abbrev pub writes : Master → ℕ → ℕ → Option (List ℕ) → Master × List Message
 writes master table key value =
     if is_too_long value then refused master ValueTooLong
-    else writes_if_owned master (term_of master.ownership table key) table key value
+    else if_owned master table key (λ term. writes_under master term table key value)
 
-abbrev pub reads_if_owned : Master → Option ℕ → ℕ → ℕ → Master × List Message
-reads_if_owned master None table key = refused master NotOwner
-reads_if_owned master (Some term) table key =
+-- a read under the term of its range: the greatest durable version
+abbrev pub reads_under : Master → ℕ → ℕ → ℕ → Master × List Message
+reads_under master term table key =
     let found = read_of term table key (durable_entries master) in
     (master, to_outside master.log.own (ReadOk table key found.version found.value) ∷ [])
 
--- a read: the greatest durable version under the term of its range
 abbrev pub reads : Master → ℕ → ℕ → Master × List Message
-reads master table key = reads_if_owned master (term_of master.ownership table key) table key
+reads master table key = if_owned master table key (λ term. reads_under master term table key)

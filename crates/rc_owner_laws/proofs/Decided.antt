@@ -1,9 +1,10 @@
 -- Attempts, answers and decisions: what is decided after one of them, and what the messages say that tell it.
 use Rattle.std.proofs.Common.{◌≡◌, ◌⊎◌, ℕ, ◌+◌, ◌-◌, ◌<◌, Bool, true, false, cond, List, [], ◌∷◌, ◌++◌, length, find, slice_get}
 use Rattle.std.proofs.Common.{◌&&◌, slice_set, Some, None, refl, sym, ap, ◌∙◌, subst, inl, inr, arith, nat_eq, Option}
+use Rattle.std.proofs.Common.{option_and_then}
 use Rattle.rc_model.specs.Model.{ServerId, Row, Part, Message, put_id, same_id, Attempt, Decision, GivenPart}
 use Rattle.rc_model.specs.Model.{from_coordinator, new_attempt, parts_of, begins_attempt, with_answer, In}
-use Rattle.rc_model.specs.Model.{Grant, part_in, part_if_current, is_current, grant_to, is_grant_to}
+use Rattle.rc_model.specs.Model.{Grant, part_in, is_current, grant_to, is_grant_to}
 use Rattle.rc_types.specs.declared.messages.Body.TheVariants.{Plan as PlanBody}
 use Rattle.rc_model.specs.Coordinator.{Coordinator}
 use Rattle.rc_model.proofs.Members.{In-get, In-left}
@@ -205,7 +206,8 @@ module _ (c : Coordinator) where
 
   pub senders : (id : ServerId) (number term : ℕ) (part : Part) (found : Option Attempt) →
       ((attempt : Attempt) → found ≡ Some attempt → IsNumbered c.attempts number attempt) →
-      part_if_current c id number term found ≡ Some part → IsSenders id number term part
+      option_and_then (λ one. cond (is_current c number one) (part_in id term one.decided) None) found ≡ Some part →
+      IsSenders id number term part
   senders id number term part None numbered is = cc
   senders id number term part (Some attempt) numbered is =
       either (λ (one : Option Part). one ≡ Some part → IsSenders id number term part) (is_current c number attempt)

@@ -1,14 +1,14 @@
 -- A recovery that was decided can be granted, in every world.
 use Rattle.std.proofs.Common.{◌≡◌, ℕ, ◌+◌, ◌-◌, true, false, cond, List, [], ◌∷◌, ◌++◌, find, nat_eq, slice_get}
-use Rattle.std.proofs.Common.{Option, Some, None, refl, sym, ap, ◌∙◌, subst, inl, inr, arith}
+use Rattle.std.proofs.Common.{Option, Some, None, refl, sym, ap, ◌∙◌, subst, inl, inr, arith, option_and_then}
 use Rattle.std.proofs.lemmas.Bool.{and_parts, eqb-true, eq-eqb}
 use Rattle.std.proofs.lemmas.Bool.Decides.{nat_tests}
 use Rattle.rc_model.specs.Model.{ServerId, Addr, Server, Setup, Event, NoTable, Deposed, Part, Grant, Message, Own, same_id}
 use Rattle.rc_model.specs.Model.{from_coordinator, is_up, has_range, assigned, Attempt, GivenPart, parts_of, refuses_server, attempt_at}
-use Rattle.rc_model.specs.Model.{is_current, own_body, range_of, grant_of, is_grant_to, grant_to, part_in, part_if_current, part_of_sender}
-use Rattle.rc_model.specs.Model.{grants_if_given, grants_or_repeats, takes_recovered, Work, coordinator_step, outside_sends, server_of}
+use Rattle.rc_model.specs.Model.{is_current, own_body, range_of, grant_of, is_grant_to, grant_to, part_in, part_of_sender}
+use Rattle.rc_model.specs.Model.{takes_recovered, Work, coordinator_step, outside_sends, server_of}
 use Rattle.rc_model.specs.Model.{host_step, next_server, World, opening, NodeName, TheOutside, TheCoordinator, TheHost, Job, work_of}
-use Rattle.rc_model.specs.Model.{is_possible, node_done, job_done, step, replay_from, replay, In, Enlist, to_coordinator}
+use Rattle.rc_model.specs.Model.{is_possible, node_done, job_done, step, replay_from, replay, In, Enlist, to_coordinator, grants_anew}
 use Rattle.rc_types.specs.declared.messages.Body.TheVariants.{Plan as PlanBody}
 use Rattle.rc_model.specs.Coordinator.{Coordinator}
 use Rattle.rc_model.specs.Nodes.{Ask}
@@ -30,6 +30,7 @@ use Rattle.rc_model.proofs.Ids.{same_id-true, same_id-refl, server-same}
 use Rattle.rc_model.proofs.Tests.{true_false, either}
 use Rattle.rc_step_laws.proofs.Tests.{find-one}
 use Rattle.rc_step_laws.proofs.Copies.{In-either}
+use Rattle.rc_model.proofs.Granting.{by_part, by_grant}
 
 -- Each world keeps the tablets, and refuses no server for want of one
 
@@ -170,7 +171,8 @@ module _ (setup : Setup) (events : List Event) (id : ServerId) (number : ℕ) (m
           (ap (replay setup events).coordinator.current of.decided.master_is ∙ current)
 
       found : find (λ (p : Part). nat_eq p.term part.term) (parts_of id of.decision.parts) ≡ None
-      found = sym (ap (part_if_current (replay setup events).coordinator id number part.term)
+      found = sym (ap (option_and_then (λ one. cond (is_current (replay setup events).coordinator number one)
+          (part_in id part.term one.decided) None))
           (found-by (replay setup events).coordinator number of.decided.attempt of.decided.numbered)
           ∙ (ap (λ b. cond b (part_in id part.term of.decided.attempt.decided) None) is_now ∙
           ap (part_in id part.term) of.decided.decided)) ∙ none
@@ -178,9 +180,9 @@ module _ (setup : Setup) (events : List Event) (id : ServerId) (number : ℕ) (m
   -- what a Recovered of server-same that is up is answered by
   answer-is : is_up (replay setup events).coordinator.servers id ≡ true →
       (takes_recovered (replay setup events).coordinator id number part.term).1
-      ≡ (grants_or_repeats (replay setup events).coordinator id number part.term
+      ≡ (by_grant (replay setup events).coordinator id number part.term
       (grant_to (replay setup events).coordinator id part.term)).1
-  answer-is up = ap (λ b. (cond b (grants_or_repeats (replay setup events).coordinator id number part.term
+  answer-is up = ap (λ b. (cond b (by_grant (replay setup events).coordinator id number part.term
       (grant_to (replay setup events).coordinator id part.term))
       ((replay setup events).coordinator, refuses_server id Deposed ∷ [])).1) up
 
@@ -192,7 +194,7 @@ module _ (setup : Setup) (events : List Event) (id : ServerId) (number : ℕ) (m
     term_is = eqb-true grant.term part.term tests.0;
     owner = same_id-true grant.owner id tests.1;
     answer = answer-is up ∙ ap
-        (λ (found : Option Grant). (grants_or_repeats (replay setup events).coordinator id number part.term found).1)
+        (λ (found : Option Grant). (by_grant (replay setup events).coordinator id number part.term found).1)
         is;
   }
     where
@@ -209,16 +211,12 @@ module _ (setup : Setup) (events : List Event) (id : ServerId) (number : ℕ) (m
     term_is = sender.term_is;
     owner = refl;
     answer = answer-is up ∙ (ap
-        (λ (found : Option Grant). (grants_or_repeats (replay setup events).coordinator id number part.term found).1)
+        (λ (found : Option Grant). (by_grant (replay setup events).coordinator id number part.term found).1)
         none
-        ∙ (ap (λ (found : Option Part). (grants_if_given (replay setup events).coordinator id number found).1) is
-        ∙ ap (λ b. (cond {A = Coordinator × List Message} b (
-          record (replay setup events).coordinator {
-            tablets = assigned (range_of mine) id mine.term (replay setup events).coordinator.tablets;
-            grants = (replay setup events).coordinator.grants ++ grant_of number id mine ∷ [];
-          },
-          from_coordinator id (own_body (grant_of number id mine)) ∷ [],
-        ) ((replay setup events).coordinator, refuses_server id NoTable ∷ [])).1) has));
+        ∙ (ap (λ (found : Option Part). (by_part (replay setup events).coordinator id number found).1) is
+        ∙ ap (λ b. (cond b (grants_anew (replay setup events).coordinator
+        (assigned (range_of mine) id mine.term (replay setup events).coordinator.tablets) (grant_of number id mine))
+        ((replay setup events).coordinator, refuses_server id NoTable ∷ [])).1) has));
   }
     where
       good : GoodWorld (replay setup events)

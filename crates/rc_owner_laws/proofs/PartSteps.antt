@@ -7,9 +7,9 @@ use Rattle.rc_model.specs.Model.{ServerId, Addr, Server, Outside, Entry, Part, P
 use Rattle.rc_model.specs.Model.{to_coordinator, refuses, from_rows, Log, LogPlace, places_of, head_of, is_writing, durable_now, stored}
 use Rattle.rc_model.specs.Model.{commit_noted, PartState, Ownership, term_of, owns_term, knows_term, put_data, grant, is_to_answer}
 use Rattle.rc_model.specs.Model.{is_complete, to_answer, after_answer, after_replay, Master, Task, with_log, durable_replayed, ids_of}
-use Rattle.rc_model.specs.Model.{not_lost, appends_entry, refused, written, reads_if_owned, write_oks, new_durable, attempt_of, fetch_of}
+use Rattle.rc_model.specs.Model.{not_lost, appends_entry, refused, written, write_oks, new_durable, attempt_of, fetch_of}
 use Rattle.rc_model.specs.Model.{reminds, task_of, In, closes_old, left_out, starts, writes_on, old_head_of, with_segment, is_unclosed}
-use Rattle.rc_model.specs.Model.{with_closes_sent, close_marked, frees_segments}
+use Rattle.rc_model.specs.Model.{with_closes_sent, close_marked, frees_segments, reads_under}
 use Rattle.rc_types.specs.declared.ids.Addr.TheVariants.{Coordinator}
 use Rattle.rc_types.specs.declared.messages.Body.TheVariants as body
 use Rattle.rc_model.proofs.Members.{In-left, In-right, In-get}
@@ -393,7 +393,7 @@ module _ (sent : List Message) (m : ServerId) where
     rolls = parts-rolls sent m master;
     writes = λ term table key value is owned writing room. parts-write master term table key value owned writing;
     reads = λ term table key is owned head good.
-        quiet sent m master master (reads_if_owned master (Some term) table key).1 good head refl (plain-one _ tt);
+        quiet sent m master master (reads_under master term table key).1 good head refl (plain-one _ tt);
     lists = λ version rows is newer head good. quiet sent m master (record master { known = from_rows version rows })
         [] good head refl plain-none;
     stores = λ teller seg epoch len closed is told head good. quiet-log sent m master (stored seg teller epoch len closed master.log) []

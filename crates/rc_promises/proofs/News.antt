@@ -3,10 +3,10 @@ use Rattle.std.proofs.Common.{◌≡◌, ◌⊎◌, ℕ, false, List, [], ◌∷
 use Rattle.std.proofs.lemmas.List.{append-nil, append_assoc}
 use Rattle.rc_model.specs.Model.{ServerId, Addr, Server, Outside, Setup, Event, Message, Body, Write, Read, ReadOk, Enlist, put}
 use Rattle.rc_model.specs.Model.{to_coordinator, to_outside, Found, read_of, Backup, backup_takes, term_of, Master, durable_entries}
-use Rattle.rc_model.specs.Model.{then_does, reads_if_owned, goes_on, master_takes_first, deposed_takes, master_takes, master_ticks, Work}
+use Rattle.rc_model.specs.Model.{then_does, goes_on, master_takes_first, deposed_takes, master_takes, master_ticks, Work}
 use Rattle.rc_model.specs.Model.{HostNode, outside_sends, coordinator_step, server_of, host_step, starts_host, next_server, World, opening}
 use Rattle.rc_model.specs.Model.{NodeName, TheOutside, TheCoordinator, TheHost, Job, work_of, is_possible, node_done, job_done, step}
-use Rattle.rc_model.specs.Model.{replay, In}
+use Rattle.rc_model.specs.Model.{replay, In, reads_under, refused, NotOwner}
 use Rattle.rc_types.specs.declared.ids.Addr.TheVariants.{Coordinator as AtCoordinator}
 use Rattle.rc_model.specs.Coordinator.{Coordinator}
 use Rattle.rc_model.specs.Nodes.{Ask}
@@ -18,6 +18,7 @@ use Rattle.rc_log_laws.proofs.Since.{replay_from-append}
 use Rattle.rc_promises.proofs.Hushed.{is_read_ok, Hushed, Hush, hush-then, hush-takes_first, hush-deposed, hush-goes, hush-master_ticks}
 use Rattle.rc_model.proofs.Tests.{true_false, either}
 use Rattle.rc_model.proofs.Ids.{server-same}
+use Rattle.std.specs.Option.{option_map_or}
 
 -- Lists
 
@@ -125,10 +126,10 @@ answer-first master term table key owned rest hushed [] message after e t k vers
     values = cc
 
 reads-answered : (master : Master) (found : Option ℕ) (table key : ℕ) → term_of master.ownership table key ≡ found →
-    ReadsBy master (then_does (reads_if_owned master found table key) goes_on)
+    ReadsBy master (then_does (option_map_or (λ term. reads_under master term table key) found (refused master NotOwner)) goes_on)
 reads-answered master None table key e before message after same t k version value says = refusal before same
   where
-    refusal : (before : List Message) → (then_does (reads_if_owned master None table key) goes_on).1 ≡ before ++ message ∷ after →
+    refusal : (before : List Message) → (then_does (refused master NotOwner) goes_on).1 ≡ before ++ message ∷ after →
         Reads master before t k version value
     refusal [] whole =
         let heads : Rattle.rc_model.specs.Messages.refuses master.log.own Rattle.rc_types.specs.declared.faults.Fault.TheVariants.NotOwner ≡
