@@ -10,7 +10,6 @@ use Rattle.rc_model.specs.Nodes.{Ask}
 use Rattle.rc_model.proofs.Members.{In-get}
 use Rattle.rc_model.proofs.Replays.{replay_from-push}
 use Rattle.rc_model.proofs.Tests.{either}
-use Rattle.rc_promises.proofs.News.{adds-node}
 use Rattle.rc_step_laws.proofs.Lists.{get-within, get-append}
 use Rattle.rc_log_laws.proofs.EachMaster.{coordinator-from}
 use Rattle.rc_log_laws.proofs.NodeWalk.{said-host}
@@ -52,6 +51,17 @@ record Adds (world after : World) : Type 0 where
   messages : List Message
   grows : after.sent ≡ world.sent ++ messages
   alone : IsAlone messages
+
+adds-node : (world : World) (one : Event) (node : NodeName) (work : Work) → GoodWorld world → IsGiven world.sent node work →
+    Adds world (node_done world one node work)
+adds-node world one TheOutside work good given = record { messages = outside_sends work; grows = refl; alone = outside-alone work }
+adds-node world one TheCoordinator work good given = record {
+  messages = (coordinator_step world.coordinator work).1;
+  grows = refl;
+  alone = inr (λ message at. from-coordinator message.from (coordinator-from world work good given message at));
+}
+adds-node world one (TheHost i) work good given = record
+    { messages = (host_step (world.hosts i) work).1; grows = refl; alone = alone-host world one i good work given }
 
 adds-none : (world : World) → Adds world world
 adds-none world = record { messages = []; grows = sym (append-nil world.sent); alone = none-alone }
