@@ -1,10 +1,10 @@
 -- Each node of a world keeps its name.
 use Rattle.std.proofs.Common.{◌≡◌, ℕ, List, [], ◌∷◌, Option, Some, None, refl, ap, ◌∙◌}
-use Rattle.rc_model.specs.Model.{Event, Setup, Message, is_server, backup_takes, Master, master_takes, Work, Take, Create, Split}
+use Rattle.rc_model.specs.Model.{Event, Setup, Message, is_server, backup_takes, Master, master_takes, Work, Take}
 use Rattle.rc_model.specs.Model.{HostNode, host_step, is_for_backup, with_backup, with_master, server_takes, server_of, takes_if_running}
 use Rattle.rc_model.specs.Model.{ticks_if_running, World, NodeName, TheOutside, TheCoordinator, TheHost, Job, node_done, job_done}
 use Rattle.rc_model.specs.Model.{work_of, is_possible, opening, step, replay_from, replay}
-use Rattle.rc_model.specs.Nodes.{Ask, Tick, Stop, Start, Suspect, Decide}
+use Rattle.rc_model.specs.Nodes.{Tick}
 use Rattle.rc_model.proofs.Tests.{either}
 use Rattle.rc_model.proofs.Tables.{put_each}
 use Rattle.rc_history.specs.Nodes.{name_of, node_in}
@@ -30,13 +30,7 @@ ticks-index host (Some master) = refl
 pub host_step-index : (host : HostNode) (work : Work) → (host_step host work).0.index ≡ host.index
 host_step-index host (Take message) = takes-index host host.master message
 host_step-index host (Tick addr) = ticks-index host host.master
-host_step-index host (Stop id) = refl
-host_step-index host (Start kept) = refl
-host_step-index host (Ask to body) = refl
-host_step-index host (Suspect id) = refl
-host_step-index host (Decide id) = refl
-host_step-index host (Create table owner) = refl
-host_step-index host (Split table at) = refl
+host_step-index host _ = refl
 
 abbrev HasIndices : World → Type 0
 HasIndices w = (index : ℕ) → (w.hosts index).index ≡ index

@@ -2,11 +2,11 @@
 use Rattle.std.proofs.Common.{◌≡◌, Bool, true, false, cond, List, [], ◌∷◌, filter, Option, Some, None, refl, sym, ap, ◌∙◌, subst}
 use Rattle.std.specs.Prelude.{is_some}
 use Rattle.rc_model.specs.Model.{Addr, Server, Outside, Message, Body, Fetch, is_server, Backup, backup_takes, Master, master_takes, Work}
-use Rattle.rc_model.specs.Model.{Take, Create, Split, HostNode, host_step, coordinator_step, is_for_backup, with_backup, with_master}
+use Rattle.rc_model.specs.Model.{Take, HostNode, host_step, coordinator_step, is_for_backup, with_backup, with_master}
 use Rattle.rc_model.specs.Model.{server_takes, server_of, takes_if_running, ticks_if_running, host_after, coordinator_after}
 use Rattle.rc_types.specs.declared.ids.Addr.TheVariants.{Coordinator as AtCoordinator}
 use Rattle.rc_model.specs.Coordinator.{Coordinator}
-use Rattle.rc_model.specs.Nodes.{Ask, Tick, Stop, Start, Suspect, Decide}
+use Rattle.rc_model.specs.Nodes.{Tick, Stop, Start}
 use Rattle.rc_model.proofs.Tests.{either, true_false}
 use Rattle.rc_history.specs.Remade.{changes_backup, host_keeps, coordinator_keeps, stopped, SameButMaster, HostsCanBeRemade}
 use Rattle.rc_history.specs.Remade.{CoordinatorCanBeRemade}
@@ -61,11 +61,7 @@ step-unkept host (Take message) unkept = takes-unkept host host.master message r
 step-unkept host (Tick addr) unkept = ticks-unkept host host.master refl
 step-unkept host (Stop id) unkept = cc
 step-unkept host (Start kept) unkept = cc
-step-unkept host (Ask to body) unkept = same-same host
-step-unkept host (Suspect id) unkept = same-same host
-step-unkept host (Decide id) unkept = same-same host
-step-unkept host (Create table owner) unkept = same-same host
-step-unkept host (Split table at) unkept = same-same host
+step-unkept host _ unkept = same-same host
 
 -- Hosts that are the same but for their masters stay so
 
@@ -98,14 +94,7 @@ takes-same host one other message = by (is_server (server_of host) message.to)
 running-same : (host : HostNode) (one other : Master) (work : Work) →
     SameButMaster (host_step (record host { master = Some one }) work).0 (host_step (record host { master = Some other }) work).0
 running-same host one other (Take message) = takes-same host one other message
-running-same host one other (Tick addr) = record { runs = refl; rest = refl }
-running-same host one other (Stop id) = record { runs = refl; rest = refl }
-running-same host one other (Start kept) = record { runs = refl; rest = refl }
-running-same host one other (Ask to body) = record { runs = refl; rest = refl }
-running-same host one other (Suspect id) = record { runs = refl; rest = refl }
-running-same host one other (Decide id) = record { runs = refl; rest = refl }
-running-same host one other (Create table owner) = record { runs = refl; rest = refl }
-running-same host one other (Split table at) = record { runs = refl; rest = refl }
+running-same host one other _ = record { runs = refl; rest = refl }
 
 either-same : (host : HostNode) (one other : Option Master) (work : Work) → is_some one ≡ is_some other →
     SameButMaster (host_step (record host { master = one }) work).0 (host_step (record host { master = other }) work).0
@@ -142,14 +131,7 @@ hosts-remade host (work ∷ works) = one-more host work works (λ other. hosts-r
 
 step-timer : (c : Coordinator) (work : Work) → coordinator_keeps work ≡ false → (coordinator_step c work).0 ≡ c
 step-timer c (Tick addr) unkept = refl
-step-timer c (Take message) unkept = cc
-step-timer c (Stop id) unkept = cc
-step-timer c (Start kept) unkept = cc
-step-timer c (Ask to body) unkept = cc
-step-timer c (Suspect id) unkept = cc
-step-timer c (Decide id) unkept = cc
-step-timer c (Create table owner) unkept = cc
-step-timer c (Split table at) unkept = cc
+step-timer c _ unkept = cc
 
 one-more-timer : (c : Coordinator) (work : Work) (works : List Work) →
     ((other : Coordinator) → coordinator_after other (filter coordinator_keeps works) ≡ coordinator_after other works) →

@@ -4,7 +4,7 @@ use Rattle.std.proofs.Common.{arith}
 use Rattle.std.proofs.lemmas.Bool.{and_parts, leb-true}
 use Rattle.rc_types.specs.declared.events.Setup.{Setup}
 use Rattle.rc_types.specs.declared.messages.Message.{Message}
-use Rattle.rc_model.specs.Nodes.{Work, Take, Tick, Stop, Start, Ask, Create, Split, Suspect, Decide}
+use Rattle.rc_model.specs.Nodes.{Work, Take, Start, Ask, Create, Suspect, Decide}
 use Rattle.rc_model.specs.World.{NodeName, node_of}
 use Rattle.rc_model.proofs.Members.{In-get}
 use Rattle.rc_model.proofs.Tests.{true_false}
@@ -48,10 +48,7 @@ may-give all name (Ask to body) can plain = record { can = can; addressed = tt; 
 may-give all name (Create table owner) can plain = record { can = can; addressed = tt; brought = tt }
 may-give all name (Decide id) can plain = record { can = can; addressed = tt; brought = tt }
 may-give all name (Suspect id) can plain = record { can = can; addressed = tt; brought = tt }
-may-give all name (Take message) can plain = true_false (sym plain)
-may-give all name (Tick addr) can plain = true_false (sym plain)
-may-give all name (Stop id) can plain = true_false (sym plain)
-may-give all name (Split table at) can plain = true_false (sym plain)
+may-give all name _ can plain = true_false (sym plain)
 
 may-bring : (all : Processes) (number : ℕ) (found : Option Message) → slice_get all.left number ≡ found → can_bring all found ≡ true →
     May all (brings found)

@@ -8,9 +8,9 @@ use Rattle.rc_types.specs.declared.messages.Message.{Message}
 use Rattle.rc_types.specs.declared.messages.Body.{Body}
 use Rattle.rc_types.specs.declared.limits.TheConstants.{MAX_HOSTS}
 use Rattle.rc_model.specs.MasterStep.{master_ticks}
-use Rattle.rc_model.specs.Model.{Backup, Master, master_takes, backup_takes, is_server, Work, Take, Create, Split, HostNode, host_step}
+use Rattle.rc_model.specs.Model.{Backup, Master, master_takes, backup_takes, is_server, Work, Take, HostNode, host_step}
 use Rattle.rc_model.specs.Model.{host_can, is_for_backup, with_backup, with_master, server_takes, server_of, Fetch, takes_if_running}
-use Rattle.rc_model.specs.Nodes.{Ask, Tick, Stop, Start, Suspect, Decide, runs, is_running_at}
+use Rattle.rc_model.specs.Nodes.{Tick, Stop, Start, runs, is_running_at}
 use Rattle.rc_model.specs.World.{NodeName, TheHost}
 use Rattle.rc_model.proofs.Tests.{either, true_false}
 use Rattle.rc_history.specs.Nodes.{Node, node_can, node_step, with_host, name_of}
@@ -56,11 +56,7 @@ runs-before host (Tick addr) plain so = by host.master refl so
     by (Some m) is so = ap is_some is
 runs-before host (Stop id) plain so = true_false (sym so)
 runs-before host (Start kept) plain so = true_false plain
-runs-before host (Ask to body) plain so = so
-runs-before host (Suspect id) plain so = so
-runs-before host (Decide id) plain so = so
-runs-before host (Create table owner) plain so = so
-runs-before host (Split table at) plain so = so
+runs-before host _ plain so = so
 
 node-runs-before : (n : Node) (work : Work) → is_start work ≡ false → node_runs (node_step n work).0 ≡ true → node_runs n ≡ true
 node-runs-before node.TheOutside work plain so = so
@@ -79,13 +75,7 @@ masters-run (node.TheHost host) (Take message) so =
     (and_parts (runs host) (is_server (server_of host) message.to)
     (and_parts (is_running_at host message.to) (not (is_for_backup message.body)) so).0).0
 masters-run (node.TheHost host) (Tick addr) so = so
-masters-run (node.TheHost host) (Stop id) so = true_false (sym so)
-masters-run (node.TheHost host) (Start kept) so = true_false (sym so)
-masters-run (node.TheHost host) (Ask to body) so = true_false (sym so)
-masters-run (node.TheHost host) (Suspect id) so = true_false (sym so)
-masters-run (node.TheHost host) (Decide id) so = true_false (sym so)
-masters-run (node.TheHost host) (Create table owner) so = true_false (sym so)
-masters-run (node.TheHost host) (Split table at) so = true_false (sym so)
+masters-run (node.TheHost host) _ so = true_false (sym so)
 masters-run node.TheOutside work so = true_false (sym so)
 masters-run (node.TheCoordinator c) work so = true_false (sym so)
 
@@ -116,13 +106,7 @@ late-next : (name : NodeName) (k : ℕ) (life : Life) (work : Work) → Gone k l
     node_runs (node_step life.node work).0 ≡ true → k < started_next life work
 late-next name k life (Start kept) gone so = let l = gone.long in omega arith
 late-next name k life (Stop id) gone so = absurd (stop-ends life.node id so)
-late-next name k life (Take message) gone so = gone.late (node-runs-before life.node (Take message) refl so)
-late-next name k life (Tick addr) gone so = gone.late (node-runs-before life.node (Tick addr) refl so)
-late-next name k life (Ask to body) gone so = gone.late (node-runs-before life.node (Ask to body) refl so)
-late-next name k life (Suspect id) gone so = gone.late (node-runs-before life.node (Suspect id) refl so)
-late-next name k life (Decide id) gone so = gone.late (node-runs-before life.node (Decide id) refl so)
-late-next name k life (Create table owner) gone so = gone.late (node-runs-before life.node (Create table owner) refl so)
-late-next name k life (Split table at) gone so = gone.late (node-runs-before life.node (Split table at) refl so)
+late-next name k life given gone so = gone.late (node-runs-before life.node given refl so)
 
 gone-next : (name : NodeName) (k : ℕ) (life : Life) (work : Work) → Gone k life → Gone k (life_next name life work)
 gone-next name k life work gone = record {
@@ -301,13 +285,7 @@ same-next index k base one other m long short started named (Stop id) sent rests
     (facts-more k long short started (Stop id) facts).same lived.1)
 same-next index k base one other m long short started named (Start kept) sent rests deeds rest facts lived =
     true_false (sym (sym (and-off base) ∙ lived.0.can))
-same-next index k base one other m long short started named (Ask to body) sent rests deeds rest facts lived = true_false (sym lived.0.can)
-same-next index k base one other m long short started named (Suspect id) sent rests deeds rest facts lived = true_false (sym lived.0.can)
-same-next index k base one other m long short started named (Decide id) sent rests deeds rest facts lived = true_false (sym lived.0.can)
-same-next index k base one other m long short started named (Create table owner) sent rests deeds rest facts lived = true_false
-    (sym lived.0.can)
-same-next index k base one other m long short started named (Split table at) sent rests deeds rest facts lived = true_false
-    (sym lived.0.can)
+same-next index k base one other m long short started named _ sent rests deeds rest facts lived = true_false (sym lived.0.can)
 
 same-cut : (index k : ℕ) (base : HostNode) (started : ℕ) (deeds : List Deed) → AllCut index k base started deeds
 same-cut index k base started [] one other m long short facts lived = record { lived = tt; journal = facts.same }
@@ -388,12 +366,7 @@ host-next k host journal started (Start names) deeds kept full early lived =
 host-next k host journal started (Stop id) deeds kept full early lived =
     gone-here (TheHost host.index) k (record { node = node.TheHost host; journal = journal; started = started }) (Stop id) deeds kept full
     (λ e. true_false (sym e)) lived
-host-next k host journal started (Tick addr) deeds kept full early lived = true_false (sym kept)
-host-next k host journal started (Ask to body) deeds kept full early lived = true_false (sym kept)
-host-next k host journal started (Suspect id) deeds kept full early lived = true_false (sym kept)
-host-next k host journal started (Decide id) deeds kept full early lived = true_false (sym kept)
-host-next k host journal started (Create table owner) deeds kept full early lived = true_false (sym kept)
-host-next k host journal started (Split table at) deeds kept full early lived = true_false (sym kept)
+host-next k host journal started _ deeds kept full early lived = true_false (sym kept)
 
 over-next : (name : NodeName) (k : ℕ) (n : Node) (journal : List Work) (started : ℕ) (work : Work) (deeds : List Deed) → name_of n
     ≡ name →
@@ -424,24 +397,13 @@ started-host : (life : Life) (host : HostNode) (work : Work) → host_can host w
 started-host life host (Start kept) can early = rw (length-append life.journal (Start kept ∷ [])) (omega arith)
 started-host life host (Stop id) can early = omega arith
 started-host life host (Take message) can early = let l = longer (TheHost host.index) life (Take message) in omega arith
-started-host life host (Tick addr) can early = early
-started-host life host (Ask to body) can early = early
-started-host life host (Suspect id) can early = early
-started-host life host (Decide id) can early = early
-started-host life host (Create table owner) can early = early
-started-host life host (Split table at) can early = early
+started-host life host _ can early = early
 
 started-other : (name : NodeName) (life : Life) (work : Work) → is_start work ≡ false → life.started ≤ length life.journal →
     started_next life work ≤ length (journal_next name life work)
 started-other name life (Start kept) plain early = true_false plain
 started-other name life (Stop id) plain early = omega arith
-started-other name life (Take message) plain early = let l = longer name life (Take message) in omega arith
-started-other name life (Tick addr) plain early = let l = longer name life (Tick addr) in omega arith
-started-other name life (Ask to body) plain early = let l = longer name life (Ask to body) in omega arith
-started-other name life (Suspect id) plain early = let l = longer name life (Suspect id) in omega arith
-started-other name life (Decide id) plain early = let l = longer name life (Decide id) in omega arith
-started-other name life (Create table owner) plain early = let l = longer name life (Create table owner) in omega arith
-started-other name life (Split table at) plain early = let l = longer name life (Split table at) in omega arith
+started-other name life given plain early = let l = longer name life given in omega arith
 
 no-start : (c : _) (work : Work) → node_can (node.TheCoordinator c) work ≡ true → is_start work ≡ false
 no-start c (Start kept) can = sym can

@@ -3,11 +3,11 @@ use Rattle.std.proofs.Common.{◌≡◌, ℕ, true, false, List, [], ◌∷◌, 
 use Rattle.std.specs.Prelude.{is_some}
 use Rattle.rc_types.specs.declared.events.Setup.{Setup}
 use Rattle.rc_types.specs.declared.messages.Message.{Message}
-use Rattle.rc_model.specs.Model.{Master, master_takes, backup_takes, is_server, Work, Take, Create, Split, HostNode, host_step}
+use Rattle.rc_model.specs.Model.{Master, master_takes, backup_takes, is_server, Work, Take, HostNode, host_step}
 use Rattle.rc_model.specs.Model.{is_for_backup, with_backup, with_master, server_takes, server_of, takes_if_running, ticks_if_running}
 use Rattle.rc_model.specs.Model.{host_after, coordinator_after, coordinator_step}
 use Rattle.rc_model.specs.Coordinator.{Coordinator, new_coordinator}
-use Rattle.rc_model.specs.Nodes.{Ask, Tick, Stop, Start, Suspect, Decide, runs, new_host, master_setup}
+use Rattle.rc_model.specs.Nodes.{Tick, Stop, Start, runs, new_host, master_setup}
 use Rattle.rc_model.specs.World.{NodeName, TheOutside, TheCoordinator, TheHost}
 use Rattle.rc_model.proofs.Tests.{either, true_false}
 use Rattle.rc_model.proofs.Ids.{same_id-refl}
@@ -57,11 +57,7 @@ zero-host name host journal started (Take message) zero e = zero (sym (takes-run
 zero-host name host journal started (Tick addr) zero e = zero (sym (ticks-runs host host.master refl) ∙ e)
 zero-host name host journal started (Stop id) zero e = refl
 zero-host name host journal started (Start kept) zero e = true_false e
-zero-host name host journal started (Ask to body) zero e = zero e
-zero-host name host journal started (Suspect id) zero e = zero e
-zero-host name host journal started (Decide id) zero e = zero e
-zero-host name host journal started (Create table owner) zero e = zero e
-zero-host name host journal started (Split table at) zero e = zero e
+zero-host name host journal started _ zero e = zero e
 
 zero-coordinator : (name : NodeName) (c : Coordinator) (journal : List Work) (started : ℕ) (work : Work) → started ≡ 0 →
     node_can (node.TheCoordinator c) work ≡ true →

@@ -129,8 +129,15 @@ module _ (sent : List Message) (masters : ServerId → Master) (hosts : ℕ → 
   said-fine AtCoordinator (body.Stored s e len closed) said = absurd said
   said-fine Outside (body.Stored s e len closed) said = absurd said
   said-fine to (body.Replicas number rows) said = said
-  said-fine to (body.Data attempt s term entries) said = tt
-  said-fine to _ said = absurd said
+  said-fine to (body.Place s e digest entries closed) said = absurd said
+  said-fine to (body.Append s offset entries) said = absurd said
+  said-fine to (body.Close s len) said = absurd said
+  said-fine to (body.WriteOk s o term table key version) said = absurd said
+  said-fine to (body.CommitOk s e) said = absurd said
+  said-fine to (body.Gather number master) said = absurd said
+  said-fine to (body.Plan head number master rows parts) said = absurd said
+  said-fine to (body.List version rows) said = absurd said
+  said-fine to _ said = tt
 
   pub good-backup : Led sent masters hosts c (sent ++ messages) masters (put hosts i (record (hosts i) { backup = after })) c
   good-backup =

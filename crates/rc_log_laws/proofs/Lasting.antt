@@ -189,19 +189,7 @@ module _ (sent : List Message) (masters : ServerId → Master) (hosts : ℕ → 
   fine-later from to (body.Gather number master) at fine = of-later c c_now number master w.c_later fine
   fine-later from to (body.Plan head number master rows parts) at fine = plan-later c c_now number master head rows w.c_later fine
   fine-later from to (body.List version rows) at fine = fine
-  fine-later from to (body.Write table key value) at fine = tt
-  fine-later from to (body.Read table key) at fine = tt
-  fine-later from to (body.ReadOk table key version value) at fine = tt
-  fine-later from to (body.Refused reason) at fine = tt
-  fine-later from to (body.Commit s e) at fine = tt
-  fine-later from to body.Enlist at fine = tt
-  fine-later from to body.Ready at fine = tt
-  fine-later from to (body.Fetch attempt master s len part) at fine = tt
-  fine-later from to (body.Data attempt s term entries) at fine = tt
-  fine-later from to (body.Recovered attempt term) at fine = tt
-  fine-later from to (body.Own table lo hi term previous attempt) at fine = tt
-  fine-later from to (body.SplitOk table key) at fine = tt
-  fine-later from to (body.Free s) at fine = tt
+  fine-later from to _ at fine = tt
 
   -- what a host keeps of a master, where it tells nothing new
   pub held-later : (m : ServerId) (index generation : ℕ) (held : Held) → NoneNewUpTo sent sent_now m index generation →

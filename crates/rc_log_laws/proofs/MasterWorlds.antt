@@ -57,15 +57,13 @@ said-fine sent sent_now m old masters hosts c Outside (body.Place s e digest ent
 said-fine sent sent_now m old masters hosts c to (body.Append s offset entries) said = said
 said-fine sent sent_now m old masters hosts c to (body.Close s len) said = said
 said-fine sent sent_now m old masters hosts c to (body.WriteOk s o term table key version) said = said
-said-fine sent sent_now m old masters hosts c to (body.ReadOk table key version value) said = tt
-said-fine sent sent_now m old masters hosts c to (body.Refused reason) said = tt
-said-fine sent sent_now m old masters hosts c to (body.Commit s e) said = tt
-said-fine sent sent_now m old masters hosts c to body.Enlist said = tt
-said-fine sent sent_now m old masters hosts c to body.Ready said = tt
-said-fine sent sent_now m old masters hosts c to (body.Fetch attempt master s len part) said = tt
-said-fine sent sent_now m old masters hosts c to (body.Recovered attempt term) said = tt
-said-fine sent sent_now m old masters hosts c to (body.Free s) said = tt
-said-fine sent sent_now m old masters hosts c to _ said = absurd said
+said-fine sent sent_now m old masters hosts c to (body.Stored s e len closed) said = absurd said
+said-fine sent sent_now m old masters hosts c to (body.Replicas number rows) said = absurd said
+said-fine sent sent_now m old masters hosts c to (body.CommitOk s e) said = absurd said
+said-fine sent sent_now m old masters hosts c to (body.Gather number master) said = absurd said
+said-fine sent sent_now m old masters hosts c to (body.Plan head number master rows parts) said = absurd said
+said-fine sent sent_now m old masters hosts c to (body.List version rows) said = absurd said
+said-fine sent sent_now m old masters hosts c to _ said = tt
 
 -- The move of the master of host i, whose server is z
 

@@ -5,7 +5,7 @@ use Rattle.std.proofs.lemmas.Bool.{and_parts, eqb-true}
 use Rattle.std.proofs.Math.Path.{fun_ext}
 use Rattle.rc_model.specs.Model.{ServerId, Server, Outside, Entry, Setup, Event, Message, Body, same_id, put, put_id}
 use Rattle.rc_model.specs.Model.{between, to_coordinator, Backup, backup_takes, Master, new_master, master_takes, master_ticks}
-use Rattle.rc_model.specs.Model.{Work, Take, Create, Split, HostNode}
+use Rattle.rc_model.specs.Model.{Work, Take, HostNode}
 use Rattle.rc_model.specs.Model.{master_setup, is_for_clients, outside_can, server_of}
 use Rattle.rc_model.specs.Model.{with_backup, with_master, next_server, starts_host}
 use Rattle.rc_model.specs.Model.{coordinator_step, World, opening, NodeName, TheOutside, TheCoordinator}
@@ -16,7 +16,7 @@ use Rattle.rc_types.specs.declared.ids.Addr.TheVariants.{Coordinator as AtCoordi
 use Rattle.rc_types.specs.declared.events.Event.TheVariants as event
 use Rattle.rc_types.specs.declared.messages.Body.TheVariants as body
 use Rattle.rc_model.specs.Coordinator.{Coordinator}
-use Rattle.rc_model.specs.Nodes.{Ask, Tick, Stop, Start, Suspect, Decide}
+use Rattle.rc_model.specs.Nodes.{Ask}
 use Rattle.rc_model.proofs.Members.{In-get}
 use Rattle.rc_step_laws.specs.Facts.{GoodHost, Good, body_fine, Fine}
 use Rattle.rc_step_laws.specs.Moves.{MasterMoved, BackupMoved}
@@ -101,13 +101,7 @@ good-outside : (world : World) (one : Event) (work : Work) → GoodWorld world �
 good-outside world one (Ask to asked) good can = good-asked world.sent world.masters world.hosts world.coordinator to
     asked good (and_parts (is_for_clients asked) _ can).0
 good-outside world one (Take message) good can = good-none world.sent world.masters world.hosts world.coordinator good
-good-outside world one (Tick addr) good can = true_false (sym can)
-good-outside world one (Stop id) good can = true_false (sym can)
-good-outside world one (Start kept) good can = true_false (sym can)
-good-outside world one (Suspect id) good can = true_false (sym can)
-good-outside world one (Decide id) good can = true_false (sym can)
-good-outside world one (Create table owner) good can = true_false (sym can)
-good-outside world one (Split table at) good can = true_false (sym can)
+good-outside world one _ good can = true_false (sym can)
 
 -- The coordinator
 
@@ -317,14 +311,7 @@ of-job sent this job given e = let same : this ≡ job = cc in subst (λ (some :
 pub work_of-given : (sent : List Message) (one : Event) (job : Job) → work_of sent one ≡ Some job → IsGiven sent job.node job.work
 work_of-given sent (event.Deliver number) job e =
     delivery-given sent (slice_get sent number) job (λ message at. In-get sent number message at) e
-work_of-given sent (event.Ask to asked) job e = of-job sent _ job tt e
-work_of-given sent (event.Tick addr) job e = of-job sent _ job tt e
-work_of-given sent (event.Stop id) job e = of-job sent _ job tt e
-work_of-given sent (event.Start index kept) job e = of-job sent _ job tt e
-work_of-given sent (event.Suspect id) job e = of-job sent _ job tt e
-work_of-given sent (event.Decide id) job e = of-job sent _ job tt e
-work_of-given sent (event.Create table owner) job e = of-job sent _ job tt e
-work_of-given sent (event.Split table at) job e = of-job sent _ job tt e
+work_of-given sent _ job e = of-job sent _ job tt e
 
 good-node : (world : World) (one : Event) (node : NodeName) (work : Work) → GoodWorld world →
     IsGiven world.sent node work → node_can world node work ≡ true → GoodStep world (node_done world one node work)

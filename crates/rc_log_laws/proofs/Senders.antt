@@ -3,13 +3,13 @@ use Rattle.std.proofs.Common.{◌≡◌, ℕ, true, List, [], ◌∷◌, ◌++�
 use Rattle.std.proofs.Common.{subst, inl, inr}
 use Rattle.std.proofs.Math.Seq.{drop-append_seam, drop-length}
 use Rattle.rc_model.specs.Model.{ServerId, Server, Outside, Event, Message, Body, Enlist, put_id}
-use Rattle.rc_model.specs.Model.{to_coordinator, Backup, backup_takes, Master, master_takes, master_ticks, Work, Take, Create}
-use Rattle.rc_model.specs.Model.{Split, HostNode, outside_sends, coordinator_step, server_of, host_step, with_backup}
+use Rattle.rc_model.specs.Model.{to_coordinator, Backup, backup_takes, Master, master_takes, master_ticks, Work}
+use Rattle.rc_model.specs.Model.{HostNode, outside_sends, coordinator_step, server_of, host_step, with_backup}
 use Rattle.rc_model.specs.Model.{with_master, next_server, starts_host, World, NodeName}
 use Rattle.rc_model.specs.Model.{TheOutside, TheCoordinator, TheHost, Job, work_of, is_possible, host_done, node_done}
 use Rattle.rc_model.specs.Model.{job_done, step, In, is_for_clients, outside_can, node_can, is_possible_job}
 use Rattle.std.proofs.lemmas.Bool.{and_parts}
-use Rattle.rc_model.specs.Nodes.{Ask, Tick, Stop, Start, Suspect, Decide}
+use Rattle.rc_model.specs.Nodes.{Ask}
 use Rattle.rc_model.proofs.Tests.{either}
 use Rattle.rc_model.proofs.Tables.{put-same, put_id-same}
 use Rattle.rc_step_laws.specs.Moves.{MasterMoved}
@@ -61,14 +61,7 @@ module _ (world : World) (one : Event) (good : GoodWorld world) (P : World → M
 
   of_outside : (work : Work) → outside_can work ≡ true → Since (node_done world one TheOutside work)
   of_outside (Ask to asked) can = of_asked to asked (and_parts (is_for_clients asked) _ can).0
-  of_outside (Take message) can = nothing (node_done world one TheOutside (Take message)) refl
-  of_outside (Tick addr) can = nothing (node_done world one TheOutside (Tick addr)) refl
-  of_outside (Stop id) can = nothing (node_done world one TheOutside (Stop id)) refl
-  of_outside (Start kept) can = nothing (node_done world one TheOutside (Start kept)) refl
-  of_outside (Suspect id) can = nothing (node_done world one TheOutside (Suspect id)) refl
-  of_outside (Decide id) can = nothing (node_done world one TheOutside (Decide id)) refl
-  of_outside (Create table owner) can = nothing (node_done world one TheOutside (Create table owner)) refl
-  of_outside (Split table key) can = nothing (node_done world one TheOutside (Split table key)) refl
+  of_outside given can = nothing (node_done world one TheOutside given) refl
 
   of_coordinator : (work : Work) → IsGiven world.sent TheCoordinator work → Since (node_done world one TheCoordinator work)
   of_coordinator work given message at =

@@ -163,10 +163,13 @@ good-coordinator sent masters hosts c after good moved grants =
     by_body to (body.Gather number master) said = said
     by_body to (body.Plan head number master rows parts) said = said
     by_body to (body.List version rows) said = said
-    by_body to (body.Own table lo hi term previous attempt) said = tt
-    by_body to (body.Refused reason) said = tt
-    by_body to (body.SplitOk table key) said = tt
-    by_body to _ said = absurd said
+    by_body to (body.Place s e digest entries closed) said = absurd said
+    by_body to (body.Append s offset entries) said = absurd said
+    by_body to (body.Close s len) said = absurd said
+    by_body to (body.WriteOk s o term table key version) said = absurd said
+    by_body to (body.Stored s e len closed) said = absurd said
+    by_body to (body.Replicas number rows) said = absurd said
+    by_body to _ said = tt
 
     fine : (from to : Addr) (says : Body) → from ≡ AtCoordinator → coordinator_body_said after.0 to says →
         body_fine (sent ++ after.1) masters hosts after.0 from to says

@@ -1,10 +1,9 @@
 -- What an event does to a host: it starts anew, or its generation stays; and what is newly told stands there.
-use Rattle.std.proofs.Common.{◌≡◌, ◌⊎◌, ℕ, Bool, true, nat_eq, List, [], ◌∷◌, ◌++◌, Option, Some, None, slice_get}
+use Rattle.std.proofs.Common.{◌≡◌, ◌⊎◌, ℕ, Bool, true, false, nat_eq, List, [], ◌∷◌, ◌++◌, Option, Some, None, slice_get}
 use Rattle.std.proofs.Common.{refl, sym, ap, ◌∙◌, subst, inl, inr}
 use Rattle.std.proofs.lemmas.Bool.{eqb-true}
 use Rattle.rc_model.specs.Model.{ServerId, Addr, Server, Outside, Event, Message, Body, Stored, Enlist, between, to_coordinator, put}
-use Rattle.rc_model.specs.Model.{is_server, Backup, backup_takes, restart, Log, Master, master_takes, master_ticks, Work, Take, Create}
-use Rattle.rc_model.specs.Model.{Split}
+use Rattle.rc_model.specs.Model.{is_server, Backup, backup_takes, restart, Log, Master, master_takes, master_ticks, Work, Take}
 use Rattle.rc_model.specs.Model.{HostNode, server_of, host_step, next_server, starts_host, is_for_backup, with_backup, with_master}
 use Rattle.rc_model.specs.Model.{server_takes}
 use Rattle.rc_model.specs.Model.{takes_if_running, ticks_if_running, outside_sends, coordinator_step, World, NodeName, TheOutside}
@@ -12,8 +11,8 @@ use Rattle.rc_model.specs.Model.{TheCoordinator}
 use Rattle.rc_model.specs.Model.{TheHost, Job, work_of, delivery, is_possible, node_done, job_done, step, In}
 use Rattle.rc_types.specs.declared.ids.Addr.TheVariants.{Coordinator as AtCoordinator}
 use Rattle.rc_types.specs.declared.events.Event.TheVariants as event
-use Rattle.rc_model.specs.Nodes.{Ask, Tick, Stop, Start, Suspect, Decide}
-use Rattle.rc_model.proofs.Tests.{either}
+use Rattle.rc_model.specs.Nodes.{Ask, Tick, Start}
+use Rattle.rc_model.proofs.Tests.{true_false, either}
 use Rattle.rc_model.proofs.Tables.{put-same, put-other}
 use Rattle.rc_model.proofs.Ids.{server-same}
 use Rattle.rc_step_laws.specs.All.{body_said, held_at, StillStands, MasterMoved, BackupMoved}
@@ -53,6 +52,10 @@ same-start index i list kept nodes works = (let a : index ≡ i = cc in let b : 
     both : index ≡ i → list ≡ kept → event.Start index list ≡ event.Start i kept
     both p q j = event.Start (p j) (q j)
 
+abbrev is_start : Work → Bool
+is_start (Start kept) = true
+is_start _ = false
+
 -- only a Start gives a host the work to start
 start-work : (sent : List Message) (one : Event) (i : ℕ) (kept : List (ServerId × ℕ)) →
     work_of sent one ≡ Some (starting i kept) → one ≡ event.Start i kept
@@ -63,15 +66,7 @@ start-work sent (event.Deliver number) i kept e = by (slice_get sent number) e
     by (Some message) e = let never : ◌≡◌ {A = Work} (Take message) (Start kept) = same-work _ (starting i kept) e in cc
 start-work sent (event.Start index list) i kept e =
     same-start index i list kept (same-node _ (starting i kept) e) (same-work _ (starting i kept) e)
-start-work sent (event.Ask to says) i kept e = let never : ◌≡◌ {A = Work} (Ask to says) (Start kept) = same-work _ (starting i kept) e in cc
-start-work sent (event.Tick addr) i kept e = let never : ◌≡◌ {A = Work} (Tick addr) (Start kept) = same-work _ (starting i kept) e in cc
-start-work sent (event.Stop id) i kept e = let never : ◌≡◌ {A = Work} (Stop id) (Start kept) = same-work _ (starting i kept) e in cc
-start-work sent (event.Suspect id) i kept e = let never : ◌≡◌ {A = Work} (Suspect id) (Start kept) = same-work _ (starting i kept) e in cc
-start-work sent (event.Decide id) i kept e = let never : ◌≡◌ {A = Work} (Decide id) (Start kept) = same-work _ (starting i kept) e in cc
-start-work sent (event.Create table owner) i kept e =
-    let never : ◌≡◌ {A = Work} (Create table owner) (Start kept) = same-work _ (starting i kept) e in cc
-start-work sent (event.Split table key) i kept e =
-    let never : ◌≡◌ {A = Work} (Split table key) (Start kept) = same-work _ (starting i kept) e in cc
+start-work sent _ i kept e = true_false (sym (ap is_start (same-work _ (starting i kept) e)))
 
 takes-same : (host : HostNode) (found : Option Master) (message : Message) → (takes_if_running host found message).0.generation ≡
     host.generation

@@ -3,7 +3,7 @@ use Rattle.std.proofs.Common.{◌≡◌, ◌⊎◌, ℕ, Bool, true, false, cond
 use Rattle.std.proofs.Common.{Some, None, refl, sym, ap, ◌∙◌, subst, inl, inr}
 use Rattle.std.specs.List.{list_any}
 use Rattle.std.proofs.lemmas.Bool.{cases_eq, eqb-true, or_cases, or_left, or_right}
-use Rattle.rc_model.specs.Model.{ServerId, Addr, Server, Message, Body, Place, Append, Close, Free, Gather, Fetch}
+use Rattle.rc_model.specs.Model.{ServerId, Addr, Server, Message, Body, Place, Append, Close, Free, Gather}
 use Rattle.rc_model.specs.Model.{Replica, Backup, Held, replica_of, replica_after, put_replica, without_replica, with_held, is_freed}
 use Rattle.rc_model.specs.Model.{is_refused}
 use Rattle.rc_model.specs.Model.{keeps, stores, insert_once, frees, backup_takes, restarted, stays, closing_length, In}
@@ -152,7 +152,6 @@ kept-backup sent backup (Server m) to (Close seg len) up all at =
     kept-stores sent backup m seg (Close seg len) (λ n e. record { message = _; among = at; from = refl; says = refl }) all
 kept-backup sent backup (Server m) to (Free seg) up all at =
     kept-frees sent backup m seg (record { message = _; among = at; from = refl; says = refl }) (up m) all
-kept-backup sent backup (Server asker) to (Fetch attempt master seg len part) up all at = all
 kept-backup sent backup from to (Gather attempt master) up all at =
     put_id_each (λ other one. GoodKept sent other one) backup.held master (record (backup.held master) { fenced = true })
     (kept-same sent master (backup.held master) (record (backup.held master) { fenced = true }) refl refl (all master)) all

@@ -3,13 +3,13 @@ use Rattle.std.proofs.Common.{◌≡◌, ℕ, ◌≤◌, Bool, true, false, cond
 use Rattle.std.proofs.Common.{refl, sym, ap, ◌∙◌, arith}
 use Rattle.std.proofs.lemmas.Bool.{eqb-true}
 use Rattle.std.proofs.lemmas.List.{append-nil}
-use Rattle.rc_model.specs.Model.{Event, Message, is_server, backup_takes, Master, master_takes, Work, Take, Create, Split, HostNode}
+use Rattle.rc_model.specs.Model.{Event, Message, is_server, backup_takes, Master, master_takes, Work, Take, HostNode}
 use Rattle.rc_model.specs.Model.{host_step, coordinator_step, is_for_backup, with_backup, with_master, server_takes, server_of}
 use Rattle.rc_model.specs.Model.{takes_if_running, ticks_if_running, World, NodeName, TheOutside, TheCoordinator, TheHost, Job, same_node}
 use Rattle.rc_model.specs.Model.{step, is_possible, is_possible_job, node_done, job_done, replay_from, work_of, work_if_for, work_in}
 use Rattle.rc_model.specs.Model.{works_of, host_after, coordinator_after}
 use Rattle.rc_model.specs.Coordinator.{Coordinator}
-use Rattle.rc_model.specs.Nodes.{Ask, Tick, Stop, Start, Suspect, Decide}
+use Rattle.rc_model.specs.Nodes.{Tick}
 use Rattle.rc_model.proofs.Tests.{either, true_false}
 
 -- one more event at the end is one more step
@@ -173,13 +173,7 @@ generation-step host (Take message) = let e : (takes_if_running host host.master
     = takes-generation host host.master message in omega arith
 generation-step host (Tick addr) = let e : (ticks_if_running host host.master).0.generation ≡ host.generation =
     ticks-generation host host.master in omega arith
-generation-step host (Stop id) = omega arith
-generation-step host (Start kept) = omega arith
-generation-step host (Ask to body) = omega arith
-generation-step host (Suspect id) = omega arith
-generation-step host (Decide id) = omega arith
-generation-step host (Create table owner) = omega arith
-generation-step host (Split table at) = omega arith
+generation-step host _ = omega arith
 
 generation-after : (host : HostNode) (works : List Work) → host.generation ≤ (host_after host works).generation
 generation-after host [] = omega arith

@@ -4,7 +4,7 @@ use Rattle.std.proofs.Common.{◌∷◌, ◌++◌, length, drop, filter, Option,
 use Rattle.std.specs.List.{list_any}
 use Rattle.std.proofs.lemmas.Bool.{and_parts, eqb-true, eq-eqb, or_left}
 use Rattle.std.proofs.lemmas.List.{append-nil}
-use Rattle.rc_model.specs.Model.{ServerId, Addr, Server, Outside, Entry, Body, Place, Append, Close, Free, Gather, Fetch, Replica, grown}
+use Rattle.rc_model.specs.Model.{ServerId, Addr, Server, Outside, Entry, Body, Place, Append, Close, Free, Gather, Replica, grown}
 use Rattle.rc_model.specs.Model.{placed, placed_open, appended, closes, closed_at, Backup, Held, with_held, put_replica, without_replica}
 use Rattle.rc_model.specs.Model.{insert_once, is_freed, replica_of, replica_after, is_refused, keeps, stores, frees, backup_takes}
 use Rattle.rc_model.specs.Model.{stays, closing_length, is_closed_replica, is_storing}
@@ -212,7 +212,6 @@ fenced-stay backup (Server master) (Place seg epoch digest entries closed) =
 fenced-stay backup (Server master) (Append seg offset entries) = fenced_stay-stores backup master seg (Append seg offset entries)
 fenced-stay backup (Server master) (Close seg len) = fenced_stay-stores backup master seg (Close seg len)
 fenced-stay backup (Server master) (Free seg) = fenced_stay-frees backup master seg
-fenced-stay backup (Server asker) (Fetch attempt master seg len part) = fenced_stay-same backup
 fenced-stay backup from (Gather attempt master) =
     fenced_stay-held backup master (record (backup.held master) { fenced = true }) (λ _. (refl, refl))
 fenced-stay backup _ _ = fenced_stay-same backup

@@ -2,7 +2,7 @@
 use Rattle.std.proofs.Common.{◌≡◌, ℕ, Bool, true, false, nat_eq, nat_le, ◌&&◌, List, [], ◌∷◌, take, filter, length, Option, Some, None}
 use Rattle.std.proofs.Common.{refl, sym, ap, ◌∙◌, inl}
 use Rattle.std.proofs.lemmas.Bool.{eq-eqb}
-use Rattle.rc_model.specs.Model.{ServerId, Addr, Server, Part, Message, Body, Place, Append, Close, Free, Gather, Fetch, Data, Replicas}
+use Rattle.rc_model.specs.Model.{ServerId, Addr, Server, Part, Message, Body, Place, Append, Close, Gather, Fetch, Data, Replicas}
 use Rattle.rc_model.specs.Model.{Row, Entry, Stored}
 use Rattle.rc_model.specs.Model.{between, to_coordinator, Replica, Backup, Held, is_refused, replica_of, replica_after, keeps}
 use Rattle.rc_model.specs.Model.{stores, stored_of, rows_of_replicas, data_of, answers_fetch, fences, backup_takes, is_in_part, In}
@@ -45,7 +45,6 @@ module _ (P : Message → Type 0) (backup : Backup)
   each-told (Server master) (Place seg epoch digest entries closed) = each-stores master seg (Place seg epoch digest entries closed)
   each-told (Server master) (Append seg offset entries) = each-stores master seg (Append seg offset entries)
   each-told (Server master) (Close seg len) = each-stores master seg (Close seg len)
-  each-told (Server master) (Free seg) = each-none P
   each-told (Server asker) (Fetch attempt master seg len part) =
       each-answers asker master (data_of attempt seg len part (replica_of seg (backup.held master).replicas))
       (each-data asker attempt seg len part (replica_of seg (backup.held master).replicas))
@@ -120,7 +119,6 @@ tells backup (Server master) (Append seg offset entries) =
     (soft-stores backup master seg (Append seg offset entries))
 tells backup (Server master) (Close seg len) =
     tells-soft _ (Close seg len) (stores backup master seg (Close seg len)).1 (soft-stores backup master seg (Close seg len))
-tells backup (Server master) (Free seg) = each-none _
 tells backup (Server asker) (Fetch attempt master seg len part) =
     tells-data backup asker master (Fetch attempt master seg len part)
     (data_of attempt seg len part (replica_of seg (backup.held master).replicas)) refl

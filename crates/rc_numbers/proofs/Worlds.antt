@@ -181,14 +181,7 @@ delivery-within n sent number (Some message) e all = All-get (λ (one : Message)
 
 work-within : (n : ℕ) (sent : List Message) (one : Event) → MessagesWithin n sent → JobWithin n (work_of sent one)
 work-within n sent (event.Deliver number) all = delivery-within n sent number (slice_get sent number) refl all
-work-within n sent (event.Ask to body) all = tt
-work-within n sent (event.Tick addr) all = tt
-work-within n sent (event.Stop id) all = tt
-work-within n sent (event.Start host kept) all = tt
-work-within n sent (event.Suspect id) all = tt
-work-within n sent (event.Decide id) all = tt
-work-within n sent (event.Create table owner) all = tt
-work-within n sent (event.Split table at) all = tt
+work-within n sent _ all = tt
 
 job-within : (n : ℕ) (world : World) (one : Event) (found : Option Job) → WorldWithin n world →
     is_possible_job world found ≡ true → JobWithin n found → WorldWithin (n + 1) (job_done world one found)

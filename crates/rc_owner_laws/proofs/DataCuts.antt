@@ -152,7 +152,6 @@ module _ (sent : List Message) (masters : ServerId → Master) (index generation
   backup-fine (Server m) (body.Place seg epoch digest entries closed) at = stores-fine m seg (body.Place seg epoch digest entries closed)
   backup-fine (Server m) (body.Append seg offset entries) at = stores-fine m seg (body.Append seg offset entries)
   backup-fine (Server m) (body.Close seg len) at = stores-fine m seg (body.Close seg len)
-  backup-fine (Server m) (body.Free seg) at = none
   backup-fine (Server asker) (body.Fetch attempt m seg len part) at = fetched-fine asker m attempt seg len part at
   backup-fine from (body.Gather attempt m) at = fences-fine attempt m
   backup-fine _ _ at = none

@@ -82,7 +82,7 @@ then-quiet sent m old new messages good moved all =
     log_moved-then sent m old new new [] messages good moved (quiet-moved (sent ++ []) m new messages moved.good moved.fine all)
 
 ready-quiet : (m own : ServerId) → own ≡ m → AllQuiet m (to_coordinator own Ready ∷ [])
-ready-quiet m own is = quiet-one m (to_coordinator own Ready) (record { from = ap Server is; quiet = tt })
+ready-quiet m own is = quiet-one m (to_coordinator own Ready) (record { from = ap Server is; quiet = λ _ _ _ _ _ _. tt })
 
 moved-start : (m : ServerId) (master : Master) → may_start master.log ≡ true →
     Kept m master (with_log master (starts master.log), to_coordinator master.log.own Ready ∷ [])
@@ -183,7 +183,7 @@ freed-moved (s ∷ segs) sent m log good fine opened =
     (λ t at. (let was = opened t (inr at) in record { above = was.above; below = was.below })))
 
 frees-quiet : (m : ServerId) (log : Log) (segs : List ℕ) → log.own ≡ m → AllQuiet m (frees_segments log segs)
-frees-quiet m log segs own = each-frees (IsQuietOf m) log segs (λ seg id at. record { from = ap Server own; quiet = tt })
+frees-quiet m log segs own = each-frees (IsQuietOf m) log segs (λ seg id at. record { from = ap Server own; quiet = λ _ _ _ _ _ _. tt })
 
 moved-shut : (m : ServerId) (master : Master) → may_write master.log ≡ true →
     Kept m master (with_log master (writes_on master.log), frees_segments master.log (left_out master.log))
@@ -227,13 +227,13 @@ moved-commits : (sent : List Message) (m : ServerId) (master : Master) (s : ℕ)
 moved-commits sent m master s view opened =
     let log : Log = master.log in
     let one : Message = to_coordinator log.own (Commit s (log.segments s).config.epoch) in
-    let quiet : AllQuiet m (one ∷ []) = quiet-one m one (record { from = ap Server view.log.own; quiet = tt }) in
+    let quiet : AllQuiet m (one ∷ []) = quiet-one m one (record { from = ap Server view.log.own; quiet = λ _ _ _ _ _ _. tt }) in
     let new : Segment = record (log.segments s) { commit_sent = true } in
     record {
       log = marked-moved sent m log s new (one ∷ []) view.log view.fine opened
           (record { entries = refl; digest = refl; shut = refl; config = refl })
           (λ message at. quiet-says sent (sent ++ one ∷ []) m log (with_segment s new log) message (quiet message at))
-          (λ x t e digest entries at. quiet-no_place m x t e digest entries false (one ∷ []) quiet at);
+          (λ x t e digest entries at. quiet-no_place m x log t e digest entries false (one ∷ []) quiet at);
       known = view.known;
     }
 
@@ -402,7 +402,7 @@ by_rule m = record {
   answers = λ master term is sent view. (
       let one : Message = to_coordinator master.log.own (Recovered (attempt_of term master.tasks) term) in
       moved-quiet sent m master (record master { ownership = after_answer (durable_replayed master) master.ownership })
-      (one ∷ []) view refl refl (quiet-one m one (record { from = ap Server view.log.own; quiet = tt })));
+      (one ∷ []) view refl refl (quiet-one m one (record { from = ap Server view.log.own; quiet = λ _ _ _ _ _ _. tt })));
 }
 
 pub moved-goes_on : (sent : List Message) (m : ServerId) (master : Master) → GoodView sent m master → Moved sent m master (goes_on master)

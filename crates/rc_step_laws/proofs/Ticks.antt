@@ -2,6 +2,7 @@
 use Rattle.std.proofs.Common.{◌≡◌, ℕ, ◌+◌, Bool, true, false, List, [], ◌∷◌, ◌++◌, length, drop, map, Some, refl, sym, ap, ◌∙◌, subst}
 use Rattle.std.proofs.Common.{arith}
 use Rattle.std.proofs.lemmas.List.{length-map}
+use Rattle.rc_types.specs.declared.ids.Addr.TheVariants.{Coordinator}
 use Rattle.rc_model.specs.Model.{ServerId, Addr, Server, Entry, PlanRow, Member, Message, Body, Place, Append, Close, Enlist, between}
 use Rattle.rc_model.specs.Model.{to_coordinator, is_up, Log, numbers_to, Master, Task, ids_of, place_of, then_does, obeys_list, fetch_of}
 use Rattle.rc_model.specs.Model.{reminds, ticks, In}
@@ -28,7 +29,7 @@ again-quiet : (sent sent_now : List Message) (m : ServerId) (log : Log) (message
     Again sent sent_now m log message
 again-quiet sent sent_now m log message is = record {
   says = quiet-says sent sent_now m log log message is;
-  news = λ x s e digest entries same. absurd (subst (λ (one : Message). IsQuiet one.body) same is.quiet);
+  news = λ x s e digest entries same. absurd (subst (λ (one : Message). IsQuiet one.body) same is.quiet [] [] m log log Coordinator);
 }
 
 -- what goes to one member
@@ -129,7 +130,7 @@ again-copied sent sent_now m log good = record {
 
 pub fetches-quiet : (m own : ServerId) (task : Task) (rows : List PlanRow) → own ≡ m → AllQuiet m (map (fetch_of own task) rows)
 fetches-quiet m own task rows is =
-    each-map (IsQuietOf m) (fetch_of own task) rows (λ row at. record { from = ap Server is; quiet = tt })
+    each-map (IsQuietOf m) (fetch_of own task) rows (λ row at. record { from = ap Server is; quiet = λ _ _ _ _ _ _. tt })
 
 -- All of it
 
@@ -148,10 +149,10 @@ moved-reminds sent m before master view = record {
     again : Each (Again sent (sent ++ (reminds before master).1) m master.log) (reminds before master).1
     again = each-reminds (Again sent (sent ++ (reminds before master).1) m master.log) before master
         (again-copied sent (sent ++ (reminds before master).1) m master.log view.log)
-        (λ seg awaits. quiet (record { from = ap Server view.log.own; quiet = tt })) (record {
-          fetch = λ task row given among. quiet (record { from = ap Server view.log.own; quiet = tt });
-          recovered = λ state among awaits. quiet (record { from = ap Server view.log.own; quiet = tt });
-          ready = quiet (record { from = ap Server view.log.own; quiet = tt });
+        (λ seg awaits. quiet (record { from = ap Server view.log.own; quiet = λ _ _ _ _ _ _. tt })) (record {
+          fetch = λ task row given among. quiet (record { from = ap Server view.log.own; quiet = λ _ _ _ _ _ _. tt });
+          recovered = λ state among awaits. quiet (record { from = ap Server view.log.own; quiet = λ _ _ _ _ _ _. tt });
+          ready = quiet (record { from = ap Server view.log.own; quiet = λ _ _ _ _ _ _. tt });
         })
 
 pub moved-ticks : (sent : List Message) (m : ServerId) (master : Master) → GoodView sent m master → Moved sent m master (ticks master)
@@ -161,4 +162,4 @@ moved-ticks sent m master view =
     (λ _. moved-then_does sent m master (obeys_list master) (reminds master.log) view (moved-obeys sent m master view)
     (λ now. moved-reminds (sent ++ (obeys_list master).1) m master.log (obeys_list master).0 now))
     (λ _. moved-quiet sent m master master (to_coordinator master.log.own Enlist ∷ []) view refl refl
-    (quiet-one m (to_coordinator master.log.own Enlist) (record { from = ap Server view.log.own; quiet = tt })))
+    (quiet-one m (to_coordinator master.log.own Enlist) (record { from = ap Server view.log.own; quiet = λ _ _ _ _ _ _. tt })))

@@ -1,7 +1,7 @@
 -- A master's view and its moves; messages that claim nothing.
 use Rattle.std.proofs.Common.{◌≡◌, ℕ, Bool, false, List, [], ◌∷◌, ◌++◌, refl, sym, ap, subst, inl, inr, arith}
-use Rattle.rc_model.specs.Model.{ServerId, Addr, Server, Entry, Message, Body, Place, ReadOk, Refused, Commit, Enlist, Ready, Fetch}
-use Rattle.rc_model.specs.Model.{Recovered, Free, between, up_rows, Log, Master, to_ids, then_does, In}
+use Rattle.rc_types.specs.declared.ids.Addr.TheVariants.{Coordinator}
+use Rattle.rc_model.specs.Model.{ServerId, Addr, Server, Entry, Message, Body, Place, between, up_rows, Log, Master, to_ids, then_does, In}
 use Rattle.rc_model.proofs.Members.{In-map}
 use Rattle.rc_step_laws.specs.All.{IsMember, OnDifferentHosts, OwnFine, MasterSays, body_said}
 use Rattle.rc_step_laws.proofs.Logs.{log_later-refl}
@@ -61,16 +61,9 @@ same-moved sent m log messages good fine says news = moved-log sent m log log me
 
 -- Messages that claim nothing
 
+-- a master may say it whatever its log is
 abbrev pub IsQuiet : Body → Type 0
-IsQuiet (ReadOk table key version value) = Unit {0}
-IsQuiet (Refused reason) = Unit {0}
-IsQuiet (Commit s e) = Unit {0}
-IsQuiet Enlist = Unit {0}
-IsQuiet Ready = Unit {0}
-IsQuiet (Fetch attempt master s len part) = Unit {0}
-IsQuiet (Recovered attempt term) = Unit {0}
-IsQuiet (Free s) = Unit {0}
-IsQuiet _ = ⊥
+IsQuiet body = (sent sent_now : List Message) (m : ServerId) (old new : Log) (to : Addr) → body_said sent sent_now m old new to body
 
 pub record IsQuietOf (m : ServerId) (message : Message) : Type 0 where
   pub from : message.from ≡ Server m
@@ -79,34 +72,23 @@ pub record IsQuietOf (m : ServerId) (message : Message) : Type 0 where
 abbrev pub AllQuiet : ServerId → List Message → Type 0
 AllQuiet m messages = (message : Message) → In message messages → IsQuietOf m message
 
-quiet-said : (sent sent_now : List Message) (m : ServerId) (old new : Log) (to : Addr) (body : Body) → IsQuiet body →
-    body_said sent sent_now m old new to body
-quiet-said sent sent_now m old new to (ReadOk table key version value) is = tt
-quiet-said sent sent_now m old new to (Refused reason) is = tt
-quiet-said sent sent_now m old new to (Commit s e) is = tt
-quiet-said sent sent_now m old new to Enlist is = tt
-quiet-said sent sent_now m old new to Ready is = tt
-quiet-said sent sent_now m old new to (Fetch attempt master s len part) is = tt
-quiet-said sent sent_now m old new to (Recovered attempt term) is = tt
-quiet-said sent sent_now m old new to (Free s) is = tt
-quiet-said sent sent_now m old new to _ is = absurd is
-
 pub quiet-says : (sent sent_now : List Message) (m : ServerId) (old new : Log) (message : Message) →
     IsQuietOf m message → MasterSays sent sent_now m old new message
 quiet-says sent sent_now m old new message is =
-    record { from = is.from; says = quiet-said sent sent_now m old new message.to message.body is.quiet }
+    record { from = is.from; says = is.quiet sent sent_now m old new message.to }
 
 -- no Place is among them
-pub quiet-no_place : {P : Type 0} (m x : ServerId) (s e : ℕ) (digest : List ℕ) (entries : List Entry) (closed : Bool)
-    (messages : List Message) → AllQuiet m messages
+pub quiet-no_place : {P : Type 0} (m x : ServerId) (log : Log) (s e : ℕ) (digest : List ℕ) (entries : List Entry)
+    (closed : Bool) (messages : List Message) → AllQuiet m messages
     → In (between m x (Place s e digest entries closed)) messages → P
-quiet-no_place m x s e digest entries closed messages all at = absurd (all (between m x (Place s e digest entries closed)) at).quiet
+quiet-no_place m x log s e digest entries closed messages all at =
+    absurd ((all (between m x (Place s e digest entries closed)) at).quiet [] [] m log log Coordinator)
 
 pub quiet-moved : (sent : List Message) (m : ServerId) (log : Log) (messages : List Message) → GoodLog sent m log →
     OwnFine sent m log → AllQuiet m messages → LogMoved sent m log log messages
 quiet-moved sent m log messages good fine all = same-moved sent m log messages good fine
     (λ message at. quiet-says sent (sent ++ messages) m log log message (all message at))
-    (λ x s e digest entries at. quiet-no_place m x s e digest entries false messages all at)
+    (λ x s e digest entries at. quiet-no_place m x log s e digest entries false messages all at)
 
 -- a step whose view has this log and these servers still, and that says nothing of note
 pub moved-quiet : (sent : List Message) (m : ServerId) (old new : Master) (messages : List Message) →

@@ -109,7 +109,7 @@ moved-appends sent m master entry client view writing = record {
 pub moved-refused : (sent : List Message) (m : ServerId) (master : Master) (fault : Fault) → GoodView sent m master →
     Moved sent m master (refused master fault)
 moved-refused sent m master fault view = moved-quiet sent m master master (refuses master.log.own fault ∷ []) view refl refl
-    (quiet-one m (refuses master.log.own fault) (record { from = ap Server view.log.own; quiet = tt }))
+    (quiet-one m (refuses master.log.own fault) (record { from = ap Server view.log.own; quiet = λ _ _ _ _ _ _. tt }))
 
 -- A roll
 
@@ -148,4 +148,4 @@ moved-reads sent m master table key =
     (λ term owned more view. (let found : Found = read_of term table key (durable_entries master) in
     moved-quiet more m master master (to_outside master.log.own (ReadOk table key found.version found.value) ∷ []) view refl refl
     (quiet-one m (to_outside master.log.own (ReadOk table key found.version found.value))
-    (record { from = ap Server view.log.own; quiet = tt })))) sent
+    (record { from = ap Server view.log.own; quiet = λ _ _ _ _ _ _. tt })))) sent

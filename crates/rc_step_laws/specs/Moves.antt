@@ -46,15 +46,18 @@ body_said sent sent_now m old log to (body.Append s offset entries) = IsAppend l
 body_said sent sent_now m old log to (body.Close s len) = IsClose log s len
 body_said sent sent_now m old log to (body.WriteOk s o term table key version) =
     IsWriteOk sent_now m log s o term table key version
-body_said sent sent_now m old log to (body.ReadOk table key version value) = Unit {0}
-body_said sent sent_now m old log to (body.Refused reason) = Unit {0}
-body_said sent sent_now m old log to (body.Commit s e) = Unit {0}
-body_said sent sent_now m old log to body.Enlist = Unit {0}
-body_said sent sent_now m old log to body.Ready = Unit {0}
-body_said sent sent_now m old log to (body.Fetch attempt master s len part) = Unit {0}
-body_said sent sent_now m old log to (body.Recovered attempt term) = Unit {0}
-body_said sent sent_now m old log to (body.Free s) = Unit {0}
-body_said sent sent_now m old log to _ = ⊥
+body_said sent sent_now m old log to (body.Write table key value) = ⊥
+body_said sent sent_now m old log to (body.Read table key) = ⊥
+body_said sent sent_now m old log to (body.Stored s e len closed) = ⊥
+body_said sent sent_now m old log to (body.CommitOk s e) = ⊥
+body_said sent sent_now m old log to (body.List version rows) = ⊥
+body_said sent sent_now m old log to (body.Gather number master) = ⊥
+body_said sent sent_now m old log to (body.Replicas number rows) = ⊥
+body_said sent sent_now m old log to (body.Plan head number master rows parts) = ⊥
+body_said sent sent_now m old log to (body.Data attempt s term entries) = ⊥
+body_said sent sent_now m old log to (body.Own table lo hi term previous attempt) = ⊥
+body_said sent sent_now m old log to (body.SplitOk table at) = ⊥
+body_said sent sent_now m old log to _ = Unit {0}
 
 pub record MasterSays (sent sent_now : List Message) (m : ServerId) (old log : Log) (message : Message) : Type 0 where
   pub from : message.from ≡ Server m
@@ -91,8 +94,27 @@ backup_body_said sent_now masters hosts c host backup to (body.Stored s e len cl
     stored_said sent_now masters host backup to s e len closed
 backup_body_said sent_now masters hosts c host backup to (body.Replicas number rows) =
     IsAnswer sent_now masters hosts c (server_of host) number rows
-backup_body_said sent_now masters hosts c host backup to (body.Data attempt s term entries) = Unit {0}
-backup_body_said sent_now masters hosts c host backup to _ = ⊥
+backup_body_said sent_now masters hosts c host backup to (body.Write table key value) = ⊥
+backup_body_said sent_now masters hosts c host backup to (body.Read table key) = ⊥
+backup_body_said sent_now masters hosts c host backup to (body.WriteOk s o term table key version) = ⊥
+backup_body_said sent_now masters hosts c host backup to (body.ReadOk table key version value) = ⊥
+backup_body_said sent_now masters hosts c host backup to (body.Refused reason) = ⊥
+backup_body_said sent_now masters hosts c host backup to (body.Place s e digest entries closed) = ⊥
+backup_body_said sent_now masters hosts c host backup to (body.Append s offset entries) = ⊥
+backup_body_said sent_now masters hosts c host backup to (body.Close s len) = ⊥
+backup_body_said sent_now masters hosts c host backup to (body.Commit s e) = ⊥
+backup_body_said sent_now masters hosts c host backup to (body.CommitOk s e) = ⊥
+backup_body_said sent_now masters hosts c host backup to body.Enlist = ⊥
+backup_body_said sent_now masters hosts c host backup to body.Ready = ⊥
+backup_body_said sent_now masters hosts c host backup to (body.List version rows) = ⊥
+backup_body_said sent_now masters hosts c host backup to (body.Gather number master) = ⊥
+backup_body_said sent_now masters hosts c host backup to (body.Plan head number master rows parts) = ⊥
+backup_body_said sent_now masters hosts c host backup to (body.Fetch attempt master s len part) = ⊥
+backup_body_said sent_now masters hosts c host backup to (body.Recovered attempt term) = ⊥
+backup_body_said sent_now masters hosts c host backup to (body.Own table lo hi term previous attempt) = ⊥
+backup_body_said sent_now masters hosts c host backup to (body.SplitOk table at) = ⊥
+backup_body_said sent_now masters hosts c host backup to (body.Free s) = ⊥
+backup_body_said sent_now masters hosts c host backup to _ = Unit {0}
 
 -- a move of the backup of a host; `hosts` are all of them with this one changed
 pub record BackupMoved (sent : List Message) (masters : ServerId → Master) (hosts : ℕ → HostNode) (c : Coordinator)
@@ -118,10 +140,23 @@ coordinator_body_said c to (body.CommitOk s e) = commit_ok_fine c AtCoordinator 
 coordinator_body_said c to (body.Gather number master) = IsOf c.attempts number master
 coordinator_body_said c to (body.Plan head number master rows parts) = IsPlan c number master head rows
 coordinator_body_said c to (body.List version rows) = OnDifferentHosts (up_rows rows)
-coordinator_body_said c to (body.Own table lo hi term previous attempt) = Unit {0}
-coordinator_body_said c to (body.Refused reason) = Unit {0}
-coordinator_body_said c to (body.SplitOk table at) = Unit {0}
-coordinator_body_said c to _ = ⊥
+coordinator_body_said c to (body.Write table key value) = ⊥
+coordinator_body_said c to (body.Read table key) = ⊥
+coordinator_body_said c to (body.WriteOk s o term table key version) = ⊥
+coordinator_body_said c to (body.ReadOk table key version value) = ⊥
+coordinator_body_said c to (body.Place s e digest entries closed) = ⊥
+coordinator_body_said c to (body.Append s offset entries) = ⊥
+coordinator_body_said c to (body.Close s len) = ⊥
+coordinator_body_said c to (body.Stored s e len closed) = ⊥
+coordinator_body_said c to (body.Commit s e) = ⊥
+coordinator_body_said c to body.Enlist = ⊥
+coordinator_body_said c to body.Ready = ⊥
+coordinator_body_said c to (body.Replicas number rows) = ⊥
+coordinator_body_said c to (body.Fetch attempt master s len part) = ⊥
+coordinator_body_said c to (body.Data attempt s term entries) = ⊥
+coordinator_body_said c to (body.Recovered attempt term) = ⊥
+coordinator_body_said c to (body.Free s) = ⊥
+coordinator_body_said c to _ = Unit {0}
 
 pub record CoordinatorMoved (sent : List Message) (old : Coordinator) (after : Coordinator × List Message) :
     Type 0 where

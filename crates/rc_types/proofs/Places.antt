@@ -6,28 +6,7 @@ use Rattle.rc_types.specs.Kinds.{all_kinds, kind_number}
 
 placed : (k : Kind) → slice_get all_kinds (kind_number k) ≡ Some k
 placed kind.Write = refl
-placed kind.Read = refl
-placed kind.WriteOk = refl
-placed kind.ReadOk = refl
-placed kind.Refused = refl
-placed kind.Place = refl
-placed kind.Append = refl
-placed kind.Close = refl
-placed kind.Stored = refl
-placed kind.Commit = refl
-placed kind.CommitOk = refl
-placed kind.Enlist = refl
-placed kind.Ready = refl
-placed kind.List = refl
-placed kind.Gather = refl
-placed kind.Replicas = refl
-placed kind.Plan = refl
-placed kind.Fetch = refl
-placed kind.Data = refl
-placed kind.Recovered = refl
-placed kind.Own = refl
-placed kind.SplitOk = refl
-placed kind.Free = refl
+placed _ = refl
 
 pub same_place : (one other : Kind) → kind_number one ≡ kind_number other → one ≡ other
 same_place one other same = let both : Some one ≡ Some other = sym (placed one) ∙ ap (slice_get all_kinds) same ∙ placed other in cc
