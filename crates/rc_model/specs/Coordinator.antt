@@ -64,8 +64,8 @@ spreads_list servers = to_each (up servers) (list_body servers)
 abbrev pub begins_attempt : Coordinator → ServerId → Coordinator × List Message
 begins_attempt c master =
     let number = length c.attempts + 1 in
-    (record c { attempts = c.attempts ++ new_attempt master ∷ []; current = put_id c.current master number },
-    to_each (up c.servers) (Gather number master))
+    let asked = to_each (up c.servers) (Gather number master) in
+    (record c { attempts = c.attempts ++ new_attempt master ∷ []; current = put_id c.current master number }, asked)
 
 -- the master still has tablets
 abbrev pub has_tablets : Coordinator → ServerId → Bool

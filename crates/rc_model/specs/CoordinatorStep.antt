@@ -18,7 +18,7 @@ use Rattle.rc_types.specs.declared.messages.Message.{Message}
 use Rattle.rc_types.specs.declared.messages.Body.{Body}
 use Rattle.rc_types.specs.declared.messages.Body.TheVariants.{Enlist, Ready, Commit, Replicas, Recovered, Gather}
 use Rattle.rc_types.specs.declared.messages.Body.TheVariants.{SplitOk}
-use Rattle.rc_model.specs.Messages.{from_coordinator, to_each, coordinator_refuses, coordinator_tells}
+use Rattle.rc_model.specs.Messages.{to_each, coordinator_refuses, coordinator_tells}
 use Rattle.rc_model.specs.ServerList.{is_up, up}
 use Rattle.rc_model.specs.Tablets.{tablet_of, has_table, with_table, split_at}
 use Rattle.rc_model.specs.Attempts.{Decision, Attempt, has_answered, parts_of, plan_messages}

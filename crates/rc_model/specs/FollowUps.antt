@@ -1,6 +1,6 @@
 -- The rules that a master follows up each input with: the first that applies is made, and the search begins anew.
 use Rattle.std.specs.Prelude.{ℕ, ◌+◌, ◌*◌, ◌-◌, Bool, true, false, not, nat_eq, nat_lt, ◌&&◌, if◌then◌else◌, List}
-use Rattle.std.specs.Prelude.{[], ◌∷◌, ◌++◌, length, drop, take, find, filter, Option, Some, None, zero, suc, Result}
+use Rattle.std.specs.Prelude.{[], ◌∷◌, length, drop, take, find, filter, Option, Some, None, zero, suc, Result}
 use Rattle.std.specs.Prelude.{Ok, Err, option_and_then}
 use Rattle.std.specs.List.{flat_map}
 use Rattle.std.specs.Option.{option_or, option_map_or}
@@ -14,7 +14,7 @@ use Rattle.rc_types.specs.declared.messages.Body.TheVariants.{WriteOk, Close, Co
 use Rattle.rc_model.specs.Messages.{to_coordinator, to_outside}
 use Rattle.rc_model.specs.Config.{all_placed}
 use Rattle.rc_model.specs.Segment.{Segment, is_unclosed, has_unclosed, with_closes_sent}
-use Rattle.rc_model.specs.Log.{Log, LogPlace, places_of, head_of, old_head_of, has_old_head, with_segment}
+use Rattle.rc_model.specs.Log.{Log, LogPlace, places_of, old_head_of, has_old_head, with_segment}
 use Rattle.rc_model.specs.Log.{numbers_to, is_closing, is_writing, durable_now}
 use Rattle.rc_model.specs.Heads.{is_full, begin_roll, with_shut, may_start, may_close, may_write, left_out, starts}
 use Rattle.rc_model.specs.Heads.{closes_old, writes_on}

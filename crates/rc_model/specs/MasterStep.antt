@@ -26,9 +26,9 @@ use Rattle.rc_model.specs.MasterTick.{fetch_of, ticks}
 abbrev pub begins_task : Task → Master → Master × List Message
 begins_task task master =
     let begun = begin_part task.part (map (λ row. (row.seg, row.holder)) task.rows) master.ownership in
+    let fetches = map (fetch_of master.log.own task) task.rows in
     if knows_term master.ownership task.part.term then (master, [])
-    else (record master { ownership = begun; tasks = master.tasks ++ task ∷ [] },
-    map (fetch_of master.log.own task) task.rows)
+    else (record master { ownership = begun; tasks = master.tasks ++ task ∷ [] }, fetches)
 
 abbrev pub task_of : ℕ → ServerId → List PlanRow → Part → Task
 task_of attempt master rows part = record { attempt = attempt; master = master; rows = rows; part = part }

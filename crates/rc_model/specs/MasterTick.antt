@@ -110,8 +110,8 @@ ready_again master =
 abbrev pub reminds : Log → Master → Master × List Message
 reminds before master =
     let segs = numbers_to master.log.head in
-    (master, reminds_open before master.log segs ++ reminds_shut before master.log segs ++ commits_again master.log
-    ++ fetches_again master master.tasks ++ recovered_again master ++ ready_again master)
+    let said = reminds_open before master.log segs ++ reminds_shut before master.log segs ++ commits_again master.log in
+    (master, said ++ fetches_again master master.tasks ++ recovered_again master ++ ready_again master)
 
 -- the timer: a master that isn't up by its list enlists; another obeys its list anew, and reminds
 abbrev pub ticks : Master → Master × List Message
