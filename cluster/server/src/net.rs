@@ -284,9 +284,12 @@ fn serve(
     }
 }
 
-/// Hands the frames of a batch over. Says whether somebody is there to take them.
+/// Hands the frames of a batch over, of both kinds up to the first whose sum is wrong. Says whether somebody is there to
+/// take them.
 fn give(events: &EventSender, number: u64, frames: &[u8]) -> bool {
-    let (urgent, others) = split_urgent(frames);
+    let (mut urgent, mut others) = split_urgent(frames);
+    urgent.truncate(sound(&urgent).len());
+    others.truncate(sound(&others).len());
     (urgent.is_empty() || events.send(Event::Urgent(number, urgent)))
         && (others.is_empty() || events.send(Event::Peer(number, others)))
 }
@@ -316,7 +319,7 @@ fn serve_peer(mut stream: TcpStream, number: u64, secret: &[u8], events: &EventS
         while let Some(length) = u32_at(rest, 0) {
             let (batch, others) = rest.split_at(4 + length as usize);
             match seal.open(batch) {
-                Some(frames) if give(events, number, sound(frames)) => rest = others,
+                Some(frames) if give(events, number, frames) => rest = others,
                 _ => return false,
             }
         }

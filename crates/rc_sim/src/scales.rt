@@ -3,7 +3,7 @@
 use crate::counted::Counted;
 use crate::outlets::write_all;
 use rc_runs::Onlooker;
-use rc_types::{Body, Entry, Message, Part, PlanRow, Row};
+use rc_types::{Body, Entry, Message, Part, PlanRow, Row, ServerId};
 use std::io::Write;
 use std::mem::size_of;
 
@@ -22,6 +22,8 @@ pub(crate) struct Scales<'a, E> {
     due: usize,
     /// What the lists of those that were weighed take, in bytes.
     lists: u64,
+    /// The version of the server list that was weighed last: all messages that tell it share its rows.
+    version: u32,
 }
 
 impl<'a, E> Drop for Scales<'a, E> {
@@ -31,6 +33,7 @@ impl<'a, E> Drop for Scales<'a, E> {
             weighed: _,
             due: _,
             lists: _,
+            version: _,
         } = self;
     }
 }
@@ -43,6 +46,7 @@ impl<'a, E: Write> Scales<'a, E> {
             weighed: 0,
             due: FEW,
             lists: 0,
+            version: 0,
         }
     }
 }
@@ -54,7 +58,8 @@ impl<'a, E: Write> Onlooker for Scales<'a, E> {
             return self.due;
         }
         for message in sent.get(self.weighed..).unwrap_or(&[]) {
-            self.lists = self.lists.saturating_add(lists_of(&message.body) as u64);
+            let lists = lists_of(&message.body, &mut self.version);
+            self.lists = self.lists.saturating_add(lists as u64);
         }
         self.weighed = sent.len();
         self.due = sent.len().saturating_add(FEW);
@@ -70,9 +75,17 @@ impl<'a, E: Write> Onlooker for Scales<'a, E> {
     }
 }
 
-/// How many bytes the lists in a message take. What several messages share is not counted.
-fn lists_of(body: &Body) -> usize {
+/// How many bytes the lists in a message take. Of what several messages share only a server list is counted, where its
+/// version is not the one before.
+fn lists_of(body: &Body, version: &mut u32) -> usize {
     match body {
+        Body::List {
+            version: told,
+            rows,
+        } if *told != *version => {
+            *version = *told;
+            rows.len().saturating_mul(size_of::<(ServerId, bool)>())
+        }
         Body::Place { entries, .. } | Body::Append { entries, .. } | Body::Data { entries, .. } => {
             entries.len().saturating_mul(size_of::<Entry>())
         }
