@@ -1,5 +1,6 @@
 -- A Decide that is refused, where all hosts have answered, means that a segment is gone.
-use Rattle.std.proofs.Common.{◌≡◌, ◌⊎◌, ℕ, Bool, true, cond, nat_eq, List, [], ◌∷◌, Option, Some, Result, Ok, Err, ◌||◌, false, refl, sym}
+use Rattle.std.proofs.Common.{◌≡◌, ◌⊎◌, ℕ, Bool, true, cond, nat_eq, List, [], ◌∷◌, Option, Some, Result, Ok, Err}
+use Rattle.std.proofs.Common.{◌||◌, false, refl, sym}
 use Rattle.std.proofs.Common.{ap, ◌∙◌, subst, inl, inr}
 use Rattle.std.proofs.lemmas.Bool.{eqb-true}
 use Rattle.rc_model.specs.Model.{ServerId, Addr, Server, Outside, Row, Part, Setup, Event, Fault, NotReady, StaleAttempt, Message}

@@ -1,5 +1,6 @@
 -- The phase goes on as the definitions' rules say, and in their order.
-use Rattle.std.proofs.Common.{◌≡◌, ℕ, ◌-◌, Bool, true, false, cond, not, eqb, ◌&&◌, ◌++◌, List, [], ◌∷◌, filter, Option, Some, None}
+use Rattle.std.proofs.Common.{◌≡◌, ℕ, ◌-◌, Bool, true, false, cond, not, eqb, ◌&&◌, ◌++◌, List, [], ◌∷◌, filter}
+use Rattle.std.proofs.Common.{Option, Some, None}
 use Rattle.std.proofs.Common.{is_some, Result, IfOk, OnOk, refl, sym, ap, ◌∙◌, subst}
 use Rattle.std.specs.Option.{unwrap_or, option_or}
 use Rattle.std.specs.List.{list_any}

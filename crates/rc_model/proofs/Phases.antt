@@ -1,5 +1,6 @@
 -- Where the phase changes, what a roll opens, and how members change.
-use Rattle.std.proofs.Common.{◌≡◌, ◌⊎◌, inl, inr, ℕ, ◌+◌, true, false, ◌&&◌, ◌||◌, nat_eq, nat_lt, List, [], ◌∷◌, Option, Some, None, Err}
+use Rattle.std.proofs.Common.{◌≡◌, ◌⊎◌, inl, inr, ℕ, ◌+◌, true, false, ◌&&◌, ◌||◌, nat_eq, nat_lt, List, []}
+use Rattle.std.proofs.Common.{◌∷◌, Option, Some, None, Err}
 use Rattle.std.proofs.Common.{refl, sym, ap, ◌∙◌, option_and_then}
 use Rattle.std.proofs.lemmas.Bool.{and_parts, or_right}
 use Rattle.rc_model.specs.Heads.{next_digest, opened_on}

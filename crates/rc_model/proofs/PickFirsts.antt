@@ -1,5 +1,6 @@
 -- `first_by` gives the first by the order and then by its place, where the order is strict.
-use Rattle.std.proofs.Common.{◌≡◌, ◌⊎◌, ⊎_elim, Bool, true, false, cond, List, [], ◌∷◌, ◌++◌, filter, Some, None, refl, sym, ap, ◌∙◌}
+use Rattle.std.proofs.Common.{◌≡◌, ◌⊎◌, ⊎_elim, Bool, true, false, cond, List, [], ◌∷◌, ◌++◌, filter, Some, None}
+use Rattle.std.proofs.Common.{refl, sym, ap, ◌∙◌}
 use Rattle.std.proofs.Common.{subst}
 use Rattle.std.specs.Bool.{Decides}
 use Rattle.std.specs.List.{All, fold}
@@ -135,7 +136,8 @@ module _ (before : HeldRow → HeldRow → Bool) (ComesBefore : HeldRow → Held
   first_by_first (row ∷ rows) first is = let same : fold (better before) row rows ≡ first =
       cc in subst (IsFirst ComesBefore (row ∷ rows)) same (fold_better_first row rows)
 
-  pub fold_better_IsFirst : (rows : List HeldRow) (first : HeldRow) → IsFirst ComesBefore rows first → first_by before rows ≡ Some first
+  pub fold_better_IsFirst : (rows : List HeldRow) (first : HeldRow) → IsFirst ComesBefore rows first →
+      first_by before rows ≡ Some first
   fold_better_IsFirst [] first is = at is.earlier is.place
     where
       at : (earlier : List HeldRow) → [] ≡ earlier ++ first ∷ is.later → None ≡ Some first

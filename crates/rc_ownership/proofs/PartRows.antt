@@ -1,6 +1,8 @@
 -- The rows of a part once one more has come, and what is counted of them.
-use Rattle.std.proofs.Common.{◌≡◌, ℕ, ◌+◌, ◌-◌, ◌<◌, Bool, true, false, cond, not, ◌||◌, ◌&&◌, nat_eq, nat_lt, is_some, Option, Some}
-use Rattle.std.proofs.Common.{None, position, map, List, [], ◌∷◌, ◌++◌, length, length-append, filter, zero, suc, sym, ap, subst, ◌∙◌}
+use Rattle.std.proofs.Common.{◌≡◌, ℕ, ◌+◌, ◌-◌, ◌<◌, Bool, true, false, cond, not, ◌||◌, ◌&&◌, nat_eq, nat_lt}
+use Rattle.std.proofs.Common.{is_some, Option, Some}
+use Rattle.std.proofs.Common.{None, position, map, List, [], ◌∷◌, ◌++◌, length, length-append, filter, zero, suc, sym, ap}
+use Rattle.std.proofs.Common.{subst, ◌∙◌}
 use Rattle.std.proofs.Common.{refl, arith, true≢false}
 use Rattle.std.proofs.lemmas.Bool.Decides.{nat_tests}
 use Rattle.std.specs.Prelude.{slice_index_or, slice_set, unwrap_or}

@@ -1,5 +1,6 @@
 -- The rows of a part, where one that came has not come.
-use Rattle.std.proofs.Common.{◌≡◌, ℕ, ◌+◌, ◌-◌, ◌<◌, ◌≤◌, Bool, true, false, cond, not, ◌||◌, is_some, Some, None, Option, List, [], ◌∷◌}
+use Rattle.std.proofs.Common.{◌≡◌, ℕ, ◌+◌, ◌-◌, ◌<◌, ◌≤◌, Bool, true, false, cond, not, ◌||◌, is_some, Some}
+use Rattle.std.proofs.Common.{None, Option, List, [], ◌∷◌}
 use Rattle.std.proofs.Common.{◌++◌, length, length-append, filter, zero, suc, sym, ap, ◌∙◌, refl, arith}
 use Rattle.std.specs.Prelude.{slice_index_or, slice_set, unwrap_or}
 use Rattle.std.specs.List.{list_any, position_or_len}

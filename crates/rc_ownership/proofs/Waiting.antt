@@ -1,5 +1,6 @@
 -- The entries that wait: at the cursor, once one is taken, and once rows have joined.
-use Rattle.std.proofs.Common.{◌≡◌, ℕ, ◌+◌, ◌-◌, ◌<◌, ◌≤◌, List, [], ◌∷◌, ◌++◌, map, length, take, drop, append_assoc, length-append, sym}
+use Rattle.std.proofs.Common.{◌≡◌, ℕ, ◌+◌, ◌-◌, ◌<◌, ◌≤◌, List, [], ◌∷◌, ◌++◌, map, length, take}
+use Rattle.std.proofs.Common.{drop, append_assoc, length-append, sym}
 use Rattle.std.proofs.Common.{ap, subst, ◌∙◌, refl, arith, zero, suc, nat_lt}
 use Rattle.std.proofs.lemmas.Bool.Decides.{nat_tests}
 use Rattle.std.proofs.lemmas.List.{append-nil, map-append, length-drop, drop-drop, drop-append-le, take-append-le, take-take}

@@ -1,5 +1,6 @@
 -- Each call but coming back, as happenings.
-use Rattle.std.proofs.Common.{◌≡◌, ◌≤◌, ◌<◌, ◌+◌, ℕ, true, cond, max, min, ◌⊎◌, inl, inr, List, [], ◌∷◌, ◌++◌, length, map, filter, refl}
+use Rattle.std.proofs.Common.{◌≡◌, ◌≤◌, ◌<◌, ◌+◌, ℕ, true, cond, max, min, ◌⊎◌, inl, inr, List, [], ◌∷◌}
+use Rattle.std.proofs.Common.{◌++◌, length, map, filter, refl}
 use Rattle.std.proofs.Common.{sym, ap, ◌∙◌, subst, arith, append_assoc, length-append, Some}
 use Rattle.std.proofs.Math.Nat.{le-max_left, le-max_right, le-min, min-eq_left, min-le_left}
 use Rattle.std.proofs.lemmas.List.{append-nil}
