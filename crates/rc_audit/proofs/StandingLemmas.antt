@@ -12,7 +12,7 @@ use Rattle.rc_audit.specs.declared.writes.AckedWrite.{AckedWrite}
 use Rattle.rc_audit.specs.declared.standing.Standing.{Standing}
 use Rattle.rc_audit.specs.Writes.{ack_of, acks_from, acks_by}
 use Rattle.rc_audit.specs.Standings.{acked_below, all_kept, kept_at, below_at, StandsFor}
-use Rattle.rc_audit.proofs.PlaceLemmas.{and_assoc, id_from}
+use Rattle.rc_audit.proofs.PlaceLemmas.{and_assoc}
 
 -- the acknowledged writes, with one more message
 pub acknowledged-push : (sent : List Message) (message : Message) (m : ServerId) →

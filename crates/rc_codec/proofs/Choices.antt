@@ -8,8 +8,8 @@ past [] k h = refl
 past (x ∷ table) zero h = absurd (omega arith)
 past (x ∷ table) (suc k) h = past table k (omega arith)
 
-pub past_bodies : (k : ℕ) (rest : List ℕ) → 23 ≤ k → chosen_at bodies (k ∷ rest) ≡ None
+pub past_bodies : (k : ℕ) (rest : List ℕ) → length bodies ≤ k → chosen_at bodies (k ∷ rest) ≡ None
 past_bodies k rest h = rw (past bodies k h) refl
 
-pub past_events : (k : ℕ) (rest : List ℕ) → 9 ≤ k → chosen_at events (k ∷ rest) ≡ None
+pub past_events : (k : ℕ) (rest : List ℕ) → length events ≤ k → chosen_at events (k ∷ rest) ≡ None
 past_events k rest h = rw (past events k h) refl

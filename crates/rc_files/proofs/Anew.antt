@@ -122,15 +122,9 @@ server-same one other same = ap (λ (h : HostNode). server_of h) same.rest
 -- what is kept is the same work at both
 host-at : (one other : HostNode) (given : NodeWork) → SameButMaster one other → host_keeps (work_at (TheHost other) given) ≡ true →
     work_at (TheHost one) given ≡ work_at (TheHost other) given
-host-at one other (work.Ask to body) same kept = refl
-host-at one other (work.Deliver message) same kept = refl
 host-at one other work.Tick same kept = true_false (sym kept)
 host-at one other work.Stop same kept = ap (λ (id : ServerId). model.Stop id) (server-same one other same)
-host-at one other (work.Start names) same kept = refl
-host-at one other (work.Suspect id) same kept = refl
-host-at one other (work.Decide id) same kept = refl
-host-at one other (work.Create table owner) same kept = refl
-host-at one other (work.Split table at) same kept = refl
+host-at one other _ same kept = refl
 
 record SameAt (name : NodeName) (one other : Node) (given : NodeWork) : Type 0 where
   at : work_at one given ≡ work_at other given

@@ -4,7 +4,7 @@ use Rattle.std.specs.List.{list_any}
 use Rattle.std.proofs.Math.Path.{fun_ext}
 use Rattle.std.proofs.lemmas.Bool.{cond-false, cond_both, false≢true, eqb-true}
 use Rattle.rc_model.specs.Model.{ServerId, Member, Fault, put, ServerList, has_crashed, Config, any_lost, lost_if_crashed, with_lost}
-use Rattle.rc_model.specs.Model.{staying, substitutes, substitutes_for, replaced, candidates, changes_to, refills_with, lose, refill}
+use Rattle.rc_model.specs.Model.{staying, substitutes, substitutes_for, candidates, changes_to, refills_with, lose, refill}
 use Rattle.rc_model.specs.Model.{Segment, Log, with_config, refills, opens_change, loses}
 use Rattle.rc_config.proofs.MemberLemmas.{replaced-none}
 use Rattle.rc_segment.specs.Concerned.{is_concerned}

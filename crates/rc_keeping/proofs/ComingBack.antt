@@ -56,14 +56,7 @@ running-same : (host : HostNode) (one other : Master) (given : NodeWork) →
     SameButMaster (host_after_work (record host { master = Some one }) given).0
     (host_after_work (record host { master = Some other }) given).0
 running-same host one other (work.Deliver message) = takes-same host one other message
-running-same host one other work.Tick = record { runs = refl; rest = refl }
-running-same host one other work.Stop = record { runs = refl; rest = refl }
-running-same host one other (work.Start kept) = record { runs = refl; rest = refl }
-running-same host one other (work.Ask to body) = record { runs = refl; rest = refl }
-running-same host one other (work.Suspect id) = record { runs = refl; rest = refl }
-running-same host one other (work.Decide id) = record { runs = refl; rest = refl }
-running-same host one other (work.Create table owner) = record { runs = refl; rest = refl }
-running-same host one other (work.Split table at) = record { runs = refl; rest = refl }
+running-same host one other _ = record { runs = refl; rest = refl }
 
 either-same : (host : HostNode) (one other : Option Master) (given : NodeWork) → is_some one ≡ is_some other →
     SameButMaster (host_after_work (record host { master = one }) given).0 (host_after_work (record host { master = other }) given).0
@@ -81,7 +74,6 @@ step-same one other given same =
 -- ---- what is kept is refused at both, or at none
 
 pub refusals-come-back : RefusalsComeBack
-refusals-come-back one other (work.Deliver message) same kept = refl
 refusals-come-back one other work.Stop same kept =
     let server : server_of one ≡ server_of other = ap (λ (h : HostNode). server_of h) same.rest in
     ap (λ (b : Bool). b && is_server (server_of one) (Server (server_of one))) same.runs
@@ -92,11 +84,7 @@ refusals-come-back one other (work.Start taken) same kept =
     ap (λ (b : Bool). nat_lt one.index MAX_HOSTS && cond b false true) same.runs
     ∙ ap (λ (n : ℕ). nat_lt n MAX_HOSTS && cond (runs other) false true) index
 refusals-come-back one other work.Tick same kept = absurd cc
-refusals-come-back one other (work.Ask to body) same kept = refl
-refusals-come-back one other (work.Suspect id) same kept = refl
-refusals-come-back one other (work.Decide id) same kept = refl
-refusals-come-back one other (work.Create table owner) same kept = refl
-refusals-come-back one other (work.Split table at) same kept = refl
+refusals-come-back one other _ same kept = refl
 
 -- ---- one work
 
@@ -130,14 +118,7 @@ next-kept one other given same kept = by (host_may one given) (host_may other gi
 kept-anywhere : (one other : HostNode) (given : NodeWork) →
     host_keeps (work_at (TheHost one) given) ≡ host_keeps (work_at (TheHost other) given)
 kept-anywhere one other (work.Deliver message) = refl
-kept-anywhere one other work.Tick = refl
-kept-anywhere one other work.Stop = refl
-kept-anywhere one other (work.Start kept) = refl
-kept-anywhere one other (work.Ask to body) = refl
-kept-anywhere one other (work.Suspect id) = refl
-kept-anywhere one other (work.Decide id) = refl
-kept-anywhere one other (work.Create table owner) = refl
-kept-anywhere one other (work.Split table at) = refl
+kept-anywhere one other _ = refl
 
 -- ---- one after another
 
@@ -175,20 +156,11 @@ saved-hosts-come-back loaded host works same = given-same host loaded host works
 coordinator-same : (c now : Coordinator) (works : List NodeWork) →
     coordinator_given now (filter (λ given. coordinator_keeps (work_at (TheCoordinator c) given)) works) ≡ coordinator_given now works
 coordinator-same c now [] = refl
-coordinator-same c now (work.Deliver message ∷ works) =
-    coordinator-same c (coordinator_step now (work_at (TheCoordinator now) (work.Deliver message))).0 works
 coordinator-same c now (work.Tick ∷ works) = coordinator-same c now works
 coordinator-same c now (work.Stop ∷ works) = coordinator-same c now works
 coordinator-same c now (work.Start kept ∷ works) = coordinator-same c now works
 coordinator-same c now (work.Ask to body ∷ works) = coordinator-same c now works
-coordinator-same c now (work.Suspect id ∷ works) =
-    coordinator-same c (coordinator_step now (work_at (TheCoordinator now) (work.Suspect id))).0 works
-coordinator-same c now (work.Decide id ∷ works) =
-    coordinator-same c (coordinator_step now (work_at (TheCoordinator now) (work.Decide id))).0 works
-coordinator-same c now (work.Create table owner ∷ works) =
-    coordinator-same c (coordinator_step now (work_at (TheCoordinator now) (work.Create table owner))).0 works
-coordinator-same c now (work.Split table at ∷ works) =
-    coordinator-same c (coordinator_step now (work_at (TheCoordinator now) (work.Split table at))).0 works
+coordinator-same c now (given ∷ works) = coordinator-same c (coordinator_step now (work_at (TheCoordinator now) given)).0 works
 
 pub coordinators-come-back : CoordinatorsComeBack
 coordinators-come-back c works = coordinator-same c c works

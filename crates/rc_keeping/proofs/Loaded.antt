@@ -1,10 +1,11 @@
 -- A coordinator that is loaded is the one that was saved, and a host but for its master; and no save is a record of a
 -- journal.
-use Rattle.std.proofs.Common.{◌≡◌, ◌<◌, ◌≤◌, Bool, true, false, cond, Some, None, List, [], ◌∷◌}
-use Rattle.std.proofs.Common.{◌++◌, drop, ℕ, refl, sym, ap, ◌∙◌, subst, arith}
+use Rattle.std.proofs.Common.{◌≡◌, Bool, true, false, ◌||◌, nat_eq, cond, Some, None, List, [], ◌∷◌}
+use Rattle.std.proofs.Common.{◌++◌, drop, ℕ, refl, sym, ap, ◌∙◌, subst}
 use Rattle.std.proofs.lemmas.List.{drop_at}
 use Rattle.std.specs.Prelude.{is_some}
 use Rattle.rc_model.specs.Model.{Master, new_master, runs}
+use Rattle.rc_model.proofs.Tests.{true_false}
 use Rattle.rc_history.specs.Remade.{SameButMaster}
 use Rattle.rc_coordinator.specs.Book.{Book, coordinator_of}
 use Rattle.rc_world.specs.HostView.{HostData, host_of}
@@ -110,26 +111,21 @@ kind_of [] = 0
 kind_of (version ∷ []) = 0
 kind_of (version ∷ kind ∷ rest) = kind
 
--- a work's kind is at most 8
-low-kind : (w : NodeWork) → kind_of (coded_work w) ≤ 8
-unfolding kind_of
-low-kind (work.Ask to body) = omega arith
-low-kind (work.Deliver message) = omega arith
-low-kind work.Tick = omega arith
-low-kind work.Stop = omega arith
-low-kind (work.Start kept) = omega arith
-low-kind (work.Suspect id) = omega arith
-low-kind (work.Decide id) = omega arith
-low-kind (work.Create table owner) = omega arith
-low-kind (work.Split table at) = omega arith
+-- the kinds of saves are no kinds of works
+abbrev is_of_save : ℕ → Bool
+is_of_save kind = nat_eq kind 9 || nat_eq kind 10
 
--- and a save's is above
-high-kind : (saved : Saved) → 8 < kind_of (coded saved)
+work-kind : (w : NodeWork) → is_of_save (kind_of (coded_work w)) ≡ false
 unfolding kind_of
-high-kind (HostSave parts) = omega arith
-high-kind (CoordinatorSave book) = omega arith
+work-kind work.Tick = refl
+work-kind _ = refl
+
+save-kind : (saved : Saved) → is_of_save (kind_of (coded saved)) ≡ true
+unfolding kind_of
+save-kind (HostSave parts) = refl
+save-kind (CoordinatorSave book) = refl
 
 pub saves-are-no-records : SavesAreNoRecords
 saves-are-no-records saved rest w after e =
     let same : coded saved ≡ coded_work w = (seals-apart (coded saved) (coded_work w) rest after e).0 in
-    omega (arith, high-kind saved, low-kind w, ap kind_of same)
+    true_false (sym (save-kind saved) ∙ (ap (λ bytes. is_of_save (kind_of bytes)) same ∙ work-kind w))

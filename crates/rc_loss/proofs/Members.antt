@@ -1,10 +1,8 @@
 -- Members of a segment: how many there are, and what is noted of them, when some are lost or replaced or tell.
-use Rattle.std.proofs.Common.{◌≡◌, ◌⊎◌, ℕ, suc, ◌≤◌, min, Bool, true, false, not, ◌||◌, nat_lt, List, [], ◌∷◌, length, take, map}
-use Rattle.std.proofs.Common.{Option, Some, None, refl, sym, ap, ◌∙◌, subst, inl, inr, arith}
+use Rattle.std.proofs.Common.{◌≡◌, ◌⊎◌, ℕ, suc, Bool, true, false, not, ◌||◌, List, [], ◌∷◌, length, map}
+use Rattle.std.proofs.Common.{Option, Some, None, refl, sym, ap, subst, inl, inr}
 use Rattle.std.proofs.lemmas.Bool.{and_parts}
-use Rattle.std.proofs.lemmas.Bool.Decides.{nat_tests}
-use Rattle.std.proofs.lemmas.List.{length-take}
-use Rattle.rc_model.specs.Model.{ServerId, Member, Told, Message, Stored, same_id, between, ServerList, has_crashed, candidates, choose}
+use Rattle.rc_model.specs.Model.{ServerId, Member, Told, Message, Stored, same_id, between, ServerList, has_crashed}
 use Rattle.rc_model.specs.Model.{new_member, told_with, is_heard, told_if_heard, told_closed, lost_if_crashed, replaced, In}
 use Rattle.rc_model.proofs.Ids.{same_id-true}
 use Rattle.rc_model.proofs.Members.{In-map}

@@ -1,7 +1,7 @@
 -- Where no part is to be answered, none is.
-use Rattle.std.proofs.Common.{◌≡◌, ℕ, Bool, true, false, cond, List, [], ◌∷◌, find, Option, Some, None}
+use Rattle.std.proofs.Common.{◌≡◌, ℕ, List, find, Option, Some, None}
 use Rattle.std.proofs.Common.{is_some, option_map, refl, sym, ap}
-use Rattle.rc_model.specs.Model.{Entry, Ownership, PartState, is_to_answer, to_answer, answered_in, after_answer, Master}
+use Rattle.rc_model.specs.Model.{Entry, Ownership, PartState, is_to_answer, to_answer, after_answer, Master}
 use Rattle.rc_model.specs.Model.{durable_replayed, answers_part, follows_replay}
 use Rattle.rc_ownership.proofs.PartTables.{answered_in-none}
 use Rattle.rc_notices.specs.Telling.{told_of}

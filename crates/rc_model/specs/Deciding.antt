@@ -105,7 +105,7 @@ part_of_sender c id number term =
     option_and_then (λ attempt. if is_current c number attempt then part_in id term attempt.decided else None)
     (attempt_at c number)
 
--- a new grant is remembered for good, with the tablets that it makes, and its owner gets the Own
+-- the tablets are these from now on, the grant is remembered for good, and its owner gets the Own
 abbrev pub grants_anew : Coordinator → List Tablet → Grant → Coordinator × List Message
 grants_anew c tablets grant = (
   record c { tablets = tablets; grants = c.grants ++ grant ∷ [] },
@@ -120,7 +120,7 @@ grants_part c id number part =
     else (c, refuses_server id NoTable ∷ [])
 
 -- a Recovered of a term: one that was granted to the sender before is granted by the same Own again, and one that it
--- has in its attempt is granted now
+-- has in its attempt is granted now; any other is refused
 abbrev pub takes_recovered : Coordinator → ServerId → ℕ → ℕ → Coordinator × List Message
 takes_recovered c id number term = if_up c id (
     option_map_or (λ grant. (c, from_coordinator id (own_body grant) ∷ [])) (grant_to c id term)

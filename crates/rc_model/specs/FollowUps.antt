@@ -153,8 +153,8 @@ abbrev pub followed : ℕ → Master → Master × List Message
 followed zero master = (marks_shut master, [])
 followed (suc times) master = further (follow_up (marks_shut master)) (marks_shut master) (λ next. followed times next)
 
--- the rules are made at most so often: for an entry that waits a head is rolled or it is appended, a place becomes
--- durable, a Commit is sent for a segment, a part is answered, and the heads go through their phases
+-- no more rules than this are made: for each entry that waits a roll and an append, for each place that it becomes
+-- durable, for each segment a Commit, for each part an answer; and 7 for the phases of the heads, and the Closes
 abbrev pub enough : Master → ℕ
 enough master =
     7 + 2 * length master.ownership.replay + length (places_of master.log) + master.log.head

@@ -27,7 +27,7 @@ opens_head log digest ids =
 
 -- a head with this digest on these members, if they can be chosen
 abbrev pub opened_on : Log → List ℕ → Option (List ServerId) → Log × Result Bool Fault
-opened_on log digest ids = option_map_or (λ on. (opens_head log digest on, Ok true)) ids (log, Err NoBackups)
+opened_on log digest chosen = option_map_or (λ ids. (opens_head log digest ids, Ok true)) chosen (log, Err NoBackups)
 
 -- the first head: segment 1, alone in its digest
 abbrev pub open_first : ServerList → Log → Log × Result Bool Fault

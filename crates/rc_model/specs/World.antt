@@ -74,7 +74,7 @@ node_can world TheCoordinator work = coordinator_can work
 node_can world (TheHost index) work = host_can (world.hosts index) work
 
 abbrev pub is_possible_job : World → Option Job → Bool
-is_possible_job world job = option_map_or (λ one. node_can world one.node one.work) job false
+is_possible_job world found = option_map_or (λ job. node_can world job.node job.work) found false
 
 -- the event is possible in this world
 abbrev pub is_possible : World → Event → Bool
@@ -109,7 +109,7 @@ node_done world event TheCoordinator work = coordinator_done world event (coordi
 node_done world event (TheHost index) work = host_done world event index (host_step (world.hosts index) work)
 
 abbrev pub job_done : World → Event → Option Job → World
-job_done world event job = option_map_or (λ one. node_done world event one.node one.work) job world
+job_done world event found = option_map_or (λ job. node_done world event job.node job.work) found world
 
 -- a step; an event that isn't possible changes nothing
 abbrev pub step : World → Event → World

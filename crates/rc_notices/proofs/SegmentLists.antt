@@ -3,7 +3,7 @@ use Rattle.std.proofs.Common.{◌≡◌, ⊎_elim, ℕ, ◌+◌, ◌<◌, ◌≤
 use Rattle.std.proofs.Common.{true, false, not, ◌&&◌, ◌||◌, is_some, ap, sym, ◌∙◌, add-one, append_assoc, refl, subst, arith}
 use Rattle.std.proofs.lemmas.Bool.{cases_eq, and_parts, cond_both, cond-false, false≢true}
 use Rattle.std.proofs.lemmas.List.{append-nil}
-use Rattle.rc_model.specs.Model.{Member, Message, Commit, between, to_coordinator, all_placed, Segment, Log, numbers_to}
+use Rattle.rc_model.specs.Model.{Member, Message, Commit, between, to_coordinator, all_placed, Log, numbers_to}
 use Rattle.rc_model.specs.Model.{place_of, stood, standing, reminds_shut_members, reminds_open, reminds_shut, awaits_commit}
 use Rattle.rc_headroll.proofs.WatchLemmas.{wants-parts}
 use Rattle.rc_segment.specs.Resting.{have_told, wants_nothing}

@@ -50,24 +50,12 @@ addressed (node.TheHost host) name machine work.Tick is can brought = is
 addressed node.TheOutside name machine work.Stop is can brought = true_false (sym can)
 addressed (node.TheCoordinator c) name machine work.Stop is can brought = true_false (sym can)
 addressed (node.TheHost host) name machine work.Stop is can brought = is
-addressed n name machine (work.Ask to body) is can brought = tt
-addressed n name machine (work.Start kept) is can brought = tt
-addressed n name machine (work.Suspect id) is can brought = tt
-addressed n name machine (work.Decide id) is can brought = tt
-addressed n name machine (work.Create table owner) is can brought = tt
-addressed n name machine (work.Split table at) is can brought = tt
+addressed n name machine _ is can brought = tt
 
 brought-before : (left : List Message) (n : Node) (name : NodeName) (machine : Machine) (given : NodeWork) → left ≡ machine.left →
     MayBring machine name given → IsBrought left (work_at n given)
 brought-before left n name machine (work.Deliver message) e brought = subst (In message) (sym e) brought.0
-brought-before left n name machine work.Tick e brought = tt
-brought-before left n name machine work.Stop e brought = tt
-brought-before left n name machine (work.Ask to body) e brought = tt
-brought-before left n name machine (work.Start kept) e brought = tt
-brought-before left n name machine (work.Suspect id) e brought = tt
-brought-before left n name machine (work.Decide id) e brought = tt
-brought-before left n name machine (work.Create table owner) e brought = tt
-brought-before left n name machine (work.Split table at) e brought = tt
+brought-before left n name machine _ e brought = tt
 
 pub gives-simulated : (setup : Setup) (old new : Machine) (name : NodeName) (given : NodeWork) → HasJournal name →
     IsGiven old name given new → Simulated setup old → Simulated setup new

@@ -46,14 +46,7 @@ none_in bytes none message e = none message [] (e ∙ sym (append-nil (coded_mes
 -- the record of a delivery has the bytes of the message behind a 1
 pub sealed_delivery : (given : NodeWork) (bytes : List ℕ) → IsDeliveryOf given bytes → sealed (1 ∷ bytes) ≡ record_of given
 sealed_delivery (work.Deliver message) bytes is = ap (λ b. sealed (1 ∷ b)) is
-sealed_delivery (work.Ask to body) bytes is = absurd is
-sealed_delivery work.Tick bytes is = absurd is
-sealed_delivery work.Stop bytes is = absurd is
-sealed_delivery (work.Start kept) bytes is = absurd is
-sealed_delivery (work.Suspect id) bytes is = absurd is
-sealed_delivery (work.Decide id) bytes is = absurd is
-sealed_delivery (work.Create table owner) bytes is = absurd is
-sealed_delivery (work.Split table at) bytes is = absurd is
+sealed_delivery _ bytes is = absurd is
 
 -- the start of a host names what its backup has open
 pub starts_whole : (node : NodeData) (holdings : Holdings) → backup_in node ≡ Some holdings →

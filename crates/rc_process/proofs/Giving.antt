@@ -9,7 +9,7 @@ use Rattle.rc_types.specs.declared.messages.Body.{Body}
 use Rattle.rc_types.specs.declared.messages.Message.{Message}
 use Rattle.rc_model.specs.Model.{is_for_backup, Fetch}
 use Rattle.rc_model.specs.Headline.{In}
-use Rattle.rc_model.specs.Nodes.{Work, Ask, Take, Tick, Stop, Start, Suspect, Decide, Create, Split, is_running_at}
+use Rattle.rc_model.specs.Nodes.{Work, Take, Tick, Stop, Start, is_running_at}
 use Rattle.rc_model.specs.World.{NodeName}
 use Rattle.rc_model.proofs.Tests.{true_false}
 use Rattle.rc_model.proofs.Members.{In-left, In-right, In-append}
@@ -48,13 +48,7 @@ kept-not name (node.TheHost host) (Take message) is kept =
     and-false (is_running_at host message.to) (is_for_backup message.body)
     (for-backup message.body (subst (λ n. keeps n (Take message) ≡ true) (sym is) kept))
 kept-not name (node.TheHost host) (Tick addr) is kept = true_false (sym (subst (λ n. keeps n (Tick addr) ≡ true) (sym is) kept))
-kept-not name (node.TheHost host) (Stop id) is kept = refl
-kept-not name (node.TheHost host) (Start names) is kept = refl
-kept-not name (node.TheHost host) (Ask to body) is kept = refl
-kept-not name (node.TheHost host) (Suspect id) is kept = refl
-kept-not name (node.TheHost host) (Decide id) is kept = refl
-kept-not name (node.TheHost host) (Create table owner) is kept = refl
-kept-not name (node.TheHost host) (Split table at) is kept = refl
+kept-not name (node.TheHost host) _ is kept = refl
 
 -- the start of the server that runs
 started-place : (before : ℕ) (saved : Saved) (works : List NodeWork) (life : Life) (n : Node) (given : NodeWork) (view : ProcessView)
@@ -64,13 +58,7 @@ started-place : (before : ℕ) (saved : Saved) (works : List NodeWork) (life : L
 started-place before saved works life n (work.Start kept) view written early long =
     let p = place-within before saved works (length life.journal + 1) in omega arith
 started-place before saved works life n work.Stop view written early long = omega (arith, place-none before saved works)
-started-place before saved works life n (work.Ask to body) view written early long = early
-started-place before saved works life n (work.Deliver message) view written early long = early
-started-place before saved works life n work.Tick view written early long = early
-started-place before saved works life n (work.Suspect id) view written early long = early
-started-place before saved works life n (work.Decide id) view written early long = early
-started-place before saved works life n (work.Create table owner) view written early long = early
-started-place before saved works life n (work.Split table at) view written early long = early
+started-place before saved works life n _ view written early long = early
 
 -- the process after it was given the work, where that adds these bytes
 abbrev pub next_with : Running → NodeWork → List ℕ → Running

@@ -703,14 +703,7 @@ is_moved old saving begun node written started safe held same is =
 pub started_between : (process : ProcessView) (given : NodeWork) (started written starts : ℕ) →
     starts ≡ started_next process given written → process.started ≡ started → started ≤ written → (started ≤ starts) × (starts ≤ written)
 started_between process (work.Start kept) started written starts is e h = (omega arith, omega arith)
-started_between process work.Stop started written starts is e h = (omega arith, omega arith)
-started_between process (work.Ask to body) started written starts is e h = (omega arith, omega arith)
-started_between process (work.Deliver message) started written starts is e h = (omega arith, omega arith)
-started_between process work.Tick started written starts is e h = (omega arith, omega arith)
-started_between process (work.Suspect id) started written starts is e h = (omega arith, omega arith)
-started_between process (work.Decide id) started written starts is e h = (omega arith, omega arith)
-started_between process (work.Create table owner) started written starts is e h = (omega arith, omega arith)
-started_between process (work.Split table at) started written starts is e h = (omega arith, omega arith)
+started_between process _ started written starts is e h = (omega arith, omega arith)
 
 -- what a process is after a work, part by part
 pub is_given : (old : ProcessView) (work : NodeWork) (node : Node) (written started : ℕ) (held : List Held) →

@@ -282,7 +282,7 @@ pub record Adds (world after : World) : Type 0 where
   pub grows : after.sent ≡ world.sent ++ messages
   pub news : IsNews world messages
 
-pub adds-node : (world : World) (one : Event) (node : NodeName) (work : Work) → GoodWorld world → IsGiven world.sent node work →
+adds-node : (world : World) (one : Event) (node : NodeName) (work : Work) → GoodWorld world → IsGiven world.sent node work →
     Adds world (node_done world one node work)
 adds-node world one TheOutside work good given = record { messages = outside_sends work; grows = refl; news = news-outside world work }
 adds-node world one TheCoordinator work good given = record {

@@ -21,28 +21,7 @@ record SameParts (to : Addr) (one other : Body) : Type 0 where
 
 same_parts : (to : Addr) (body : Body) → SameParts to (no_entries body) body
 same_parts to (body.Write a b c) = record { grant = refl; ack = refl; plan = refl }
-same_parts to (body.Read a b) = record { grant = refl; ack = refl; plan = refl }
-same_parts to (body.WriteOk a b c d e f) = record { grant = refl; ack = refl; plan = refl }
-same_parts to (body.ReadOk a b c d) = record { grant = refl; ack = refl; plan = refl }
-same_parts to (body.Refused a) = record { grant = refl; ack = refl; plan = refl }
-same_parts to (body.Place a b c d e) = record { grant = refl; ack = refl; plan = refl }
-same_parts to (body.Append a b c) = record { grant = refl; ack = refl; plan = refl }
-same_parts to (body.Close a b) = record { grant = refl; ack = refl; plan = refl }
-same_parts to (body.Stored a b c d) = record { grant = refl; ack = refl; plan = refl }
-same_parts to (body.Commit a b) = record { grant = refl; ack = refl; plan = refl }
-same_parts to (body.CommitOk a b) = record { grant = refl; ack = refl; plan = refl }
-same_parts to body.Enlist = record { grant = refl; ack = refl; plan = refl }
-same_parts to body.Ready = record { grant = refl; ack = refl; plan = refl }
-same_parts to (body.List a b) = record { grant = refl; ack = refl; plan = refl }
-same_parts to (body.Gather a b) = record { grant = refl; ack = refl; plan = refl }
-same_parts to (body.Replicas a b) = record { grant = refl; ack = refl; plan = refl }
-same_parts to (body.Plan a b c d e) = record { grant = refl; ack = refl; plan = refl }
-same_parts to (body.Fetch a b c d e) = record { grant = refl; ack = refl; plan = refl }
-same_parts to (body.Data a b c d) = record { grant = refl; ack = refl; plan = refl }
-same_parts to (body.Recovered a b) = record { grant = refl; ack = refl; plan = refl }
-same_parts to (body.Own a b c d e f) = record { grant = refl; ack = refl; plan = refl }
-same_parts to (body.SplitOk a b) = record { grant = refl; ack = refl; plan = refl }
-same_parts to (body.Free a) = record { grant = refl; ack = refl; plan = refl }
+same_parts to _ = record { grant = refl; ack = refl; plan = refl }
 
 granted_bare : (sent : List Message) → granted (map without_entries sent) ≡ granted sent
 granted_bare [] = refl

@@ -7,9 +7,7 @@ use Rattle.rc_types.specs.declared.entries.Entry.{Entry}
 use Rattle.rc_types.specs.declared.rows.PlanRow.{PlanRow}
 use Rattle.rc_types.specs.declared.messages.Message.{Message}
 use Rattle.rc_types.specs.declared.messages.Body.{Body}
-use Rattle.rc_types.specs.declared.messages.Body.TheVariants.{Write, Read, WriteOk, ReadOk, Refused, Place, Append, Close, Stored, Commit}
-use Rattle.rc_types.specs.declared.messages.Body.TheVariants.{CommitOk, Enlist, Ready, List as ServersOf, Gather, Replicas, Plan, Fetch}
-use Rattle.rc_types.specs.declared.messages.Body.TheVariants.{Data, Recovered, Own, SplitOk, Free}
+use Rattle.rc_types.specs.declared.messages.Body.TheVariants.{Place, Append, Plan, Own}
 use Rattle.serde_json.specs.Data.{Data as Json}
 use Rattle.std.specs.Option.{option_to_list}
 use Rattle.serde_json.specs.View.{items_of}
@@ -41,27 +39,7 @@ found_float (Some d) = has_float d
 sent_none : (from : ServerId) (body : Body) → found_float (sent_data from body) ≡ false
 sent_none from (Place seg epoch digest entries closed) = ap (λ b. b || false) (entries_none entries)
 sent_none from (Append seg offset entries) = ap (λ b. b || false) (entries_none entries)
-sent_none from (WriteOk s o t n k v) = refl
-sent_none from (Plan h a m r p) = refl
-sent_none from (Own n l h t p a) = refl
-sent_none from (Write t k v) = refl
-sent_none from (Read t k) = refl
-sent_none from (ReadOk t k n v) = refl
-sent_none from (Refused c) = refl
-sent_none from (Close s l) = refl
-sent_none from (Stored s e l c) = refl
-sent_none from (Commit s e) = refl
-sent_none from (CommitOk s e) = refl
-sent_none from Enlist = refl
-sent_none from Ready = refl
-sent_none from (ServersOf v r) = refl
-sent_none from (Gather a m) = refl
-sent_none from (Replicas a r) = refl
-sent_none from (Fetch a m s l p) = refl
-sent_none from (Data a s t e) = refl
-sent_none from (Recovered a t) = refl
-sent_none from (SplitOk t k) = refl
-sent_none from (Free s) = refl
+sent_none from _ = refl
 
 from_none : (from : Addr) (body : Body) → found_float (sent_from from body) ≡ false
 from_none (Server from) body = sent_none from body
@@ -76,27 +54,7 @@ own_none Outside n l h t p a = refl
 body_none : (from to : Addr) (body : Body) → found_float (body_data from to body) ≡ false
 body_none from to (Plan h a m rows p) = ap (λ b. b || false) (rows_none rows)
 body_none from to (Own n l h t p a) = own_none to n l h t p a
-body_none from to (Place s e d es c) = from_none from (Place s e d es c)
-body_none from to (Append s o es) = from_none from (Append s o es)
-body_none from to (WriteOk s o t n k v) = from_none from (WriteOk s o t n k v)
-body_none from to (Write t k v) = from_none from (Write t k v)
-body_none from to (Read t k) = from_none from (Read t k)
-body_none from to (ReadOk t k n v) = from_none from (ReadOk t k n v)
-body_none from to (Refused c) = from_none from (Refused c)
-body_none from to (Close s l) = from_none from (Close s l)
-body_none from to (Stored s e l c) = from_none from (Stored s e l c)
-body_none from to (Commit s e) = from_none from (Commit s e)
-body_none from to (CommitOk s e) = from_none from (CommitOk s e)
-body_none from to Enlist = from_none from Enlist
-body_none from to Ready = from_none from Ready
-body_none from to (ServersOf v r) = from_none from (ServersOf v r)
-body_none from to (Gather a m) = from_none from (Gather a m)
-body_none from to (Replicas a r) = from_none from (Replicas a r)
-body_none from to (Fetch a m s l p) = from_none from (Fetch a m s l p)
-body_none from to (Data a s t e) = from_none from (Data a s t e)
-body_none from to (Recovered a t) = from_none from (Recovered a t)
-body_none from to (SplitOk t k) = from_none from (SplitOk t k)
-body_none from to (Free s) = from_none from (Free s)
+body_none from to given = from_none from given
 
 found_none : (d : Option Json) (ds : List Json) → found_float d ≡ false → items_have_float (items_of ds) ≡ false →
     items_have_float (items_of (option_to_list d ++ ds)) ≡ false

@@ -5,7 +5,7 @@ use Rattle.std.proofs.lemmas.List.{append-nil}
 use Rattle.std.proofs.lemmas.List.Folds.{list_any-append}
 use Rattle.rc_model.specs.Model.{Event, Deliver}
 use Rattle.rc_history.specs.Nodes.{Node}
-use Rattle.rc_world.specs.NodeCalls.{event_of}
+use Rattle.rc_world.specs.NodeView.{event_of}
 use Rattle.rc_types.specs.declared.events.NodeWork.{NodeWork}
 use Rattle.rc_types.specs.declared.events.NodeWork.TheVariants as work
 use Rattle.rc_wire.specs.Given.{is_delivery}
@@ -29,14 +29,7 @@ delivered-push mine event n = list_any-append (is_delivery_of n) mine (event ∷
 -- a work that is no delivery delivers nothing
 none-delivered : (node : Node) (given : NodeWork) (n : ℕ) → is_delivery given ≡ false → is_delivery_of n (event_of node 0 given) ≡ false
 none-delivered node (work.Deliver message) n is = cc
-none-delivered node (work.Ask to body) n is = refl
-none-delivered node work.Tick n is = refl
-none-delivered node work.Stop n is = refl
-none-delivered node (work.Start kept) n is = refl
-none-delivered node (work.Suspect id) n is = refl
-none-delivered node (work.Decide id) n is = refl
-none-delivered node (work.Create table owner) n is = refl
-none-delivered node (work.Split table at) n is = refl
+none-delivered node _ n is = refl
 
 -- so the numbers stay those of the messages that were delivered
 pub given-noted : (numbers : List ℕ) (mine : List Event) (event : Event) (node : Node) (given : NodeWork) → is_delivery given ≡ false →

@@ -10,8 +10,8 @@ use Rattle.rc_history.specs.Nodes.{Node, TheOutside, TheCoordinator, TheHost, na
 use Rattle.rc_history.specs.Events.{takes}
 use Rattle.rc_history.proofs.Names.{names-kept}
 use Rattle.rc_wire.specs.declared.view.Place.{Place}
-use Rattle.rc_world.specs.NodeView.{may_take, NodeHasRoom}
-use Rattle.rc_world.specs.NodeCalls.{event_of, WasSent}
+use Rattle.rc_world.specs.NodeView.{event_of, may_take, NodeHasRoom}
+use Rattle.rc_world.specs.NodeCalls.{WasSent}
 use Rattle.rc_world.proofs.Rooms.{histories-leave-room}
 use Rattle.rc_types.specs.declared.events.NodeWork.{NodeWork}
 use Rattle.rc_types.specs.declared.events.NodeWork.TheVariants as work
@@ -60,14 +60,7 @@ give-takes setup seat number node numbers given s idle none =
 
 nothing-sent : (sent : List Message) (node : Node) (given : NodeWork) → is_delivery given ≡ false → WasSent sent node 0 given
 nothing-sent sent node (work.Deliver message) is = let no : true ≡ false = is in absurd (true≢false no)
-nothing-sent sent node (work.Ask to body) is = tt
-nothing-sent sent node work.Tick is = tt
-nothing-sent sent node work.Stop is = tt
-nothing-sent sent node (work.Start kept) is = tt
-nothing-sent sent node (work.Suspect id) is = tt
-nothing-sent sent node (work.Decide id) is = tt
-nothing-sent sent node (work.Create table owner) is = tt
-nothing-sent sent node (work.Split table at) is = tt
+nothing-sent sent node _ is = tt
 
 pub given-step : (setup : Setup) (seat : SeatData) (number : ℕ) (node after : Node) (numbers : List ℕ) (given : NodeWork) (offer : Offer) →
     SeatSound setup seat number node numbers → seat.pending ≡ None → is_delivery given ≡ false → may_take node given ≡ true →

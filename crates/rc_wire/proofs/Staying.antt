@@ -22,14 +22,7 @@ job-stays : (longer shorter : List Message) (given : Event) (job : Job) → Star
     work_of shorter given ≡ Some job → work_of longer given ≡ Some job
 job-stays longer shorter (event.Deliver number) job starts is =
     delivered-stays longer shorter number job (slice_get shorter number) starts refl is
-job-stays longer shorter (event.Ask to body) job starts is = is
-job-stays longer shorter (event.Tick addr) job starts is = is
-job-stays longer shorter (event.Stop id) job starts is = is
-job-stays longer shorter (event.Start host kept) job starts is = is
-job-stays longer shorter (event.Suspect id) job starts is = is
-job-stays longer shorter (event.Decide id) job starts is = is
-job-stays longer shorter (event.Create table owner) job starts is = is
-job-stays longer shorter (event.Split table at) job starts is = is
+job-stays longer shorter _ job starts is = is
 
 -- a step of a node is one wherever more was sent
 pub step-stays : (longer shorter : List Message) (name : NodeName) (before : Node) (offered : Offered) (after : Node) →

@@ -6,8 +6,7 @@ use Rattle.rc_model.specs.Model.{Work, host_can, World, NodeName, TheOutside, Th
 use Rattle.rc_history.specs.Nodes.{name_of, node_in}
 use Rattle.rc_history.specs.Nodes as apart
 use Rattle.rc_history.specs.Events.{takes}
-use Rattle.rc_world.specs.NodeView.{work_at, may_take}
-use Rattle.rc_world.specs.NodeCalls.{event_of}
+use Rattle.rc_world.specs.NodeView.{event_of, work_at, may_take}
 use Rattle.rc_types.specs.declared.events.NodeWork.{NodeWork}
 use Rattle.rc_types.specs.declared.events.NodeWork.TheVariants as work
 use Rattle.rc_wire.specs.Given.{is_delivery}
@@ -35,24 +34,16 @@ pub takes-given : (world : World) (name : NodeName) (number : ℕ) (given : Node
     is_delivery given ≡ false → takes name world (event_of (node_in world name) number given) ≡ may_take (node_in world name) given
 takes-given world name number (work.Deliver message) named is = cc
 takes-given world TheOutside number (work.Ask to body) named is = and-true (may_take apart.TheOutside (work.Ask to body))
-takes-given world TheOutside number work.Tick named is = refl
 takes-given world TheOutside number work.Stop named is = and-false (is_possible world (event_of apart.TheOutside number work.Stop))
 takes-given world TheOutside number (work.Start kept) named is = and-false
     (is_possible world (event_of apart.TheOutside number (work.Start kept)))
-takes-given world TheOutside number (work.Suspect id) named is = refl
-takes-given world TheOutside number (work.Decide id) named is = refl
-takes-given world TheOutside number (work.Create table owner) named is = refl
-takes-given world TheOutside number (work.Split table at) named is = refl
+takes-given world TheOutside number _ named is = refl
 takes-given world TheCoordinator number (work.Ask to body) named is = and-false (is_possible world (event.Ask to body))
-takes-given world TheCoordinator number work.Tick named is = refl
 takes-given world TheCoordinator number work.Stop named is =
     and-false (is_possible world (event_of (node_in world TheCoordinator) number work.Stop))
 takes-given world TheCoordinator number (work.Start kept) named is =
     and-false (is_possible world (event_of (node_in world TheCoordinator) number (work.Start kept)))
-takes-given world TheCoordinator number (work.Suspect id) named is = refl
-takes-given world TheCoordinator number (work.Decide id) named is = refl
-takes-given world TheCoordinator number (work.Create table owner) named is = refl
-takes-given world TheCoordinator number (work.Split table at) named is = refl
+takes-given world TheCoordinator number _ named is = refl
 takes-given world (TheHost index) number (work.Ask to body) named is = and-false (is_possible world (event.Ask to body))
 takes-given world (TheHost index) number work.Tick named is =
     host-own world index (world.hosts index).index (work_at (node_in world (TheHost index)) work.Tick) (own-index world index named)
@@ -60,7 +51,4 @@ takes-given world (TheHost index) number work.Stop named is =
     host-own world index (world.hosts index).index (work_at (node_in world (TheHost index)) work.Stop) (own-index world index named)
 takes-given world (TheHost index) number (work.Start kept) named is =
     host-own world index (world.hosts index).index (work_at (node_in world (TheHost index)) (work.Start kept)) (own-index world index named)
-takes-given world (TheHost index) number (work.Suspect id) named is = refl
-takes-given world (TheHost index) number (work.Decide id) named is = refl
-takes-given world (TheHost index) number (work.Create table owner) named is = refl
-takes-given world (TheHost index) number (work.Split table at) named is = refl
+takes-given world (TheHost index) number _ named is = refl

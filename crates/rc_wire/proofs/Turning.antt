@@ -20,10 +20,10 @@ use Rattle.rc_wire.specs.declared.work.Work.{Work}
 use Rattle.rc_wire.specs.declared.work.Work.TheVariants as work
 use Rattle.rc_wire.specs.SeatView.{SeatData, Offered, offered_events, world_at, node_at}
 use Rattle.rc_wire.specs.SeatCalls.{Later, Finds, Misses, Fetches, Commits}
-use Rattle.rc_wire.specs.Works.{event_for, Prepares, is_delivery_of, was_delivered}
+use Rattle.rc_wire.specs.Works.{event_for, work_in, Prepares, is_delivery_of, was_delivered}
 use Rattle.rc_wire.specs.declared.steps.Step.{Step}
 use Rattle.rc_wire.specs.declared.steps.Step.TheVariants.{Do, Settle}
-use Rattle.rc_wire.specs.Runs.{own_work, listed, works_for, is_fetched, none_fetched, work_in, works_in, is_new, all_new}
+use Rattle.rc_wire.specs.Runs.{own_work, listed, works_for, is_fetched, none_fetched, works_in, is_new, all_new}
 use Rattle.rc_wire.specs.Runs.{Does, DeliveredBelow, Runs, Grows, Progress, Takes}
 use Rattle.rc_wire.proofs.Found.{none-found, none-before, within-found}
 
@@ -218,32 +218,15 @@ does-push setup start works more old given new d t is fresh = record {
       ∙ (ap (λ l. is_new l t.event) (sym d.mine) ∙ fresh));
 }
 
+by-event : (one e : Event) (given : Work) → Some one ≡ Some e → work_in one ≡ Some given →
+    ((done : List Event) → is_new done one ≡ true) → (work_in e ≡ Some given) × ((done : List Event) → is_new done e ≡ true)
+by-event one e given is works new =
+    let same : one ≡ e = cc in (ap work_in (sym same) ∙ works, λ done. ap (is_new done) (sym same) ∙ new done)
+
 given-work : (node : Node) (held : Option (ℕ × Message)) (given : Work) (e : Event) → is_fetched given ≡ false →
     event_for node held given ≡ Some e → (work_in e ≡ Some given) × ((done : List Event) → is_new done e ≡ true)
 given-work node held work.Fetched e none is = cc
-given-work node held (work.Ask to body) e none is =
-    let same : event.Ask to body ≡ e = cc in (ap work_in (sym same), λ done. ap (is_new done) (sym same))
-given-work node held work.Tick e none is = by _ is
-  where
-    by : (a : _) → Some (event.Tick a) ≡ Some e → (work_in e ≡ Some work.Tick) × ((done : List Event) → is_new done e ≡ true)
-    by a h = let same : event.Tick a ≡ e = cc in (ap work_in (sym same), λ done. ap (is_new done) (sym same))
-given-work node held work.Stop e none is = by _ is
-  where
-    by : (a : _) → Some (event.Stop a) ≡ Some e → (work_in e ≡ Some work.Stop) × ((done : List Event) → is_new done e ≡ true)
-    by a h = let same : event.Stop a ≡ e = cc in (ap work_in (sym same), λ done. ap (is_new done) (sym same))
-given-work node held (work.Start kept) e none is = by _ is
-  where
-    by : (a : ℕ) → Some (event.Start a kept) ≡ Some e →
-        (work_in e ≡ Some (work.Start kept)) × ((done : List Event) → is_new done e ≡ true)
-    by a h = let same : event.Start a kept ≡ e = cc in (ap work_in (sym same), λ done. ap (is_new done) (sym same))
-given-work node held (work.Suspect id) e none is =
-    let same : event.Suspect id ≡ e = cc in (ap work_in (sym same), λ done. ap (is_new done) (sym same))
-given-work node held (work.Decide id) e none is =
-    let same : event.Decide id ≡ e = cc in (ap work_in (sym same), λ done. ap (is_new done) (sym same))
-given-work node held (work.Create table owner) e none is =
-    let same : event.Create table owner ≡ e = cc in (ap work_in (sym same), λ done. ap (is_new done) (sym same))
-given-work node held (work.Split table at) e none is =
-    let same : event.Split table at ≡ e = cc in (ap work_in (sym same), λ done. ap (is_new done) (sym same))
+given-work node held given e none is = by-event _ e given is refl (λ done. refl)
 
 own-given : (b f : Bool) (w given : Work) → is_fetched w ≡ f → not f ≡ true → cond b (Some w) None ≡ Some given →
     is_fetched given ≡ false

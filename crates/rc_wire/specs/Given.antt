@@ -3,24 +3,10 @@ use Rattle.std.specs.Prelude.{◌≡◌, ℕ, Bool, true, false, if◌then◌els
 use Rattle.rc_types.specs.declared.messages.Message.{Message}
 use Rattle.rc_model.specs.World.{NodeName, same_node, node_of}
 use Rattle.rc_history.specs.Nodes.{Node}
-use Rattle.rc_world.specs.NodeView.{after_work}
-use Rattle.rc_world.specs.NodeCalls.{event_of}
+use Rattle.rc_world.specs.NodeView.{event_of, after_work}
 use Rattle.rc_types.specs.declared.events.NodeWork.{NodeWork}
 use Rattle.rc_types.specs.declared.events.NodeWork.TheVariants as given
-use Rattle.rc_wire.specs.declared.work.Work.{Work}
-use Rattle.rc_wire.specs.declared.work.Work.TheVariants as work
 use Rattle.rc_wire.specs.declared.offer.Offer.{Offer}
-
-abbrev pub given_of : Work → Option NodeWork
-given_of work.Fetched = None
-given_of (work.Ask to body) = Some (given.Ask to body)
-given_of work.Tick = Some given.Tick
-given_of work.Stop = Some given.Stop
-given_of (work.Start kept) = Some (given.Start kept)
-given_of (work.Suspect id) = Some (given.Suspect id)
-given_of (work.Decide id) = Some (given.Decide id)
-given_of (work.Create table owner) = Some (given.Create table owner)
-given_of (work.Split table at) = Some (given.Split table at)
 
 abbrev pub is_delivery : NodeWork → Bool
 is_delivery (given.Deliver message) = true

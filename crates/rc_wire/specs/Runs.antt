@@ -12,7 +12,7 @@ use Rattle.rc_types.specs.Names.{number_of}
 use Rattle.rc_wire.specs.declared.work.Work.{Work}
 use Rattle.rc_wire.specs.declared.work.Work.TheVariants as work
 use Rattle.rc_wire.specs.SeatView.{SeatData, world_at, node_at}
-use Rattle.rc_wire.specs.Works.{event_for, was_delivered}
+use Rattle.rc_wire.specs.Works.{event_for, work_in, was_delivered}
 use Rattle.rc_wire.specs.declared.steps.Step.{Step}
 use Rattle.rc_wire.specs.declared.steps.Step.TheVariants.{Do, Settle}
 
@@ -39,18 +39,6 @@ abbrev pub none_fetched : List Step → Bool
 none_fetched [] = true
 none_fetched (Do who given ∷ steps) = not (is_fetched given) && none_fetched steps
 none_fetched (Settle ∷ steps) = none_fetched steps
-
--- the work that an event is, where it is no delivery
-abbrev pub work_in : Event → Option Work
-work_in (event.Ask to body) = Some (work.Ask to body)
-work_in (event.Deliver number) = None
-work_in (event.Tick addr) = Some work.Tick
-work_in (event.Stop id) = Some work.Stop
-work_in (event.Start host kept) = Some (work.Start kept)
-work_in (event.Suspect id) = Some (work.Suspect id)
-work_in (event.Decide id) = Some (work.Decide id)
-work_in (event.Create table owner) = Some (work.Create table owner)
-work_in (event.Split table at) = Some (work.Split table at)
 
 abbrev pub works_in : List Event → List Work
 works_in [] = []

@@ -1,9 +1,11 @@
--- What a work is as an event of a seat's node.
+-- What a work is as an event of a seat's node, and to the node.
 use Rattle.std.specs.Prelude.{◌≡◌, ℕ, Bool, true, false, nat_eq, List, ◌++◌, Option, Some, None, option_map}
 use Rattle.std.specs.List.{list_any}
 use Rattle.rc_types.specs.declared.events.Setup.{Setup}
 use Rattle.rc_types.specs.declared.events.Event.{Event}
 use Rattle.rc_types.specs.declared.events.Event.TheVariants as event
+use Rattle.rc_types.specs.declared.events.NodeWork.{NodeWork}
+use Rattle.rc_types.specs.declared.events.NodeWork.TheVariants as given
 use Rattle.rc_types.specs.declared.messages.Message.{Message}
 use Rattle.rc_model.specs.World.{World, NodeName, step}
 use Rattle.rc_history.specs.Nodes.{Node}
@@ -25,6 +27,30 @@ event_for node held (work.Suspect id) = Some (event.Suspect id)
 event_for node held (work.Decide id) = Some (event.Decide id)
 event_for node held (work.Create table owner) = Some (event.Create table owner)
 event_for node held (work.Split table at) = Some (event.Split table at)
+
+-- the work that an event is, where it is no delivery
+abbrev pub work_in : Event → Option Work
+work_in (event.Ask to body) = Some (work.Ask to body)
+work_in (event.Deliver number) = None
+work_in (event.Tick addr) = Some work.Tick
+work_in (event.Stop id) = Some work.Stop
+work_in (event.Start host kept) = Some (work.Start kept)
+work_in (event.Suspect id) = Some (work.Suspect id)
+work_in (event.Decide id) = Some (work.Decide id)
+work_in (event.Create table owner) = Some (work.Create table owner)
+work_in (event.Split table at) = Some (work.Split table at)
+
+-- what the node is given by a work; nothing by Fetched, whose message the seat holds
+abbrev pub given_of : Work → Option NodeWork
+given_of work.Fetched = None
+given_of (work.Ask to body) = Some (given.Ask to body)
+given_of work.Tick = Some given.Tick
+given_of work.Stop = Some given.Stop
+given_of (work.Start kept) = Some (given.Start kept)
+given_of (work.Suspect id) = Some (given.Suspect id)
+given_of (work.Decide id) = Some (given.Decide id)
+given_of (work.Create table owner) = Some (given.Create table owner)
+given_of (work.Split table at) = Some (given.Split table at)
 
 -- whether there is an event, it is possible, and it is this node's
 abbrev pub takes_if : NodeName → World → Option Event → Bool

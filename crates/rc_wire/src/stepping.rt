@@ -5,10 +5,10 @@ ghost use Rattle.std.specs.Option.{IfSome};
 ghost use Rattle.rc_types.specs.declared.faults.Fault.TheVariants.{OutOfMemory, BadEvent};
 ghost use Rattle.rc_history.specs.Nodes.{Node, new_node, name_of};
 ghost use Rattle.rc_world.specs.HostView.{IsWithinLimits};
-ghost use Rattle.rc_world.specs.NodeView.{node_seen, own_server, own_addr, may_take, NodeHasRoom};
-ghost use Rattle.rc_world.specs.NodeCalls.{event_of};
+ghost use Rattle.rc_world.specs.NodeView.{event_of, node_seen, own_server, own_addr, may_take, NodeHasRoom};
 ghost use Rattle.rc_types.specs.declared.events.NodeWork.TheVariants.{Deliver};
-ghost use Rattle.rc_wire.specs.Given.{given_of, is_delivery, own_number, Does};
+ghost use Rattle.rc_wire.specs.Works.{given_of};
+ghost use Rattle.rc_wire.specs.Given.{is_delivery, own_number, Does};
 
 use crate::offer::Offer;
 use crate::work::Work;

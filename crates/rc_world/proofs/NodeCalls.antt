@@ -3,8 +3,8 @@ use Rattle.std.proofs.Common.{◌≡◌, ℕ, true, List, Some, refl, ap, ◌∙
 use Rattle.rc_model.specs.Model.{Message, Take, NodeName, Job, delivery, work_of}
 use Rattle.rc_history.specs.Nodes.{Node, TheOutside, TheCoordinator, TheHost, name_of}
 use Rattle.rc_history.specs.Apart.{sent_by}
-use Rattle.rc_world.specs.NodeView.{work_at, may_take}
-use Rattle.rc_world.specs.NodeCalls.{event_of, WasSent, CallsAreSteps}
+use Rattle.rc_world.specs.NodeView.{event_of, work_at, may_take}
+use Rattle.rc_world.specs.NodeCalls.{WasSent, CallsAreSteps}
 use Rattle.rc_types.specs.declared.events.NodeWork.{NodeWork}
 use Rattle.rc_types.specs.declared.events.NodeWork.TheVariants as work
 
@@ -15,29 +15,15 @@ pub given-job : (sent : List Message) (node : Node) (number : ℕ) (given : Node
 given-job sent node number (work.Deliver message) was can =
     ap delivery was.0 ∙ ap (λ (name : NodeName). Some (let job : Job = record { node = name; work = Take message } in job)) was.1
 given-job sent TheOutside number (work.Ask to body) was can = refl
-given-job sent TheOutside number work.Tick was can = cc
-given-job sent TheOutside number work.Stop was can = cc
-given-job sent TheOutside number (work.Start kept) was can = cc
-given-job sent TheOutside number (work.Suspect id) was can = cc
-given-job sent TheOutside number (work.Decide id) was can = cc
-given-job sent TheOutside number (work.Create table owner) was can = cc
-given-job sent TheOutside number (work.Split table at) was can = cc
+given-job sent TheOutside number _ was can = cc
 given-job sent (TheCoordinator c) number (work.Ask to body) was can = cc
-given-job sent (TheCoordinator c) number work.Tick was can = refl
 given-job sent (TheCoordinator c) number work.Stop was can = cc
 given-job sent (TheCoordinator c) number (work.Start kept) was can = cc
-given-job sent (TheCoordinator c) number (work.Suspect id) was can = refl
-given-job sent (TheCoordinator c) number (work.Decide id) was can = refl
-given-job sent (TheCoordinator c) number (work.Create table owner) was can = refl
-given-job sent (TheCoordinator c) number (work.Split table at) was can = refl
-given-job sent (TheHost host) number (work.Ask to body) was can = cc
+given-job sent (TheCoordinator c) number _ was can = refl
 given-job sent (TheHost host) number work.Tick was can = refl
 given-job sent (TheHost host) number work.Stop was can = refl
 given-job sent (TheHost host) number (work.Start kept) was can = refl
-given-job sent (TheHost host) number (work.Suspect id) was can = cc
-given-job sent (TheHost host) number (work.Decide id) was can = cc
-given-job sent (TheHost host) number (work.Create table owner) was can = cc
-given-job sent (TheHost host) number (work.Split table at) was can = cc
+given-job sent (TheHost host) number _ was can = cc
 
 pub calls-are-steps : CallsAreSteps
 calls-are-steps setup earlier node number given left was can = record {

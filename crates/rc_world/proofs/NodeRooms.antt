@@ -38,14 +38,7 @@ outside-steps n (work.Ask to body) p =
       sent = one-within (n + 1) (record { from = Outside; to = Server to; body = body })
           (body-more n (n + 1) (omega arith) body p);
     }
-outside-steps n (work.Deliver message) p = record { node = tt; sent = none-within (n + 1) }
-outside-steps n work.Tick p = record { node = tt; sent = none-within (n + 1) }
-outside-steps n work.Stop p = record { node = tt; sent = none-within (n + 1) }
-outside-steps n (work.Start kept) p = record { node = tt; sent = none-within (n + 1) }
-outside-steps n (work.Suspect id) p = record { node = tt; sent = none-within (n + 1) }
-outside-steps n (work.Decide id) p = record { node = tt; sent = none-within (n + 1) }
-outside-steps n (work.Create table owner) p = record { node = tt; sent = none-within (n + 1) }
-outside-steps n (work.Split table at) p = record { node = tt; sent = none-within (n + 1) }
+outside-steps n _ p = record { node = tt; sent = none-within (n + 1) }
 
 -- The coordinator
 
@@ -56,15 +49,8 @@ coordinator-steps n c given h = record { node = h.numbers; sent = h.messages }
 -- A host
 
 given-within : (n : ℕ) (node : Node) (given : NodeWork) → GivenWithin n given → WorkWithin n (work_at node given)
-given-within n node (work.Ask to body) p = tt
 given-within n node (work.Deliver message) p = p
-given-within n node work.Tick p = tt
-given-within n node work.Stop p = tt
-given-within n node (work.Start kept) p = tt
-given-within n node (work.Suspect id) p = tt
-given-within n node (work.Decide id) p = tt
-given-within n node (work.Create table owner) p = tt
-given-within n node (work.Split table at) p = tt
+given-within n node _ p = tt
 
 host-steps : (n : ℕ) (host : HostNode) (given : NodeWork) → HostDone (n + 1) (host_step host (work_at (TheHost host) given)) →
     StepWithin (n + 1) (after_work (TheHost host) given)

@@ -2,26 +2,13 @@
 use Rattle.std.specs.Prelude.{◌≡◌, ℕ, true, List, Some, slice_get}
 use Rattle.rc_types.specs.declared.events.Setup.{Setup}
 use Rattle.rc_types.specs.declared.events.Event.{Event}
-use Rattle.rc_types.specs.declared.events.Event.TheVariants as event
 use Rattle.rc_types.specs.declared.messages.Message.{Message}
 use Rattle.rc_model.specs.World.{node_of}
 use Rattle.rc_history.specs.Nodes.{Node, name_of, new_node}
 use Rattle.rc_history.specs.Apart.{Step, sent_by, left_at, Follows}
-use Rattle.rc_world.specs.NodeView.{own_addr, own_server, work_at, may_take, after_work}
+use Rattle.rc_world.specs.NodeView.{work_at, event_of, may_take, after_work}
 use Rattle.rc_types.specs.declared.events.NodeWork.{NodeWork}
 use Rattle.rc_types.specs.declared.events.NodeWork.TheVariants as work
-
--- the event of a work: a message goes by its number, a timer and a stop are those of the node's own server
-abbrev pub event_of : Node → ℕ → NodeWork → Event
-event_of node number (work.Ask to body) = event.Ask to body
-event_of node number (work.Deliver message) = event.Deliver number
-event_of node number work.Tick = event.Tick (own_addr node)
-event_of node number work.Stop = event.Stop (own_server node)
-event_of node number (work.Start kept) = event.Start (own_server node).index kept
-event_of node number (work.Suspect id) = event.Suspect id
-event_of node number (work.Decide id) = event.Decide id
-event_of node number (work.Create table owner) = event.Create table owner
-event_of node number (work.Split table at) = event.Split table at
 
 -- a message that is delivered was sent, under this number, to this node
 abbrev pub WasSent : List Message → Node → ℕ → NodeWork → Type 0

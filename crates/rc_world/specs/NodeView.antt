@@ -1,8 +1,10 @@
 -- A node, and what it can be given, as the definitions see them.
-use Rattle.std.specs.Prelude.{Bool, false, List, Option, Some, None}
+use Rattle.std.specs.Prelude.{ℕ, Bool, false, List, Option, Some, None}
 use Rattle.rc_types.specs.declared.ids.ServerId.{ServerId}
 use Rattle.rc_types.specs.declared.ids.Addr.{Addr}
 use Rattle.rc_types.specs.declared.ids.Addr.TheVariants.{Server, Coordinator as AtCoordinator, Outside}
+use Rattle.rc_types.specs.declared.events.Event.{Event}
+use Rattle.rc_types.specs.declared.events.Event.TheVariants as event
 use Rattle.rc_types.specs.declared.messages.Message.{Message}
 use Rattle.rc_model.specs.Coordinator.{Coordinator}
 use Rattle.rc_model.specs.Nodes.{HostNode, Work, coordinator_can, coordinator_step, host_can, host_step}
@@ -69,6 +71,18 @@ work_at node (work.Suspect id) = model.Suspect id
 work_at node (work.Decide id) = model.Decide id
 work_at node (work.Create table owner) = model.Create table owner
 work_at node (work.Split table at) = model.Split table at
+
+-- the event of a work: a message goes by its number, a timer and a stop are those of the node's own server
+abbrev pub event_of : Node → ℕ → NodeWork → Event
+event_of node number (work.Ask to body) = event.Ask to body
+event_of node number (work.Deliver message) = event.Deliver number
+event_of node number work.Tick = event.Tick (own_addr node)
+event_of node number work.Stop = event.Stop (own_server node)
+event_of node number (work.Start kept) = event.Start (own_server node).index kept
+event_of node number (work.Suspect id) = event.Suspect id
+event_of node number (work.Decide id) = event.Decide id
+event_of node number (work.Create table owner) = event.Create table owner
+event_of node number (work.Split table at) = event.Split table at
 
 -- whether each node can be given this, and what it does with it
 abbrev pub may_take : Node → NodeWork → Bool

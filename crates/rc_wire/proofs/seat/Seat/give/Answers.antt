@@ -7,8 +7,7 @@ use Rattle.rc_wire.specs.declared.offer.Offer.{Offer}
 use Rattle.rc_wire.specs.SeatView.{SeatData, world_at, node_at}
 use Rattle.rc_wire.specs.SeatHolds.{SeatSound, seat_data}
 use Rattle.rc_wire.specs.Works.{Offers}
-use Rattle.rc_world.specs.NodeView.{node_seen, may_take}
-use Rattle.rc_world.specs.NodeCalls.{event_of}
+use Rattle.rc_world.specs.NodeView.{event_of, node_seen, may_take}
 use Rattle.rc_wire.proofs.Preparing.{idle-room, idle-name, idle-node, give-takes, sound-given, given-step}
 use Rattle.rc_wire.proofs.Preparing.{offers-put, bad-passed, not-bad, ok-not-bad}
 use Rattle.rc_wire.proofs.seat.Seat.give.Goals as goal
