@@ -1,20 +1,16 @@
-//! A world that goes on, with its coordinator followed.
+//! A world that goes on.
 
 ghost use Rattle.rc_world.specs.HostView.{IsWithinLimits};
 
-use rc_coordinator::Coordinator;
 use rc_types::limits::MAX_HOSTS;
-use rc_types::{Addr, Event, Fault, Message, NodeWork, Seq, ServerId, Setup, TryClone};
+use rc_types::{Addr, Event, Fault, Seq, ServerId, Setup, TryClone};
 use rc_world::World;
 use std::alloc::Global;
 
-/// A world that goes on, and its coordinator once more, to be looked at.
+/// A world that goes on.
 #[derive(Drop)]
 pub(crate) struct Course {
     pub(crate) world: World<Global>,
-    pub(crate) coordinator: Coordinator<Global>,
-    /// What the coordinator has sent in the last step: the world has it too.
-    echo: Vec<Message>,
     /// The messages from this one on are to be delivered.
     next: usize,
 }
@@ -26,8 +22,6 @@ impl Course {
     {
         let mut course = Course {
             world: World::new(alloc, setup.try_clone(alloc)?, alloc),
-            coordinator: Coordinator::new(alloc, alloc),
-            echo: Vec::new(alloc),
             next: 0,
         };
         for event in events {
@@ -39,45 +33,7 @@ impl Course {
 
     /// One more event.
     pub(crate) fn take(&mut self, alloc: Global, event: &Event) -> Result<(), Fault> {
-        self.follow(event)?;
         self.world.take(alloc, event)
-    }
-
-    /// The coordinator takes its part of an event.
-    fn follow(&mut self, event: &Event) -> Result<(), Fault> {
-        if let Event::Deliver(number) = event {
-            return self.follow_message(*number);
-        }
-        match work_of(event) {
-            Some(work) => self.tell(&work),
-            None => Ok(()),
-        }
-    }
-
-    /// The coordinator takes the message of this number, if it is for it.
-    fn follow_message(&mut self, number: usize) -> Result<(), Fault> {
-        let Some(message) = self.world.sent().get(number) else {
-            return Err(Fault::BadEvent);
-        };
-        if message.to != Addr::Coordinator {
-            return Ok(());
-        }
-        if !self.coordinator.has_room() {
-            return Err(Fault::BadEvent);
-        }
-        self.echo.clear();
-        self.coordinator.take(message, &mut self.echo)?;
-        Ok(())
-    }
-
-    /// The coordinator takes a work.
-    fn tell(&mut self, work: &NodeWork) -> Result<(), Fault> {
-        if !self.coordinator.has_room() {
-            return Err(Fault::BadEvent);
-        }
-        self.echo.clear();
-        self.coordinator.step_into(work, &mut self.echo)?;
-        Ok(())
     }
 
     /// The server that runs on a host, if one does.
@@ -137,23 +93,5 @@ impl Course {
             self.start(alloc, id.index)?;
         }
         Ok(())
-    }
-}
-
-/// The coordinator's part of an event, unless it is a delivery.
-fn work_of(event: &Event) -> Option<NodeWork> {
-    match event {
-        Event::Tick(Addr::Coordinator) => Some(NodeWork::Tick),
-        Event::Suspect(id) => Some(NodeWork::Suspect(*id)),
-        Event::Decide(id) => Some(NodeWork::Decide(*id)),
-        Event::Create { table, owner } => Some(NodeWork::Create {
-            table: *table,
-            owner: *owner,
-        }),
-        Event::Split { table, at } => Some(NodeWork::Split {
-            table: *table,
-            at: *at,
-        }),
-        _ => None,
     }
 }

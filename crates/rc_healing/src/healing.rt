@@ -257,7 +257,7 @@ fn go_round(
 fn state_of(alloc: Global, setup: &Setup, healer: &Healer) -> Result<State, Fault>
     requires { IsWithinLimits setup.now }
 {
-    let tablets = healer.course.coordinator.tablets(alloc)?;
+    let tablets = healer.course.world.coordinator().tablets(alloc)?;
     let events = healer.course.world.events();
     let trial = try_tablets(alloc, setup, events, tablets.as_slice())?;
     let mut lost: Vec<Gone> = Vec::new(alloc);
@@ -280,7 +280,7 @@ impl State {
     /// Of the tablets nothing is known.
     fn unknown(alloc: Global, healer: &Healer) -> Result<State, Fault> {
         Ok(State {
-            tablets: healer.course.coordinator.tablets(alloc)?,
+            tablets: healer.course.world.coordinator().tablets(alloc)?,
             trial: Trial::none(alloc),
             gone: Vec::new(alloc),
         })

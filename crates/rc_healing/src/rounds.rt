@@ -131,7 +131,7 @@ impl Healer {
             stuck,
         };
         let mut list: Vec<Due> = Vec::new(alloc);
-        for due in &dues(alloc, &self.course.coordinator, &seen)? {
+        for due in &dues(alloc, self.course.world.coordinator(), &seen)? {
             let is_next = match list.first() {
                 Some(first) => is_alike(*first, *due),
                 None => true,
@@ -157,7 +157,7 @@ impl Healer {
     /// The servers that are up and do not run.
     fn silent_ids(&self, alloc: Global) -> Result<Vec<ServerId>, Fault> {
         let mut ids = Vec::new(alloc);
-        for id in &self.course.coordinator.servers().up(alloc)? {
+        for id in &self.course.world.coordinator().servers().up(alloc)? {
             if !self.course.world.is_running(*id) {
                 ids.push(*id)?;
             }
@@ -197,7 +197,9 @@ impl Healer {
         match due {
             Due::Restart(id) if stuck.contains(&id) => Why::Stuck(id),
             Due::Restart(id) => Why::Zombie(id),
-            Due::Suspect(id) if self.course.coordinator.servers().is_up(id) => Why::Silent(id),
+            Due::Suspect(id) if self.course.world.coordinator().servers().is_up(id) => Why::Silent(
+                id,
+            ),
             Due::Suspect(id) => Why::Again(id),
             Due::Decide(id) => Why::Answered(id),
         }
@@ -225,7 +227,7 @@ fn is_alike(due: Due, other: Due) -> bool {
 
 /// What a refusal of this master's recovery would be now.
 fn refusal_of(course: &Course, master: ServerId) -> Refusal {
-    let coordinator = &course.coordinator;
+    let coordinator = course.world.coordinator();
     let number = current_number(coordinator.current(), master);
     let answers = match attempt_of(coordinator.attempts(), number) {
         Some(attempt) => attempt.replies().len(),
@@ -240,7 +242,7 @@ fn refusal_of(course: &Course, master: ServerId) -> Refusal {
 
 /// Whether the recovery of this master is not decided.
 fn is_gathering(course: &Course, master: ServerId) -> bool {
-    let coordinator = &course.coordinator;
+    let coordinator = course.world.coordinator();
     let number = current_number(coordinator.current(), master);
     match attempt_of(coordinator.attempts(), number) {
         Some(attempt) => attempt.is_gathering(),

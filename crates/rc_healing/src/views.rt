@@ -29,7 +29,7 @@ pub(crate) fn settle(alloc: Global, course: &mut Course) -> Result<(), Fault> {
 /// What there is to be seen.
 fn view(alloc: Global, course: &Course) -> Result<Vec<u64>, AllocError> {
     let mut view = Vec::new(alloc);
-    add_coordinator(&course.coordinator, &mut view)?;
+    add_coordinator(course.world.coordinator(), &mut view)?;
     for host in 0..MAX_HOSTS {
         if let Some(master) = course.world.master(host) {
             view.extend_from_slice(&[u64::from(host), u64::from(course.world.newest(host))])?;

@@ -10,6 +10,7 @@ ghost use Rattle.rc_model.specs.Nodes.{is_running_at};
 ghost use Rattle.rc_model.specs.Breach.{breach};
 ghost use Rattle.rc_model.specs.Headline.{NothingIsDropped};
 ghost use Rattle.rc_backup.specs.BackupView.{backup_of};
+ghost use Rattle.rc_coordinator.specs.Book.{coordinator_of};
 ghost use Rattle.rc_master.specs.Data.{master_of};
 ghost use Rattle.rc_world.specs.HostView.{IsWithinLimits, backup_once_started};
 ghost use Rattle.rc_world.specs.Kept.{KeepsLogs, KeepsOwners, KeepsWrites};
@@ -19,6 +20,7 @@ ghost use Rattle.rc_world.specs.Happened.{opened, replayed, with_events, sent_in
 
 use crate::nodes::Nodes;
 use rc_backup::Backup;
+use rc_coordinator::Coordinator;
 use rc_master::Master;
 use rc_types::limits::MAX_EVENTS;
 use rc_types::{Event, Fault, Message, ServerId, Setup, TryClone};
@@ -144,6 +146,13 @@ impl<A: Allocator + Clone> World<A> {
         ensures { result ≡ ((replayed self.now).hosts host).generation }
     {
         self.nodes.newest(host)
+    }
+
+    /// The coordinator, to be looked at. It takes no memory.
+    pub fn coordinator(&self) -> &Coordinator<A>
+        ensures { coordinator_of result.now ≡ (replayed self.now).coordinator }
+    {
+        &self.nodes.coordinator
     }
 
     /// The master that runs on the host, to be looked at; none where no server runs there. It takes no memory.
