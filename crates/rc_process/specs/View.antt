@@ -1,5 +1,6 @@
 -- A process as its contracts see it, and what becomes of it in each call.
 use Rattle.std.specs.Prelude.{◌≡◌, ℕ, ◌+◌, ◌-◌, ◌^◌, ◌≤◌, ◌<◌, if◌then◌else◌, List, [], ◌∷◌, ◌++◌, length, map, drop}
+use Rattle.std.specs.Prelude.{take}
 use Rattle.std.specs.Prelude.{min, nat_le, Option, Some, None}
 use Rattle.std.specs.Option.{option_map}
 use Rattle.rc_types.specs.declared.events.NodeWork.{NodeWork}
@@ -8,8 +9,8 @@ use Rattle.rc_types.specs.declared.messages.Message.{Message}
 use Rattle.rc_codec.specs.Spelling.{coded_message}
 use Rattle.rc_model.specs.Backup.{open_names}
 use Rattle.rc_model.specs.Headline.{In}
-use Rattle.rc_history.specs.Nodes.{Node, TheHost, name_of}
-use Rattle.rc_world.specs.NodeView.{NodeData, node_seen, node_runs, work_at, after_work}
+use Rattle.rc_history.specs.Nodes.{Node, TheHost, name_of, node_step}
+use Rattle.rc_world.specs.NodeView.{NodeData, node_seen, node_runs, NodeHasRoom}
 use Rattle.rc_keeping.specs.Spelling.{record_of}
 use Rattle.rc_keeping.specs.Claims.{AreReadFrom}
 use Rattle.rc_keeping.specs.SaveClaims.{IsLoaded}
@@ -59,7 +60,7 @@ begun node written =
 
 -- what it adds to the journal
 abbrev pub written_down : Node → NodeWork → List ℕ
-written_down node given = if keeps (name_of node) (work_at node given) then record_of given else []
+written_down node given = if keeps (name_of node) given then record_of given else []
 
 abbrev pub written_next : ProcessView → NodeWork → ℕ
 written_next process given = process.written + length (written_down process.node given)
@@ -68,7 +69,7 @@ written_next process given = process.written + length (written_down process.node
 -- master's, those up to the start of its server
 abbrev pub rests_on : ProcessView → NodeWork → ℕ
 rests_on process given =
-    if is_masters process.node (work_at process.node given) then process.started else written_next process given
+    if is_masters process.node given then process.started else written_next process given
 
 -- how many bytes reach up to the last start of a server then, where the journal has so many
 abbrev pub started_next : ProcessView → NodeWork → ℕ → ℕ
@@ -78,11 +79,11 @@ started_next process given written = process.started
 -- the node has taken it, and what that sends is held back
 abbrev pub given : ProcessView → NodeWork → ProcessView
 given process work = record {
-  node = (after_work process.node work).0;
+  node = (node_step process.node work).0;
   written = written_next process work;
   started = started_next process work (written_next process work);
   safe = process.safe;
-  held = process.held ++ (rests_on process work, (after_work process.node work).1) ∷ [];
+  held = process.held ++ (rests_on process work, (node_step process.node work).1) ∷ [];
   saving = process.saving;
 }
 
@@ -199,6 +200,22 @@ pub record IsTooShort (file : List ℕ) (known : ℕ) : Type 0 where
   pub again : ProcessView
   pub replayed : IsReplayed file again
   pub few : again.written < known
+
+-- once the node was given so many of these works, its numbers do not suffice for one more
+pub record RunsOutAfter (node : Node) (works : List NodeWork) : Type 0 where
+  pub count : ℕ
+  pub within : count ≤ length works
+  pub full : NodeHasRoom (node_given node (take count works)) → ⊥
+
+-- so it is with the node that was saved in the file, and the works that stand behind the save
+pub record RunsOut (file : List ℕ) : Type 0 where
+  pub loaded : NodeData
+  pub count : ℕ
+  pub read : List NodeWork
+  pub good : ℕ
+  pub begins : IsLoaded file loaded count
+  pub behind : AreReadFrom (drop count file) read good
+  pub out : RunsOutAfter (node_seen loaded) read
 
 -- a host that runs is stopped, and that is written down
 abbrev pub ended : ProcessView → ProcessView

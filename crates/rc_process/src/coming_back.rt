@@ -3,13 +3,15 @@
 ghost use Rattle.std.specs.Prelude.{◌≡◌, ◌↔◌, ◌⊎◌, ◌++◌, ◌-◌, true, false, length};
 ghost use Rattle.std.specs.Prelude.{Err, None, IfOk, IfErr, OnOk, OnErr};
 ghost use Rattle.rc_types.specs.declared.faults.Fault.TheVariants.{OutOfMemory as F1, BadEvent};
+ghost use Rattle.rc_history.specs.Nodes.{node_can};
 ghost use Rattle.rc_world.specs.declared.work.StepFault.TheVariants.{NoRoom as NoRoomLeft, Refused};
-ghost use Rattle.rc_world.specs.NodeView.{node_seen, may_take, NodeHasRoom};
+ghost use Rattle.rc_world.specs.NodeView.{node_seen, NodeHasRoom};
 ghost use Rattle.rc_keeping.specs.Saved.{saved_of};
 ghost use Rattle.rc_keeping.specs.declared.faults.SaveFault.TheVariants.{Outside, OutOfMemory};
 ghost use Rattle.rc_keeping.specs.SaveClaims.{IsSaved, BeginsWithNoSave};
 ghost use Rattle.rc_files.specs.Standing.{node_next, node_given};
-ghost use Rattle.rc_process.specs.View.{IsBack, IsReplayed, IsUnloaded, IsTooShort, begun, process_seen};
+ghost use Rattle.rc_process.specs.View.{IsBack, IsReplayed, IsUnloaded, IsTooShort, RunsOut, RunsOutAfter, begun};
+ghost use Rattle.rc_process.specs.View.{process_seen};
 ghost use Rattle.rc_process.specs.View.{ended, end_written, given, written_down, whole_start};
 ghost use Rattle.rc_process.specs.declared.faults.BackFault.TheVariants.{NoSave, TooShort, NoMemory, NoRoom};
 
@@ -71,6 +73,7 @@ impl<A: Allocator + Clone> Process<A> {
         ensures none { result ≡ Err NoSave → BeginsWithNoSave file.now }
         ensures loads { IsUnloaded file.now → (result ≡ Err NoSave) ⊎ (result ≡ Err NoMemory) }
         ensures short { result ≡ Err TooShort → IsTooShort file.now known }
+        ensures full { IfErr result (λ fault. fault ≡ NoRoom → RunsOut file.now) }
         ensures fault { IfErr result (λ fault.
             (fault ≡ NoSave) ⊎ (fault ≡ TooShort) ⊎ (fault ≡ NoMemory) ⊎ (fault ≡ NoRoom)) }
     {
@@ -103,10 +106,10 @@ impl<A: Allocator + Clone> Process<A> {
         ensures written { OnOk result (out.new.items ≡
             out.old.items ++ written_down (node_seen self.old.node) (whole_start (node_seen self.old.node))) }
         ensures possible { OnOk result (
-            may_take (node_seen self.old.node) (whole_start (node_seen self.old.node)) ≡ true) }
+            node_can (node_seen self.old.node) (whole_start (node_seen self.old.node)) ≡ true) }
         ensures full { (result ≡ Err NoRoomLeft) ↔ (NodeHasRoom (node_seen self.old.node) → ⊥) }
         ensures bad { result ≡ Err (Refused BadEvent) →
-            may_take (node_seen self.old.node) (whole_start (node_seen self.old.node)) ≡ false }
+            node_can (node_seen self.old.node) (whole_start (node_seen self.old.node)) ≡ false }
         ensures fault { IfErr result (λ fault.
             (fault ≡ NoRoomLeft) ⊎ (fault ≡ Refused F1) ⊎ (fault ≡ Refused BadEvent)) }
         ensures err { OnErr result (process_seen self.new ≡ process_seen self.old) }
@@ -147,6 +150,7 @@ fn replayed<A: Allocator + Clone>(
     ensures back { IfOk result (λ process. IsReplayed file.now (process_seen process)) }
     ensures none { result ≡ Err NoSave → BeginsWithNoSave file.now }
     ensures loads { IsUnloaded file.now → (result ≡ Err NoSave) ⊎ (result ≡ Err NoMemory) }
+    ensures full { IfErr result (λ fault. fault ≡ NoRoom → RunsOut file.now) }
     ensures fault { IfErr result (λ fault. (fault ≡ NoSave) ⊎ (fault ≡ NoMemory) ⊎ (fault ≡ NoRoom)) }
 {
     let (node, count) = match load(alloc, tablets, file) {
@@ -175,6 +179,7 @@ fn replayed<A: Allocator + Clone>(
 fn stop<A: Allocator + Clone>(process: &mut Process<A>, out: &mut Vec<u8>) -> Result<(), StepFault>
     ensures ended { OnOk result (process_seen process.new ≡ ended (process_seen process.old)) }
     ensures written { OnOk result (out.new.items ≡ out.old.items ++ end_written (process_seen process.old)) }
+    ensures full { result ≡ Err NoRoomLeft → NodeHasRoom (process_seen process.old).node → ⊥ }
 {
     if !process.node().runs() {
         return Ok(());
@@ -189,7 +194,8 @@ pub(crate) fn replay<A: Allocator + Clone>(
     node: NodeState<A>,
     works: &[NodeWork],
 ) -> Result<NodeState<A>, StepFault>
-    ensures { IfOk result (λ after. node_seen after ≡ node_given (node_seen node) works.now) }
+    ensures again { IfOk result (λ after. node_seen after ≡ node_given (node_seen node) works.now) }
+    ensures full { IfErr result (λ fault. fault ≡ NoRoomLeft → RunsOutAfter (node_seen node) works.now) }
 {
     let mut node = node;
     for work in works {
@@ -204,7 +210,8 @@ fn take_again<A: Allocator + Clone>(
     node: &mut NodeState<A>,
     work: &NodeWork,
 ) -> Result<(), StepFault>
-    ensures { OnOk result (node_seen node.new ≡ node_next (node_seen node.old) work.now) }
+    ensures next { OnOk result (node_seen node.new ≡ node_next (node_seen node.old) work.now) }
+    ensures full { IfErr result (λ fault. fault ≡ NoRoomLeft → NodeHasRoom (node_seen node.old) → ⊥) }
 {
     let mut dropped = Vec::new(alloc);
     match node.try_step_into(work, &mut dropped) {

@@ -2,5 +2,4 @@ pub mod Wholes
 pub mod Leavings
 pub mod Whose
 pub mod Marks
-pub mod Names
 pub mod Firsts

@@ -1,6 +1,6 @@
 -- Bytes that are one coding, and nothing behind it.
 use Rattle.std.proofs.Common.{◌≡◌, ℕ, List, [], ◌∷◌, ◌++◌, length, ◌⊎◌, ⊎_elim, sym, ap, subst, ◌∙◌, arith, Result, Ok, Err}
-use Rattle.std.proofs.Common.{length-append, ◌<◌, OnOk}
+use Rattle.std.proofs.Common.{length-append, ◌<◌, OnOk, true}
 use Rattle.std.proofs.lemmas.List.{append-nil}
 use Rattle.rc_types.specs.declared.events.NodeWork.{NodeWork}
 use Rattle.rc_types.specs.declared.events.NodeWork.TheVariants.{Deliver}
@@ -12,7 +12,8 @@ use Rattle.rc_keeping.specs.Spelling.{coded_work}
 use Rattle.rc_process.specs.View.{ProcessView, given, written_down}
 use Rattle.rc_session.specs.declared.faults.SessionFault.{SessionFault}
 use Rattle.rc_session.specs.View.{SessionView, takes}
-use Rattle.rc_session.specs.Claims.{TakesWork, TakesMessage}
+use Rattle.rc_session.specs.Claims.{TakesWork, CanTake, TakesMessage}
+use Rattle.rc_history.specs.Nodes.{node_can}
 use Rattle.rc_codec.specs.Claims.{IsFront, DecodesFront, BeginsWithNone}
 use Rattle.rc_codec.specs.declared.faults.DecodeFault.{DecodeFault}
 use Rattle.rc_codec.specs.declared.faults.DecodeFault.TheVariants.{OutOfMemory}
@@ -65,6 +66,19 @@ pub takes_work : {A : Type 0} (answer : Result A SessionFault) (one : NodeWork) 
     OnOk answer (TakesWork bytes old new)
 takes_work (Ok x) one bytes old new taken same = λ work is. taken ∙ ap (takes old) (same work is)
 takes_work (Err fault) one bytes old new taken same = tt
+
+-- and it can be given that
+pub can_take : {A : Type 0} (answer : Result A SessionFault) (one : NodeWork) (bytes : List ℕ) (old : SessionView) →
+    OnOk answer (node_can old.process.node one ≡ true) → ((work : NodeWork) → bytes ≡ coded_work work → one ≡ work) →
+    OnOk answer (CanTake bytes old)
+can_take (Ok x) one bytes old can same = λ work is. subst (λ w. node_can old.process.node w ≡ true) (same work is) can
+can_take (Err fault) one bytes old can same = tt
+
+-- what becomes of a session whose process takes a work
+pub took : (old : SessionView) (process : ProcessView) (journal : List ℕ) (work : NodeWork) →
+    process ≡ given old.process work → journal ≡ old.journal ++ written_down old.process.node work →
+    record old { process = process; journal = journal } ≡ takes old work
+took old process journal work is written = cc
 
 -- a coding is that of one message
 one-message : (x y : Message) → coded_message x ≡ coded_message y → x ≡ y

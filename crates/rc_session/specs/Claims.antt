@@ -1,17 +1,17 @@
 -- What calls of a session promise.
-use Rattle.std.specs.Prelude.{◌≡◌, ◌<◌, ◌≤◌, ℕ, Bool, List, [], ◌++◌, length, drop, false}
+use Rattle.std.specs.Prelude.{◌≡◌, ◌<◌, ◌≤◌, ℕ, Bool, List, [], ◌++◌, length, drop, true, false}
 use Rattle.std.specs.Prelude.{Some, None}
 use Rattle.rc_types.specs.declared.events.NodeWork.{NodeWork}
 use Rattle.rc_types.specs.declared.events.NodeWork.TheVariants.{Deliver}
 use Rattle.rc_types.specs.declared.limits.TheConstants.{MAX_HOSTS, MAX_FACTOR, MAX_SEGMENT}
 use Rattle.rc_types.specs.declared.messages.Message.{Message}
 use Rattle.rc_model.specs.Master.{MasterSetup}
-use Rattle.rc_history.specs.Nodes.{Node}
+use Rattle.rc_history.specs.Nodes.{Node, node_can}
 use Rattle.rc_codec.specs.Spelling.{coded_message}
 use Rattle.rc_keeping.specs.Spelling.{coded_work}
-use Rattle.rc_world.specs.NodeView.{NodeData, node_seen, may_take}
+use Rattle.rc_world.specs.NodeView.{NodeData, node_seen}
 use Rattle.rc_keeping.specs.SaveClaims.{IsSaved}
-use Rattle.rc_process.specs.View.{Leaves, begun}
+use Rattle.rc_process.specs.View.{Leaves, AllWait, begun, whole_start}
 use Rattle.rc_session.specs.declared.leaving.Leaving.{Leaving}
 use Rattle.rc_session.specs.declared.leaving.Leaving.TheVariants as leaving
 use Rattle.rc_session.specs.View.{SessionView, SessionData, takes, all_framed}
@@ -45,9 +45,17 @@ IsNoWork bytes = (work : NodeWork) → bytes ≡ coded_work work → ⊥
 abbrev pub TakesWork : List ℕ → SessionView → SessionView → Type 0
 TakesWork bytes old new = (work : NodeWork) → bytes ≡ coded_work work → new ≡ takes old work
 
--- the node can't be given the work that these bytes are
+-- the node can be given the work that these bytes are
+abbrev pub CanTake : List ℕ → SessionView → Type 0
+CanTake bytes old = (work : NodeWork) → bytes ≡ coded_work work → node_can old.process.node work ≡ true
+
+-- it can't
 abbrev pub CanNotTake : List ℕ → SessionView → Type 0
-CanNotTake bytes old = (work : NodeWork) → bytes ≡ coded_work work → may_take old.process.node work ≡ false
+CanNotTake bytes old = (work : NodeWork) → bytes ≡ coded_work work → node_can old.process.node work ≡ false
+
+-- the node can be started with all open replicas that it has
+abbrev pub CanStart : SessionView → Type 0
+CanStart session = node_can session.process.node (whole_start session.process.node) ≡ true
 
 -- they are no message, or one and more
 abbrev pub IsNoMessage : List ℕ → Type 0
@@ -93,6 +101,10 @@ IfLeft _ claim = Unit {0}
 abbrev pub IfNoRoom : Leaving → (ℕ → Type 0) → Type 0
 IfNoRoom (leaving.NoRoom count) claim = claim count
 IfNoRoom _ claim = Unit {0}
+
+-- nothing may leave: nothing is in hand, and all that is held back waits
+abbrev pub MustWait : SessionView → Type 0
+MustWait session = (session.hand ≡ None) × AllWait session.process
 
 -- Saving
 

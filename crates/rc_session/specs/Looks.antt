@@ -3,12 +3,13 @@ use Rattle.std.specs.Prelude.{◌≡◌, ℕ, Bool, true, false, ◌||◌, if◌
 use Rattle.std.specs.Prelude.{Option, Some, None, is_some}
 use Rattle.std.specs.List.{flat_map}
 use Rattle.rc_types.specs.declared.ids.ServerId.{ServerId}
+use Rattle.rc_history.specs.Nodes.{own_server}
 use Rattle.rc_model.specs.Log.{Log, has_segment}
 use Rattle.rc_codec.specs.Parts.{listed}
 use Rattle.rc_codec.specs.Spelling.{id_code, tablet_code, up_code}
 use Rattle.rc_coordinator.specs.Book.{Book}
 use Rattle.rc_master.specs.Data.{MasterData, master_of}
-use Rattle.rc_world.specs.NodeView.{NodeData, node_seen, node_runs, own_server, master_in, book_in}
+use Rattle.rc_world.specs.NodeView.{NodeData, node_seen, node_runs, master_in, book_in}
 use Rattle.rc_process.specs.View.{Held}
 use Rattle.rc_process.specs.declared.saving.Saving.{Saving}
 use Rattle.rc_runbook.specs.Runbook.{dues}

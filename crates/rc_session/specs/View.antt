@@ -1,16 +1,13 @@
 -- A session as its contracts see it, and what becomes of it in each call.
 use Rattle.std.specs.Prelude.{ℕ, if◌then◌else◌, List, [], ◌++◌, length, Option, Some, None}
 use Rattle.std.specs.List.{flat_map}
-use Rattle.rc_types.specs.declared.ids.ServerId.{ServerId}
 use Rattle.rc_types.specs.declared.events.NodeWork.{NodeWork}
 use Rattle.rc_types.specs.declared.events.NodeWork.TheVariants as work
 use Rattle.rc_types.specs.declared.messages.Message.{Message}
-use Rattle.rc_model.specs.Backup.{open_names}
-use Rattle.rc_history.specs.Nodes.{Node, TheHost}
 use Rattle.rc_codec.specs.Parts.{four_bytes}
 use Rattle.rc_codec.specs.Spelling.{coded_message}
 use Rattle.rc_world.specs.NodeView.{node_runs}
-use Rattle.rc_process.specs.View.{ProcessData, ProcessView, process_seen, written_down, given}
+use Rattle.rc_process.specs.View.{ProcessData, ProcessView, process_seen, written_down, given, whole_start}
 
 -- The process; what has to be added to its journal's file, and to the second file while a save takes the journal's
 -- place; the second file, as far as it was not taken; and what has left the process, but was not taken.
@@ -45,14 +42,9 @@ takes session work = record {
 abbrev pub stopped : SessionView → SessionView
 stopped session = if node_runs session.process.node then takes session work.Stop else session
 
--- the open replicas that a host has; other nodes have none
-abbrev pub open_names_at : Node → List (ServerId × ℕ)
-open_names_at (TheHost host) = open_names host.backup
-open_names_at _ = []
-
--- started with all of them
+-- started with all open replicas that the host has
 abbrev pub started : SessionView → SessionView
-started session = takes session (work.Start (open_names_at session.process.node))
+started session = takes session (whole_start session.process.node)
 
 abbrev pub started_anew : SessionView → SessionView
 started_anew session = started (stopped session)

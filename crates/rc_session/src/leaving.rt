@@ -1,9 +1,8 @@
 //! What may leave, coded, into the caller's room.
 
 ghost use Rattle.std.specs.Prelude.{◌≡◌, ◌++◌, ◌<◌, true, false, length, Some, None, OnOk, IfOk, IsTrue};
-ghost use Rattle.rc_process.specs.View.{AllWait};
 ghost use Rattle.rc_session.specs.View.{session_seen, framed, all_framed, hand_code};
-ghost use Rattle.rc_session.specs.Claims.{IsInHand, IfLeft, IfNoRoom, HasLeft, HasNoRoom};
+ghost use Rattle.rc_session.specs.Claims.{IsInHand, IfLeft, IfNoRoom, HasLeft, HasNoRoom, MustWait};
 ghost use Rattle.rc_session.specs.declared.leaving.Leaving.TheVariants as leaving;
 
 use crate::moving::copied;
@@ -39,7 +38,7 @@ impl Session {
     pub fn leave(&mut self, to: &mut [u8]) -> Leaving
         ensures left { IfLeft result (HasLeft (session_seen self.old) (session_seen self.new) to.old to.new) }
         ensures stays { IfNoRoom result (HasNoRoom (session_seen self.old) (session_seen self.new) to.old to.new) }
-        ensures waits { result ≡ leaving.Waits → AllWait (session_seen self.old).process }
+        ensures waits { result ≡ leaving.Waits → MustWait (session_seen self.old) }
         ensures none { result ≡ leaving.Waits → session_seen self.new ≡ session_seen self.old }
         ensures kept { result ≡ leaving.NoMemory → IsInHand (session_seen self.old) (session_seen self.new) }
     {
@@ -78,7 +77,7 @@ impl Session {
     #[tactic(auto, using(crate::proofs::Leavings::was_in_hand, crate::proofs::Leavings::came_in_hand))]
     fn take_in_hand(&mut self) -> bool
         ensures held { IsTrue result → IsInHand (session_seen self.old) (session_seen self.new) }
-        ensures waits { result ≡ false → AllWait (session_seen self.old).process }
+        ensures waits { result ≡ false → MustWait (session_seen self.old) }
         ensures none { result ≡ false → session_seen self.new ≡ session_seen self.old }
     {
         if let Some(_) = &self.hand {

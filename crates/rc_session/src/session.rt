@@ -3,15 +3,15 @@
 ghost use Rattle.std.specs.Prelude.{[], ◌≡◌, ◌≤◌, ◌<◌, ◌-◌, ◌↔◌, ◌⊎◌, ◌++◌, true, false, length, drop, IsTrue};
 ghost use Rattle.std.specs.Prelude.{ℕ, Err, None, OnOk, OnErr, IfOk, IfErr};
 ghost use Rattle.rc_model.specs.Coordinator.{new_coordinator};
-ghost use Rattle.rc_history.specs.Nodes.{TheCoordinator, TheHost};
+ghost use Rattle.rc_history.specs.Nodes.{TheCoordinator, TheHost, node_can};
 ghost use Rattle.rc_model.specs.Nodes.{new_host, master_setup};
 ghost use Rattle.rc_types.specs.declared.limits.TheConstants.{MAX_FACTOR, MAX_SEGMENT};
 ghost use Rattle.rc_world.specs.HostView.{IsWithinLimits};
-ghost use Rattle.rc_world.specs.NodeView.{node_seen, may_take, NodeHasRoom};
+ghost use Rattle.rc_world.specs.NodeView.{node_seen, NodeHasRoom};
 ghost use Rattle.rc_keeping.specs.SaveClaims.{BeginsWithNoSave};
-ghost use Rattle.rc_process.specs.View.{IsBack, process_seen};
+ghost use Rattle.rc_process.specs.View.{IsBack, IsTooShort, RunsOut, process_seen};
 ghost use Rattle.rc_session.specs.View.{session_seen, takes};
-ghost use Rattle.rc_session.specs.Claims.{IsNoWork, TakesWork, CanNotTake, IsNoMessage, TakesMessage, IsFirst};
+ghost use Rattle.rc_session.specs.Claims.{IsNoWork, TakesWork, CanTake, CanNotTake, IsNoMessage, TakesMessage, IsFirst};
 ghost use Rattle.rc_session.specs.Claims.{AreWithin, setup_for};
 ghost use Rattle.rc_session.specs.declared.faults.SessionFault.TheVariants as why;
 
@@ -124,6 +124,10 @@ impl Session {
             IsBack file.now known (process_seen session.process) session.journal) }
         ensures nothing { IfOk result (λ session. (session.second ≡ []) × (session.hand ≡ None)) }
         ensures none { IfErr result (λ fault. fault ≡ why.NoSave → BeginsWithNoSave file.now) }
+        ensures short { IfErr result (λ fault. fault ≡ why.TooShort → IsTooShort file.now known) }
+        ensures full { IfErr result (λ fault. fault ≡ why.UsedUp → RunsOut file.now) }
+        ensures fault { IfErr result (λ fault.
+            (fault ≡ why.NoSave) ⊎ (fault ≡ why.TooShort) ⊎ (fault ≡ why.NoMemory) ⊎ (fault ≡ why.UsedUp)) }
     {
         match Process::come_back(alloc, alloc, file, known) {
             Ok((process, journal)) => Ok(Session::of(alloc, process, journal)),
@@ -154,6 +158,7 @@ impl Session {
     /// `Malformed`, `Refused` (F18), `NoMemory`, `UsedUp`. After each nothing has changed.
     pub fn step(&mut self, bytes: &[u8]) -> Result<(), SessionFault>
         ensures taken { OnOk result (TakesWork bytes.now (session_seen self.old) (session_seen self.new)) }
+        ensures possible { OnOk result (CanTake bytes.now (session_seen self.old)) }
         ensures coded { OnOk result (IsNoWork bytes.now → ⊥) }
         ensures malformed { result ≡ Err why.Malformed → IsNoWork bytes.now }
         ensures refused { result ≡ Err why.Refused → CanNotTake bytes.now (session_seen self.old) }
@@ -190,7 +195,8 @@ impl Session {
     /// Gives the node a work.
     pub(crate) fn give(&mut self, work: &NodeWork) -> Result<(), SessionFault>
         ensures taken { OnOk result (session_seen self.new ≡ takes (session_seen self.old) work.now) }
-        ensures refused { result ≡ Err why.Refused → may_take (node_seen self.old.process.node) work.now ≡ false }
+        ensures possible { OnOk result (node_can (node_seen self.old.process.node) work.now ≡ true) }
+        ensures refused { result ≡ Err why.Refused → node_can (node_seen self.old.process.node) work.now ≡ false }
         ensures full { result ≡ Err why.UsedUp → NodeHasRoom (node_seen self.old.process.node) → ⊥ }
         ensures decoded { result ≡ Err why.Malformed → ⊥ }
         ensures same { OnErr result (session_seen self.new ≡ session_seen self.old) }

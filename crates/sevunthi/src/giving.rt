@@ -2,7 +2,8 @@
 
 ghost use Rattle.std.specs.Prelude.{[], ◌≡◌, ◌≤◌, ◌-◌, ◌↔◌, ◌⊎◌, true, false, length};
 ghost use Rattle.rc_world.specs.NodeView.{node_seen, NodeHasRoom};
-ghost use Rattle.rc_session.specs.Claims.{IsNoWork, TakesWork, CanNotTake, IsNoMessage, TakesMessage};
+ghost use Rattle.rc_session.specs.Claims.{IsNoWork, TakesWork, CanTake, CanNotTake, CanStart, IsNoMessage};
+ghost use Rattle.rc_session.specs.Claims.{TakesMessage};
 ghost use Rattle.rc_session.specs.Claims.{MaySave, MayEndSave};
 ghost use Rattle.rc_keeping.specs.SaveClaims.{IsSaved};
 ghost use Rattle.rc_process.specs.View.{save_begun, moved};
@@ -18,6 +19,7 @@ use std::alloc::Global;
 pub extern "C" fn sevunthi_step(alloc: Global, node: &mut SevunthiNode, work: &[u8]) -> u32
     ensures taken { result ≡ 0 →
         TakesWork work.now (session_seen node.old.cell.session) (session_seen node.new.cell.session) }
+    ensures possible { result ≡ 0 → CanTake work.now (session_seen node.old.cell.session) }
     ensures coded { result ≡ 0 → IsNoWork work.now → ⊥ }
     ensures malformed { result ≡ 3 → IsNoWork work.now }
     ensures refused { result ≡ 4 → CanNotTake work.now (session_seen node.old.cell.session) }
@@ -39,6 +41,7 @@ pub extern "C" fn sevunthi_step(alloc: Global, node: &mut SevunthiNode, work: &[
 /// Gives a session the work.
 fn step_in(session: &mut Session, work: &[u8]) -> u32
     ensures taken { result ≡ 0 → TakesWork work.now (session_seen session.old) (session_seen session.new) }
+    ensures possible { result ≡ 0 → CanTake work.now (session_seen session.old) }
     ensures coded { result ≡ 0 → IsNoWork work.now → ⊥ }
     ensures malformed { result ≡ 3 → IsNoWork work.now }
     ensures refused { result ≡ 4 → CanNotTake work.now (session_seen session.old) }
@@ -94,6 +97,7 @@ fn deliver_in(session: &mut Session, message: &[u8]) -> u32
 pub extern "C" fn sevunthi_start(alloc: Global, node: &mut SevunthiNode) -> u32
     ensures started { result ≡ 0 →
         session_seen node.new.cell.session ≡ started_anew (session_seen node.old.cell.session) }
+    ensures possible { result ≡ 0 → CanStart (stopped (session_seen node.old.cell.session)) }
     ensures same { (result ≡ 0 → ⊥) → node.old.full ≡ true →
         (session_seen node.new.cell.session ≡ session_seen node.old.cell.session)
         ⊎ (session_seen node.new.cell.session ≡ stopped (session_seen node.old.cell.session)) }
@@ -112,6 +116,7 @@ pub extern "C" fn sevunthi_start(alloc: Global, node: &mut SevunthiNode) -> u32
 /// Starts the server of a session.
 fn start_in(session: &mut Session) -> u32
     ensures started { result ≡ 0 → session_seen session.new ≡ started_anew (session_seen session.old) }
+    ensures possible { result ≡ 0 → CanStart (stopped (session_seen session.old)) }
     ensures same { (result ≡ 0 → ⊥) → (session_seen session.new ≡ session_seen session.old)
         ⊎ (session_seen session.new ≡ stopped (session_seen session.old)) }
     ensures used { result ≡ 2 → ⊥ }

@@ -50,6 +50,7 @@ pub(crate) fn number_of(fault: SessionFault) -> u32
     ensures room { result ≡ 6 → ⊥ }
     ensures range { result ≡ 7 → fault ≡ why.OutOfRange }
     ensures save { result ≡ 9 → fault ≡ why.NoSave }
+    ensures short { result ≡ 10 → fault ≡ why.TooShort }
 {
     match fault {
         SessionFault::NoMemory => NO_MEMORY,

@@ -1,9 +1,8 @@
 //! Taking from a node what has to be written and what may leave, into the caller's bytes.
 
 ghost use Rattle.std.specs.Prelude.{[], ◌≡◌, ◌<◌, ◌++◌, ◌↔◌, true, false, length, drop};
-ghost use Rattle.rc_process.specs.View.{AllWait};
 ghost use Rattle.rc_session.specs.View.{session_seen};
-ghost use Rattle.rc_session.specs.Claims.{IsInHand, HasLeft, HasNoRoom};
+ghost use Rattle.rc_session.specs.Claims.{IsInHand, HasLeft, HasNoRoom, MustWait};
 
 use crate::handle::SevunthiNode;
 use crate::numbers::{DONE, MISUSED, NO_MEMORY, NO_ROOM, NOTHING};
@@ -82,7 +81,7 @@ pub extern "C" fn sevunthi_leave(
         to.old to.new needed.new }
     ensures stays { result ≡ 6 → HasNoRoom (session_seen node.old.cell.session) (session_seen node.new.cell.session)
         to.old to.new needed.new }
-    ensures waits { result ≡ 8 → AllWait (session_seen node.old.cell.session).process }
+    ensures waits { result ≡ 8 → MustWait (session_seen node.old.cell.session) }
     ensures none { result ≡ 8 → session_seen node.new.cell.session ≡ session_seen node.old.cell.session }
     ensures kept { result ≡ 1 →
         IsInHand (session_seen node.old.cell.session) (session_seen node.new.cell.session) }
@@ -104,7 +103,7 @@ fn leave_in(session: &mut Session, to: &mut [u8], needed: &mut usize) -> u32
         HasLeft (session_seen session.old) (session_seen session.new) to.old to.new needed.new }
     ensures stays { result ≡ 6 →
         HasNoRoom (session_seen session.old) (session_seen session.new) to.old to.new needed.new }
-    ensures waits { result ≡ 8 → AllWait (session_seen session.old).process }
+    ensures waits { result ≡ 8 → MustWait (session_seen session.old) }
     ensures none { result ≡ 8 → session_seen session.new ≡ session_seen session.old }
     ensures kept { result ≡ 1 → IsInHand (session_seen session.old) (session_seen session.new) }
     ensures used { result ≡ 2 → ⊥ }
