@@ -9,33 +9,6 @@ pub enum Dialect {
     Trace,
 }
 
-/// The kinds of messages that `kinds` takes.
-pub const MESSAGES: [&str; 23] = [
-    "Write",
-    "Read",
-    "WriteOk",
-    "ReadOk",
-    "Refused",
-    "Place",
-    "Append",
-    "Close",
-    "Stored",
-    "Commit",
-    "CommitOk",
-    "Enlist",
-    "Ready",
-    "List",
-    "Gather",
-    "Replicas",
-    "Plan",
-    "Fetch",
-    "Data",
-    "Recovered",
-    "Own",
-    "SplitOk",
-    "Free",
-];
-
 const EVENTS: [&str; 11] = [
     "start", "stop", "suspect", "decide", "tick", "write", "read", "deliver", "settle", "create",
     "split",

@@ -1,11 +1,12 @@
 //! Why a scenario or a trace is wrong at a place (F17).
 
-use crate::dialects::{Dialect, MESSAGES, may_be_absent};
+use crate::dialects::{Dialect, may_be_absent};
 use crate::pieces::{Member, Members, Piece, item};
 use crate::showing::{ask_for_nearest, show, show_quoted, tell_names, tell_place};
 use crate::syntax::tell_text_fault;
 use crate::values::{Want, Wrong, tell_want, unquoted, wrong_in};
 use rc_pen::{Pen, Piece as Told, Spelling};
+use rc_types::Kind;
 use std::alloc::{AllocError, Global};
 
 /// Why a text is wrong at this place, in a line or two. Fails only where memory was refused.
@@ -251,8 +252,22 @@ fn tell_wrong(pen: &mut Pen, text: &[u8], object: &Object<'_>, member: &Member, 
 fn tell_meant(alloc: Global, text: &[u8], wrong: &Wrong, pen: &mut Pen) {
     if let Want::Name = wrong.want {
         let spelt = unquoted(wrong.shown.text(text)).unwrap_or("");
-        ask_for_nearest(alloc, pen, spelt, &MESSAGES);
+        match names_of_kinds(alloc) {
+            Ok(names) => {
+                ask_for_nearest(alloc, pen, spelt, names.as_slice());
+            }
+            Err(error) => pen.take(Err(error)),
+        }
     }
+}
+
+/// The names of all kinds of messages.
+fn names_of_kinds(alloc: Global) -> Result<Vec<&'static str>, AllocError> {
+    let mut names = Vec::with_capacity(alloc, Kind::ALL.len())?;
+    for kind in Kind::ALL.iter() {
+        names.push(kind.name())?;
+    }
+    Ok(names)
 }
 
 /// The item of this number.

@@ -1,8 +1,8 @@
 //! What a member has to be, and where a value is something else.
 
-use crate::dialects::MESSAGES;
 use crate::pieces::{ItemWalk, Piece, item};
 use rc_pen::{Pen, Piece as Told};
+use rc_types::Kind;
 use rc_types::limits::{MAX_FACTOR, MAX_HOSTS, MAX_SEGMENT};
 
 /// What a value has to be.
@@ -298,19 +298,9 @@ fn is_simple(value: &str, want: Want) -> bool {
         Want::Flag => value == "true" || value == "false",
         Want::Value => value == "null" || value.starts_with('"'),
         Want::Hex => value == "null" || is_hex(value),
-        Want::Name => is_name(unquoted(value).unwrap_or("")),
+        Want::Name => Kind::named(unquoted(value).unwrap_or("")).is_some(),
         _ => true,
     }
-}
-
-/// Whether this is the name of a message's body.
-fn is_name(value: &str) -> bool {
-    for name in &MESSAGES {
-        if *name == value {
-            return true;
-        }
-    }
-    false
 }
 
 /// Whether the value is written with digits alone, and says a number of this range.
