@@ -1,6 +1,6 @@
 //! The process of the coordinator.
 
-use crate::core::{Config, Core, Frame, tell};
+use crate::core::{BEAT, Config, Core, Frame, tell};
 use crate::cut_off::{CutOff, Sight};
 use crate::events::{Event, EventReceiver, TURN};
 use crate::protocol::{DONE, Op, Reply, Request, WRONG};
@@ -59,7 +59,7 @@ impl Coordinator {
         loop {
             events.take_turn(TURN, |event| self.take(event));
             self.core.awake.turn();
-            if self.is_due || Duration::from_millis(100) <= beat.elapsed() {
+            if self.is_due || BEAT <= beat.elapsed() {
                 beat = Instant::now();
                 self.is_due = false;
                 self.do_dues();
@@ -309,8 +309,6 @@ impl Coordinator {
 
     fn show(&mut self) {
         let now = self.text();
-        if let Ok(mut text) = self.core.text.lock() {
-            *text = now;
-        }
+        self.core.show(now);
     }
 }

@@ -85,7 +85,7 @@ pub struct Core {
     answers: BTreeMap<u64, Vec<u8>>,
     pub local: VecDeque<Vec<u8>>,
     record: Option<Record>,
-    pub text: Arc<Mutex<String>>,
+    text: Arc<Mutex<String>>,
     pub mangle: Mangle,
     pub awake: Awake,
     pub waits: Waits,
@@ -109,6 +109,9 @@ pub struct Counts {
     /// Nanoseconds in syncs.
     pub syncing: u64,
 }
+
+/// How often a server says that it lives, and what a node shows is made anew.
+pub const BEAT: Duration = Duration::from_millis(100);
 
 /// Writes a line to the node's log, behind the time of day (UTC).
 pub fn tell(what: impl Display) {
@@ -257,6 +260,13 @@ impl Core {
         }
         let Some(out) = self.outs.get_mut(place) else { return };
         self.mangle.put(self.clock, message, out);
+    }
+
+    /// Shows this text from now on.
+    pub fn show(&self, now: String) {
+        if let Ok(mut text) = self.text.lock() {
+            *text = now;
+        }
     }
 
     /// Answers a client.

@@ -1,6 +1,6 @@
 //! The process of a host.
 
-use crate::core::{Config, Core, Frame, failed, tell};
+use crate::core::{BEAT, Config, Core, Frame, failed, tell};
 use crate::events::{Event, EventReceiver, LEAST_PART, TURN, part_of};
 use crate::protocol::{DONE, NO_VALUE, Op, Reply, Request, UNKNOWN, WRONG};
 use crate::wire::HEARTBEAT;
@@ -27,11 +27,11 @@ const MANY: u64 = 128;
 /// After so much was taken since the last sync, the next one begins, though more has come.
 const MUCH: u64 = 96;
 
-/// How often a server says that it lives.
-const BEAT: Duration = Duration::from_millis(100);
-
 /// F3: the head is being rolled, so that a write has to wait.
 const ROLLING: u8 = 3;
+
+/// F5: the server was replaced, or can't confirm.
+const DEPOSED: u8 = 5;
 
 /// A request and its client; none is the server itself.
 struct Asked<'a> {
@@ -105,9 +105,7 @@ impl Host {
         for Asked { client, request } in taken.chain(std::mem::take(&mut self.waiting)) {
             self.reply(client, &Reply::bare(UNKNOWN, request.number));
         }
-        for (_, client, reply, _) in std::mem::take(&mut self.reads) {
-            self.core.answer(client, &Reply::bare(5, reply.number));
-        }
+        self.refuse_reads();
         // what the server says waits until its start is safe
         self.route();
         self.core.make_safe_now();
@@ -364,7 +362,7 @@ impl Host {
     /// Reads that can't be confirmed here are refused: their clients ask elsewhere.
     fn refuse_reads(&mut self) {
         for (_, client, reply, _) in std::mem::take(&mut self.reads) {
-            self.core.answer(client, &Reply::bare(5, reply.number));
+            self.core.answer(client, &Reply::bare(DEPOSED, reply.number));
         }
     }
 
@@ -447,9 +445,7 @@ impl Host {
 
     fn show(&mut self) {
         let now = self.text();
-        if let Ok(mut text) = self.core.text.lock() {
-            *text = now;
-        }
+        self.core.show(now);
     }
 }
 
