@@ -5,7 +5,8 @@ ghost use Rattle.rc_model.specs.Coordinator.{new_coordinator};
 ghost use Rattle.rc_model.specs.CoordinatorStep.{coordinator_takes};
 ghost use Rattle.rc_rangetree.specs.Ranges.{AreTablets};
 ghost use Rattle.rc_coordinator.specs.Book.{IsBook, coordinator_of};
-ghost use Rattle.rc_coordinator.specs.Steps.{steps, HasNumbers};
+ghost use Rattle.rc_model.specs.Nodes.{coordinator_step};
+ghost use Rattle.rc_coordinator.specs.Steps.{HasNumbers};
 ghost use Rattle.rc_coordinator.specs.declared.lists.ListsFault.TheVariants.{NoCoordinator};
 
 use crate::lists::{Lists, ListsFault};
@@ -93,8 +94,10 @@ impl<A: Allocator + Clone> Coordinator<A> {
     /// `OutOfMemory` (F1): memory was refused. Then the coordinator and what was sent are as before.
     pub fn step_into(&mut self, work: &NodeWork, sent: &mut Vec<Message>) -> Result<(), AllocError>
         requires { HasNumbers (coordinator_of self.old) }
-        ensures state { OnOk result (coordinator_of self.new ≡ (steps (coordinator_of self.old) work.now).0) }
-        ensures sends { OnOk result (sent.new.items ≡ sent.old.items ++ (steps (coordinator_of self.old) work.now).1) }
+        ensures state { OnOk result (coordinator_of self.new ≡
+            (coordinator_step (coordinator_of self.old) work.now).0) }
+        ensures sends { OnOk result (sent.new.items ≡
+            sent.old.items ++ (coordinator_step (coordinator_of self.old) work.now).1) }
         ensures err { OnErr result (self.new ≡ self.old) }
         ensures unsent { OnErr result (sent.new.items ≡ sent.old.items) }
     {
@@ -125,8 +128,9 @@ impl<A: Allocator + Clone> Coordinator<A> {
     /// `OutOfMemory` (F1): memory was refused. Then the coordinator is as before.
     pub fn step(&mut self, work: &NodeWork) -> Result<Vec<Message>, AllocError>
         requires { HasNumbers (coordinator_of self.old) }
-        ensures state { OnOk result (coordinator_of self.new ≡ (steps (coordinator_of self.old) work.now).0) }
-        ensures sends { IfOk result (λ sent. sent.items ≡ (steps (coordinator_of self.old) work.now).1) }
+        ensures state { OnOk result (coordinator_of self.new ≡
+            (coordinator_step (coordinator_of self.old) work.now).0) }
+        ensures sends { IfOk result (λ sent. sent.items ≡ (coordinator_step (coordinator_of self.old) work.now).1) }
         ensures err { OnErr result (self.new ≡ self.old) }
     {
         let mut sent = Vec::new(self.state.alloc);

@@ -4,7 +4,8 @@ ghost use Rattle.std.specs.Prelude.{◌≡◌, ◌↔◌, ◌++◌, true, OnOk, 
 ghost use Rattle.rc_model.specs.Coordinator.{new_coordinator};
 ghost use Rattle.rc_model.specs.CoordinatorStep.{coordinator_takes};
 ghost use Rattle.rc_coordinator.specs.View.{book_of, state_view};
-ghost use Rattle.rc_coordinator.specs.Steps.{steps, HasNumbers};
+ghost use Rattle.rc_model.specs.Nodes.{coordinator_step};
+ghost use Rattle.rc_coordinator.specs.Steps.{HasNumbers};
 
 use crate::ready::Ready;
 use crate::recoveries::Recoveries;
@@ -59,8 +60,9 @@ impl<A: Allocator + Clone> State<A> {
         sent: &mut Vec<Message>,
     ) -> Result<(), AllocError>
         requires { HasNumbers (state_view self.old) }
-        ensures state { OnOk result (state_view self.new ≡ (steps (state_view self.old) work.now).0) }
-        ensures sends { OnOk result (sent.new.items ≡ sent.old.items ++ (steps (state_view self.old) work.now).1) }
+        ensures state { OnOk result (state_view self.new ≡ (coordinator_step (state_view self.old) work.now).0) }
+        ensures sends { OnOk result (sent.new.items ≡
+            sent.old.items ++ (coordinator_step (state_view self.old) work.now).1) }
         ensures err { OnErr result (book_of self.new ≡ book_of self.old) }
         ensures unsent { OnErr result (sent.new.items ≡ sent.old.items) }
     {
@@ -71,7 +73,7 @@ impl<A: Allocator + Clone> State<A> {
             NodeWork::Decide(master) => self.decide(*master, sent),
             NodeWork::Create { table, owner } => self.create(*table, *owner, sent),
             NodeWork::Split { table, at } => self.split(*table, *at, sent),
-            NodeWork::Ask { .. } | NodeWork::Stop | NodeWork::Start { .. } => Ok(()),
+            _ => Ok(()),
         }
     }
 

@@ -4,16 +4,15 @@ use Rattle.std.proofs.Common.{subst, Option, Some, None, append_assoc}
 use Rattle.std.proofs.Math.Seq.{take-append-add}
 use Rattle.rc_types.specs.declared.events.Setup.{Setup}
 use Rattle.rc_types.specs.declared.events.NodeWork.{NodeWork}
-use Rattle.rc_types.specs.declared.events.NodeWork.TheVariants as work
-use Rattle.rc_model.specs.Nodes.{Work, HostNode, server_of}
+use Rattle.rc_model.specs.Nodes.{HostNode, host_can, host_step}
 use Rattle.rc_model.specs.Coordinator.{Coordinator}
 use Rattle.rc_model.specs.World.{NodeName}
 use Rattle.rc_model.specs.World as named
-use Rattle.rc_model.specs.Nodes as model
 use Rattle.rc_model.proofs.Tests.{true_false}
-use Rattle.rc_history.specs.Nodes.{Node, TheOutside, TheCoordinator, TheHost, node_step, new_node, name_of}
+use Rattle.rc_history.specs.Nodes.{Node, TheOutside, TheCoordinator, TheHost, node_step, new_node, name_of, node_can}
 use Rattle.rc_history.specs.Remade.{SameButMaster, host_keeps, stopped}
-use Rattle.rc_world.specs.NodeView.{work_at, may_take, after_work, host_may, host_after_work, NodeData, OutsideData, CoordinatorData}
+use Rattle.rc_history.proofs.Remade.{same-same, same-through, same-back}
+use Rattle.rc_world.specs.NodeView.{NodeData, OutsideData, CoordinatorData}
 use Rattle.rc_world.specs.NodeView.{HostNodeData, node_seen}
 use Rattle.rc_keeping.specs.Keeping.{host_next, host_given}
 use Rattle.rc_keeping.proofs.ComingBack.{saved-hosts-come-back, refusals-come-back}
@@ -22,10 +21,9 @@ use Rattle.rc_lives.proofs.Cutting.{name-next}
 use Rattle.rc_codec.proofs.Lawful.{some_is}
 use Rattle.rc_keeping.specs.Saved.{Saved, HostSave, CoordinatorSave, saved_of, node_from}
 use Rattle.rc_keeping.proofs.Loaded.{loaded-is-same}
-use Rattle.rc_files.specs.Standing.{works_at, AllWritten, node_next, node_given, FilesMakeAnew, OneMoreIsWritten, FewerStandForFewer}
+use Rattle.rc_files.specs.Standing.{AllWritten, node_next, node_given, FilesMakeAnew, OneMoreIsWritten, FewerStandForFewer}
 use Rattle.rc_files.specs.Standing.{StopsMakeEqual, SavesStandForAll}
 use Rattle.rc_model.specs.Master.{Master}
-use Rattle.rc_types.specs.declared.ids.ServerId.{ServerId}
 use Rattle.std.proofs.lemmas.List.{append-nil}
 use Rattle.std.specs.Prelude.{is_some}
 
@@ -34,30 +32,30 @@ apart true x y = refl
 apart false x y = refl
 
 next-host : (host : HostNode) (given : NodeWork) → node_next (TheHost host) given ≡ TheHost (host_next host given)
-next-host host given = apart (host_may host given) (host_after_work host given).0 host
+next-host host given = apart (host_can host given) (host_step host given).0 host
 
 -- hosts that are the same but for their masters, after one work that is kept
-host-next-same : (one other : HostNode) (given : NodeWork) → SameButMaster one other → host_keeps (work_at (TheHost other) given) ≡ true →
-    host_may other given ≡ true → SameButMaster (host_next one given) (host_after_work other given).0
+host-next-same : (one other : HostNode) (given : NodeWork) → SameButMaster one other → host_keeps given ≡ true →
+    host_can other given ≡ true → SameButMaster (host_next one given) (host_step other given).0
 host-next-same one other given same kept may =
-    subst (λ b. SameButMaster (host_next one given) (cond b (host_after_work other given).0 other)) may
+    subst (λ b. SameButMaster (host_next one given) (cond b (host_step other given).0 other)) may
     (subst (λ b. SameButMaster (host_given one (cond b (given ∷ []) [])) (host_next other given)) kept
     (saved-hosts-come-back one other (given ∷ []) same))
 
-next-same : (name : NodeName) (n m : Node) (given : NodeWork) → SameNode n m → name_of m ≡ name → keeps name (work_at m given) ≡ true →
-    may_take m given ≡ true → SameNode (node_next n given) (after_work m given).0
-next-same name TheOutside TheOutside given same is kept may = by (may_take TheOutside given)
+next-same : (name : NodeName) (n m : Node) (given : NodeWork) → SameNode n m → name_of m ≡ name → keeps name given ≡ true →
+    node_can m given ≡ true → SameNode (node_next n given) (node_step m given).0
+next-same name TheOutside TheOutside given same is kept may = by (node_can TheOutside given)
   where
     by : (b : Bool) → SameNode (cond b TheOutside TheOutside) TheOutside
     by true = tt
     by false = tt
 next-same name (TheCoordinator c) (TheCoordinator d) given same is kept may =
-    subst (λ (x : Coordinator). SameNode (node_next (TheCoordinator x) given) (after_work (TheCoordinator d) given).0) (sym same)
-    (subst (λ b. SameNode (cond b (after_work (TheCoordinator d) given).0 (TheCoordinator d)) (after_work (TheCoordinator d) given).0)
+    subst (λ (x : Coordinator). SameNode (node_next (TheCoordinator x) given) (node_step (TheCoordinator d) given).0) (sym same)
+    (subst (λ b. SameNode (cond b (node_step (TheCoordinator d) given).0 (TheCoordinator d)) (node_step (TheCoordinator d) given).0)
     (sym may) refl)
 next-same name (TheHost one) (TheHost other) given same is kept may =
-    subst (λ (x : Node). SameNode x (after_work (TheHost other) given).0) (sym (next-host one given))
-    (host-next-same one other given same (subst (λ n. keeps n (work_at (TheHost other) given) ≡ true) (sym is) kept) may)
+    subst (λ (x : Node). SameNode x (node_step (TheHost other) given).0) (sym (next-host one given))
+    (host-next-same one other given same (subst (λ n. keeps n given ≡ true) (sym is) kept) may)
 next-same name TheOutside (TheCoordinator d) given same is kept may = absurd same
 next-same name TheOutside (TheHost other) given same is kept may = absurd same
 next-same name (TheCoordinator c) TheOutside given same is kept may = absurd same
@@ -65,16 +63,15 @@ next-same name (TheCoordinator c) (TheHost other) given same is kept may = absur
 next-same name (TheHost one) TheOutside given same is kept may = absurd same
 next-same name (TheHost one) (TheCoordinator d) given same is kept may = absurd same
 
-again-same : (name : NodeName) (n m : Node) (works : List NodeWork) (count : ℕ) → SameNode n m → name_of m
-    ≡ name → AllWritten name m works →
-    SameNode (node_given n (take count works)) (node_after m (take count (works_at m works)))
+again-same : (name : NodeName) (n m : Node) (works : List NodeWork) (count : ℕ) → SameNode n m → name_of m ≡ name →
+    AllWritten name m works → SameNode (node_given n (take count works)) (node_after m (take count works))
 again-same name n m works zero same is written = same
 again-same name n m [] (suc count) same is written = same
 again-same name n m (given ∷ works) (suc count) same is written =
-    again-same name (node_next n given) (after_work m given).0 works count (next-same name n m given same is written.0 written.1)
-    (name-next m (work_at m given) ∙ is) written.2
+    again-same name (node_next n given) (node_step m given).0 works count (next-same name n m given same is written.0 written.1)
+    (name-next m given ∙ is) written.2
 
-pub name-after : (n : Node) (works : List Work) → name_of (node_after n works) ≡ name_of n
+pub name-after : (n : Node) (works : List NodeWork) → name_of (node_after n works) ≡ name_of n
 name-after n [] = refl
 name-after n (w ∷ works) = name-after (node_step n w).0 works ∙ name-next n w
 
@@ -83,91 +80,60 @@ name-new setup named.TheOutside = refl
 name-new setup named.TheCoordinator = refl
 name-new setup (named.TheHost index) = refl
 
-after-append : (n : Node) (one two : List Work) → node_after n (one ++ two) ≡ node_after (node_after n one) two
+after-append : (n : Node) (one two : List NodeWork) → node_after n (one ++ two) ≡ node_after (node_after n one) two
 after-append n [] two = refl
 after-append n (w ∷ one) two = after-append (node_step n w).0 one two
 
-take-past : (one two : List Work) (count : ℕ) → take (length one + count) (one ++ two) ≡ one ++ take count two
+take-past : (one two : List NodeWork) (count : ℕ) → take (length one + count) (one ++ two) ≡ one ++ take count two
 take-past one two count = take-append-add one two count
 
 pub files-make-anew : FilesMakeAnew
 files-make-anew setup name saved before works journal count stands within =
     let base : Node = node_after (new_node setup name) before in
     let cut : node_after (new_node setup name) (take (length before + count) journal)
-    ≡ node_after base (take count (works_at base works)) =
+    ≡ node_after base (take count works) =
     ap (λ l. node_after (new_node setup name) (take (length before + count) l)) stands.same
-    ∙ (ap (node_after (new_node setup name)) (take-past before (works_at base works) count)
-    ∙ after-append (new_node setup name) before (take count (works_at base works))) in
+    ∙ (ap (node_after (new_node setup name)) (take-past before works count)
+    ∙ after-append (new_node setup name) before (take count works)) in
     subst (SameNode (node_given (node_from saved) (take count works))) (sym cut)
     (again-same name (node_from saved) base works count stands.loaded
     (name-after (new_node setup name) before ∙ name-new setup name) stands.written)
 
 -- One work more
 
-works_at-push : (m : Node) (works : List NodeWork) (given : NodeWork) →
-    works_at m (works ++ given ∷ []) ≡ works_at m works ++ work_at (node_after m (works_at m works)) given ∷ []
-works_at-push m [] given = refl
-works_at-push m (first ∷ works) given = ap (λ l. work_at m first ∷ l) (works_at-push (after_work m first).0 works given)
-
 written-push : (name : NodeName) (m : Node) (works : List NodeWork) (given : NodeWork) → AllWritten name m works →
-    keeps name (work_at (node_after m (works_at m works)) given) ≡ true → may_take (node_after m (works_at m works)) given ≡ true →
+    keeps name given ≡ true → node_can (node_after m works) given ≡ true →
     AllWritten name m (works ++ given ∷ [])
 written-push name m [] given written kept may = (kept, may, tt)
 written-push name m (first ∷ works) given written kept may =
-    (written.0, written.1, written-push name (after_work m first).0 works given written.2 kept may)
+    (written.0, written.1, written-push name (node_step m first).0 works given written.2 kept may)
 
-server-same : (one other : HostNode) → SameButMaster one other → server_of one ≡ server_of other
-server-same one other same = ap (λ (h : HostNode). server_of h) same.rest
-
--- what is kept is the same work at both
-host-at : (one other : HostNode) (given : NodeWork) → SameButMaster one other → host_keeps (work_at (TheHost other) given) ≡ true →
-    work_at (TheHost one) given ≡ work_at (TheHost other) given
-host-at one other work.Tick same kept = true_false (sym kept)
-host-at one other work.Stop same kept = ap (λ (id : ServerId). model.Stop id) (server-same one other same)
-host-at one other _ same kept = refl
-
-record SameAt (name : NodeName) (one other : Node) (given : NodeWork) : Type 0 where
-  at : work_at one given ≡ work_at other given
-  may : may_take one given ≡ true
-
-same-at : (name : NodeName) (one other : Node) (given : NodeWork) → SameNode one other → name_of one ≡ name →
-    keeps name (work_at other given) ≡ true → may_take other given ≡ true → SameAt name one other given
-same-at name TheOutside TheOutside given same is kept may = record { at = refl; may = may }
-same-at name (TheCoordinator c) (TheCoordinator d) given same is kept may =
-    subst (λ (x : Coordinator). SameAt name (TheCoordinator x) (TheCoordinator d) given) (sym same) (record { at = refl; may = may })
-same-at name (TheHost one) (TheHost other) given same is kept may =
-    let its : host_keeps (work_at (TheHost other) given) ≡ true = subst (λ n. keeps n (work_at (TheHost other) given) ≡ true)
-    (sym is) kept in
-    let equal : work_at (TheHost one) given ≡ work_at (TheHost other) given = host-at one other given same its in
-    record {
-      at = equal;
-      may = refusals-come-back one other given same (ap (λ (w : Work). host_keeps w) equal ∙ its) ∙ may;
-    }
-same-at name TheOutside (TheCoordinator d) given same is kept may = absurd same
-same-at name TheOutside (TheHost other) given same is kept may = absurd same
-same-at name (TheCoordinator c) TheOutside given same is kept may = absurd same
-same-at name (TheCoordinator c) (TheHost other) given same is kept may = absurd same
-same-at name (TheHost one) TheOutside given same is kept may = absurd same
-same-at name (TheHost one) (TheCoordinator d) given same is kept may = absurd same
+-- a host that is the same but for its master can be given what is kept as well
+can-same : (name : NodeName) (one other : Node) (given : NodeWork) → SameNode one other → name_of one ≡ name →
+    keeps name given ≡ true → node_can other given ≡ true → node_can one given ≡ true
+can-same name TheOutside TheOutside given same is kept can = can
+can-same name (TheCoordinator c) (TheCoordinator d) given same is kept can = can
+can-same name (TheHost one) (TheHost other) given same is kept can =
+    refusals-come-back one other given same (subst (λ n. keeps n given ≡ true) (sym is) kept) ∙ can
+can-same name TheOutside (TheCoordinator d) given same is kept can = absurd same
+can-same name TheOutside (TheHost other) given same is kept can = absurd same
+can-same name (TheCoordinator c) TheOutside given same is kept can = absurd same
+can-same name (TheCoordinator c) (TheHost other) given same is kept can = absurd same
+can-same name (TheHost one) TheOutside given same is kept can = absurd same
+can-same name (TheHost one) (TheCoordinator d) given same is kept can = absurd same
 
 pub one-more-is-written : OneMoreIsWritten
-one-more-is-written setup name saved before works journal node given stands same kept may =
+one-more-is-written setup name saved before works journal node given stands same kept can =
     let base : Node = node_after (new_node setup name) before in
-    let last : Node = node_after base (works_at base works) in
+    let last : Node = node_after base works in
     let made : node_after (new_node setup name) journal ≡ last =
-    ap (node_after (new_node setup name)) stands.same ∙ after-append (new_node setup name) before (works_at base works) in
-    let named : name_of last ≡ name = name-after base (works_at base works)
-    ∙ (name-after (new_node setup name) before ∙ name-new setup name) in
-    let here : SameAt name last node given =
-    same-at name last node given (subst (λ (x : Node). SameNode x node) made same) named kept may in
+    ap (node_after (new_node setup name)) stands.same ∙ after-append (new_node setup name) before works in
+    let named : name_of last ≡ name = name-after base works ∙ (name-after (new_node setup name) before ∙ name-new setup name) in
     record {
       loaded = stands.loaded;
-      written = written-push name base works given stands.written (ap (keeps name) here.at ∙ kept) here.may;
-      same =
-          ap (λ l. l ++ work_at node given ∷ []) stands.same
-          ∙ (append_assoc before (works_at base works) (work_at node given ∷ [])
-          ∙ ap (λ l. before ++ l) (ap (λ (w : Work). works_at base works ++ w ∷ []) (sym here.at)
-          ∙ sym (works_at-push base works given)));
+      written = written-push name base works given stands.written kept
+          (can-same name last node given (subst (λ (x : Node). SameNode x node) made same) named kept can);
+      same = ap (λ l. l ++ given ∷ []) stands.same ∙ append_assoc before works (given ∷ []);
     }
 
 -- A stop
@@ -194,12 +160,6 @@ stops-make-equal (TheHost one) TheOutside same = absurd same
 stops-make-equal (TheHost one) (TheCoordinator d) same = absurd same
 
 -- A save
-
-same-back : (one other : HostNode) → SameButMaster one other → SameButMaster other one
-same-back one other same = record { runs = sym same.runs; rest = sym same.rest }
-
-same-through : (one two three : HostNode) → SameButMaster one two → SameButMaster two three → SameButMaster one three
-same-through one two three a b = record { runs = a.runs ∙ b.runs; rest = a.rest ∙ b.rest }
 
 pub node-through : (one two three : Node) → SameNode one two → SameNode two three → SameNode one three
 node-through TheOutside TheOutside TheOutside a b = tt
@@ -232,7 +192,7 @@ node-back (TheHost c) (TheCoordinator d) a = absurd a
 pub same-itself : (n : Node) → SameNode n n
 same-itself TheOutside = tt
 same-itself (TheCoordinator c) = refl
-same-itself (TheHost host) = record { runs = refl; rest = refl }
+same-itself (TheHost host) = same-same host
 
 -- the node of a save is the node that was saved, but for its master
 pub saved-same : (node : NodeData) (saved : Saved) → saved_of node ≡ Some saved → SameNode (node_from saved) (node_seen node)
@@ -252,24 +212,15 @@ saves-stand setup name node saved journal its same = record {
 
 -- Fewer works
 
-works_at-take : (m : Node) (works : List NodeWork) (count : ℕ) → works_at m (take count works) ≡ take count (works_at m works)
-works_at-take m works zero = refl
-works_at-take m [] (suc count) = refl
-works_at-take m (given ∷ works) (suc count) = ap (λ l. work_at m given ∷ l) (works_at-take (after_work m given).0 works count)
-
 written-take : (name : NodeName) (m : Node) (works : List NodeWork) (count : ℕ) → AllWritten name m works →
     AllWritten name m (take count works)
 written-take name m works zero is = tt
 written-take name m [] (suc count) is = tt
-written-take name m (given ∷ works) (suc count) is = (is.0, is.1, written-take name (after_work m given).0 works count is.2)
+written-take name m (given ∷ works) (suc count) is = (is.0, is.1, written-take name (node_step m given).0 works count is.2)
 
 pub fewer-stand : FewerStandForFewer
-fewer-stand setup name saved before works journal count stands within =
-    let base : Node = node_after (new_node setup name) before in
-    record {
-      loaded = stands.loaded;
-      written = written-take name base works count stands.written;
-      same =
-          ap (take (length before + count)) stands.same
-          ∙ (take-past before (works_at base works) count ∙ ap (λ l. before ++ l) (sym (works_at-take base works count)));
-    }
+fewer-stand setup name saved before works journal count stands within = record {
+  loaded = stands.loaded;
+  written = written-take name (node_after (new_node setup name) before) works count stands.written;
+  same = ap (take (length before + count)) stands.same ∙ take-past before works count;
+}

@@ -6,12 +6,12 @@ use Rattle.std.proofs.lemmas.List.{append-nil, map-append}
 use Rattle.std.proofs.lemmas.List.Elements.{filter-append}
 use Rattle.std.proofs.lemmas.Grind.{flat_map-append}
 use Rattle.rc_model.specs.Model.{Event, Setup, World, NodeName, Job, opening, same_node, work_of, is_possible, is_possible_job}
-use Rattle.rc_model.specs.Model.{replay}
+use Rattle.rc_model.specs.Model.{runs_as_named, replay}
 use Rattle.rc_model.specs.World as world
 use Rattle.rc_model.proofs.Tests.{true_false}
 use Rattle.rc_model.proofs.Ids.{same_node-true}
 use Rattle.rc_model.proofs.Replays.{replay_from-push}
-use Rattle.rc_history.specs.Nodes.{Node, node_can, node_step, new_node, node_in}
+use Rattle.rc_history.specs.Nodes.{Node, can_take, node_step, new_node, node_in}
 use Rattle.rc_history.specs.Events.{is_legal_from, is_legal, is_for, taken, events_of}
 use Rattle.rc_history.specs.Apart.{Step, events_by, sent_by, own_steps, left_at, Follows, TakenApart}
 use Rattle.rc_history.specs.Claims.{NodeTakes, ComesOfSteps}
@@ -86,7 +86,8 @@ takes-here setup steps step h f =
 possible-here : (setup : Setup) (steps : List Step) (step : Step) → IsHistory setup steps → Follows setup steps step →
     is_possible (replay setup (events_by steps)) step.event ≡ true
 possible-here setup steps step h f =
-    (takes-here setup steps step h f).possible ∙ (ap (λ n. node_can n step.work) (stands-here setup steps step h f) ∙ f.can)
+    (takes-here setup steps step h f).possible
+    ∙ (ap (λ n. can_take n step.event step.work) (stands-here setup steps step h f) ∙ f.can)
 
 nodes-push : (setup : Setup) (steps : List Step) (step : Step) → IsHistory setup steps → Follows setup steps step → (name : NodeName) →
     node_in (replay setup (events_by (steps ++ step ∷ []))) name ≡ left_at name (new_node setup name) (steps ++ step ∷ [])
@@ -203,7 +204,8 @@ comes-from setup steps [] apart legal = record { steps = steps; apart = apart; s
 comes-from setup steps (event ∷ rest) apart legal =
     let w = replay setup (events_by steps) in
     let parts = and_parts (is_possible w event) (is_legal_from (world.step w event) rest) legal in
-    let job = some-job w (work_of w.sent event) parts.0 in
+    let job = some-job w (work_of w.sent event)
+    (and_parts (runs_as_named w event) (is_possible_job w (work_of w.sent event)) parts.0).1 in
     let step = step_of w event job.0 in
     let named : step.event ≡ event = step_of-event w event job.0 in
     let pushed : events_by (steps ++ step ∷ []) ≡ events_by steps ++ event ∷ [] =

@@ -3,4 +3,5 @@ pub mod Steps
 pub mod Names
 pub mod Longer
 pub mod Apart
+pub mod Own
 pub mod Remade

@@ -1,6 +1,6 @@
 -- Each node of a world keeps its name.
 use Rattle.std.proofs.Common.{◌≡◌, ℕ, List, [], ◌∷◌, Option, Some, None, refl, ap, ◌∙◌}
-use Rattle.rc_model.specs.Model.{Event, Setup, Message, is_server, backup_takes, Master, master_takes, Work, Take}
+use Rattle.rc_model.specs.Model.{Event, Setup, Message, is_server, backup_takes, Master, master_takes, NodeWork, Deliver}
 use Rattle.rc_model.specs.Model.{HostNode, host_step, is_for_backup, with_backup, with_master, server_takes, server_of, takes_if_running}
 use Rattle.rc_model.specs.Model.{ticks_if_running, World, NodeName, TheOutside, TheCoordinator, TheHost, Job, node_done, job_done}
 use Rattle.rc_model.specs.Model.{work_of, is_possible, opening, step, replay_from, replay}
@@ -27,15 +27,15 @@ ticks-index host None = refl
 ticks-index host (Some master) = refl
 
 -- a host's work leaves its index
-pub host_step-index : (host : HostNode) (work : Work) → (host_step host work).0.index ≡ host.index
-host_step-index host (Take message) = takes-index host host.master message
-host_step-index host (Tick addr) = ticks-index host host.master
+pub host_step-index : (host : HostNode) (work : NodeWork) → (host_step host work).0.index ≡ host.index
+host_step-index host (Deliver message) = takes-index host host.master message
+host_step-index host Tick = ticks-index host host.master
 host_step-index host _ = refl
 
 abbrev HasIndices : World → Type 0
 HasIndices w = (index : ℕ) → (w.hosts index).index ≡ index
 
-indices-node : (w : World) (event : Event) (name : NodeName) (work : Work) → HasIndices w → HasIndices (node_done w event name work)
+indices-node : (w : World) (event : Event) (name : NodeName) (work : NodeWork) → HasIndices w → HasIndices (node_done w event name work)
 indices-node w event TheOutside work has = has
 indices-node w event TheCoordinator work has = has
 indices-node w event (TheHost index) work has =

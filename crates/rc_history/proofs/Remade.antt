@@ -1,8 +1,9 @@
 -- A node is made anew from what was kept of its works.
 use Rattle.std.proofs.Common.{◌≡◌, Bool, true, false, cond, List, [], ◌∷◌, filter, Option, Some, None, refl, sym, ap, ◌∙◌, subst}
 use Rattle.std.specs.Prelude.{is_some}
-use Rattle.rc_model.specs.Model.{Addr, Server, Outside, Message, Body, Fetch, is_server, Backup, backup_takes, Master, master_takes, Work}
-use Rattle.rc_model.specs.Model.{Take, HostNode, host_step, coordinator_step, is_for_backup, with_backup, with_master}
+use Rattle.rc_model.specs.Model.{Addr, Server, Outside, Message, Body, Fetch, is_server, Backup, backup_takes, Master, master_takes}
+use Rattle.rc_model.specs.Model.{NodeWork}
+use Rattle.rc_model.specs.Model.{Deliver, HostNode, host_step, coordinator_step, is_for_backup, with_backup, with_master}
 use Rattle.rc_model.specs.Model.{server_takes, server_of, takes_if_running, ticks_if_running, host_after, coordinator_after}
 use Rattle.rc_types.specs.declared.ids.Addr.TheVariants.{Coordinator as AtCoordinator}
 use Rattle.rc_model.specs.Coordinator.{Coordinator}
@@ -11,13 +12,13 @@ use Rattle.rc_model.proofs.Tests.{either, true_false}
 use Rattle.rc_history.specs.Remade.{changes_backup, host_keeps, coordinator_keeps, stopped, SameButMaster, HostsCanBeRemade}
 use Rattle.rc_history.specs.Remade.{CoordinatorCanBeRemade}
 
-same-same : (host : HostNode) → SameButMaster host host
+pub same-same : (host : HostNode) → SameButMaster host host
 same-same host = record { runs = refl; rest = refl }
 
-same-through : (one two three : HostNode) → SameButMaster one two → SameButMaster two three → SameButMaster one three
+pub same-through : (one two three : HostNode) → SameButMaster one two → SameButMaster two three → SameButMaster one three
 same-through one two three a b = record { runs = a.runs ∙ b.runs; rest = a.rest ∙ b.rest }
 
-same-back : (one two : HostNode) → SameButMaster one two → SameButMaster two one
+pub same-back : (one two : HostNode) → SameButMaster one two → SameButMaster two one
 same-back one two a = record { runs = sym a.runs; rest = sym a.rest }
 
 -- What is not to be kept changes the master alone
@@ -56,10 +57,10 @@ ticks-unkept : (host : HostNode) (running : Option Master) → host.master ≡ r
 ticks-unkept host None is = same-same host
 ticks-unkept host (Some master) is = record { runs = sym (ap is_some is); rest = refl }
 
-step-unkept : (host : HostNode) (work : Work) → host_keeps work ≡ false → SameButMaster (host_step host work).0 host
-step-unkept host (Take message) unkept = takes-unkept host host.master message refl unkept
-step-unkept host (Tick addr) unkept = ticks-unkept host host.master refl
-step-unkept host (Stop id) unkept = cc
+pub step-unkept : (host : HostNode) (work : NodeWork) → host_keeps work ≡ false → SameButMaster (host_step host work).0 host
+step-unkept host (Deliver message) unkept = takes-unkept host host.master message refl unkept
+step-unkept host Tick unkept = ticks-unkept host host.master refl
+step-unkept host Stop unkept = cc
 step-unkept host (Start kept) unkept = cc
 step-unkept host _ unkept = same-same host
 
@@ -91,31 +92,32 @@ takes-same host one other message = by (is_server (server_of host) message.to)
     by true = server-same host one other message
     by false = record { runs = refl; rest = refl }
 
-running-same : (host : HostNode) (one other : Master) (work : Work) →
+running-same : (host : HostNode) (one other : Master) (work : NodeWork) →
     SameButMaster (host_step (record host { master = Some one }) work).0 (host_step (record host { master = Some other }) work).0
-running-same host one other (Take message) = takes-same host one other message
+running-same host one other (Deliver message) = takes-same host one other message
 running-same host one other _ = record { runs = refl; rest = refl }
 
-either-same : (host : HostNode) (one other : Option Master) (work : Work) → is_some one ≡ is_some other →
+either-same : (host : HostNode) (one other : Option Master) (work : NodeWork) → is_some one ≡ is_some other →
     SameButMaster (host_step (record host { master = one }) work).0 (host_step (record host { master = other }) work).0
 either-same host None None work both = same-same (host_step (record host { master = None }) work).0
 either-same host None (Some other) work both = true_false (sym both)
 either-same host (Some one) None work both = true_false both
 either-same host (Some one) (Some other) work both = running-same host one other work
 
-step-same : (one other : HostNode) (work : Work) → SameButMaster one other → SameButMaster (host_step one work).0 (host_step other work).0
+pub step-same : (one other : HostNode) (work : NodeWork) → SameButMaster one other →
+    SameButMaster (host_step one work).0 (host_step other work).0
 step-same one other work same =
     subst (λ (h : HostNode). SameButMaster (host_step (record h { master = one.master }) work).0 (host_step other work).0) (sym same.rest)
     (either-same (stopped other) one.master other.master work same.runs)
 
-after-same : (one other : HostNode) (works : List Work) → SameButMaster one other →
+after-same : (one other : HostNode) (works : List NodeWork) → SameButMaster one other →
     SameButMaster (host_after one works) (host_after other works)
 after-same one other [] same = same
 after-same one other (work ∷ works) same =
     after-same (host_step one work).0 (host_step other work).0 works (step-same one other work same)
 
 -- one work more, kept or not
-one-more : (host : HostNode) (work : Work) (works : List Work) →
+one-more : (host : HostNode) (work : NodeWork) (works : List NodeWork) →
     ((other : HostNode) → SameButMaster (host_after other (filter host_keeps works)) (host_after other works)) →
     (b : Bool) → host_keeps work ≡ b →
     SameButMaster (host_after host (cond b (work ∷ filter host_keeps works) (filter host_keeps works)))
@@ -129,11 +131,11 @@ pub hosts-remade : HostsCanBeRemade
 hosts-remade host [] = same-same host
 hosts-remade host (work ∷ works) = one-more host work works (λ other. hosts-remade other works) (host_keeps work) refl
 
-step-timer : (c : Coordinator) (work : Work) → coordinator_keeps work ≡ false → (coordinator_step c work).0 ≡ c
-step-timer c (Tick addr) unkept = refl
+step-timer : (c : Coordinator) (work : NodeWork) → coordinator_keeps work ≡ false → (coordinator_step c work).0 ≡ c
+step-timer c Tick unkept = refl
 step-timer c _ unkept = cc
 
-one-more-timer : (c : Coordinator) (work : Work) (works : List Work) →
+one-more-timer : (c : Coordinator) (work : NodeWork) (works : List NodeWork) →
     ((other : Coordinator) → coordinator_after other (filter coordinator_keeps works) ≡ coordinator_after other works) →
     (b : Bool) → coordinator_keeps work ≡ b →
     coordinator_after c (cond b (work ∷ filter coordinator_keeps works) (filter coordinator_keeps works))

@@ -1,18 +1,18 @@
 -- Steps of nodes that run apart, in an order in which each message is sent before it is delivered.
-use Rattle.std.specs.Prelude.{◌≡◌, true, if◌then◌else◌, List, [], ◌∷◌, ◌++◌, map, filter, Some}
+use Rattle.std.specs.Prelude.{◌≡◌, ℕ, true, if◌then◌else◌, List, [], ◌∷◌, ◌++◌, map, filter, Some, slice_get}
 use Rattle.std.specs.List.{flat_map}
 use Rattle.rc_types.specs.declared.events.Setup.{Setup}
 use Rattle.rc_types.specs.declared.events.Event.{Event}
 use Rattle.rc_types.specs.declared.messages.Message.{Message}
-use Rattle.rc_model.specs.Nodes.{Work}
-use Rattle.rc_model.specs.World.{NodeName, same_node, work_of}
-use Rattle.rc_history.specs.Nodes.{Node, node_can, node_step, new_node}
+use Rattle.rc_model.specs.Nodes.{NodeWork, Deliver}
+use Rattle.rc_model.specs.World.{NodeName, node_of, same_node, work_of}
+use Rattle.rc_history.specs.Nodes.{Node, can_take, node_step, name_of, new_node}
 
 -- one step of one node: the event and the work that it is given by it, where it is before and after, and what it sends
 pub record Step : Type 0 where
   pub node : NodeName
   pub event : Event
-  pub work : Work
+  pub work : NodeWork
   pub before : Node
   pub after : Node
   pub sent : List Message
@@ -38,8 +38,8 @@ pub record Follows (setup : Setup) (earlier : List Step) (step : Step) : Type 0 
   pub given : work_of (sent_by earlier) step.event ≡ Some (record { node = step.node; work = step.work })
   -- the node is where its own steps have left it;
   pub before : step.before ≡ left_at step.node (new_node setup step.node) earlier
-  -- it can be given this work, and does what its rule says
-  pub can : node_can step.before step.work ≡ true
+  -- it can take this event with this work, and does what its rule says
+  pub can : can_take step.before step.event step.work ≡ true
   pub state : step.after ≡ (node_step step.before step.work).0
   pub sends : step.sent ≡ (node_step step.before step.work).1
 
@@ -47,3 +47,9 @@ pub record Follows (setup : Setup) (earlier : List Step) (step : Step) : Type 0 
 abbrev pub TakenApart : Setup → List Step → Type 0
 TakenApart setup steps =
     (earlier later : List Step) (step : Step) → steps ≡ earlier ++ step ∷ later → Follows setup earlier step
+
+-- a message that is delivered was sent, under this number, to this node
+abbrev pub WasSent : List Message → Node → ℕ → NodeWork → Type 0
+WasSent sent node number (Deliver message) =
+    (slice_get sent number ≡ Some message) × (node_of message.to ≡ name_of node)
+WasSent sent node number _ = Unit {0}

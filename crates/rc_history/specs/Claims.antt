@@ -3,17 +3,17 @@ use Rattle.std.specs.Prelude.{◌≡◌, ℕ, true, false, ◌&&◌, List, ◌++
 use Rattle.rc_types.specs.declared.events.Setup.{Setup}
 use Rattle.rc_types.specs.declared.events.Event.{Event}
 use Rattle.rc_types.specs.declared.messages.Message.{Message}
-use Rattle.rc_model.specs.Nodes.{Work}
+use Rattle.rc_model.specs.Nodes.{NodeWork}
 use Rattle.rc_model.specs.World.{World, NodeName, same_node, work_of, is_possible, step, replay_from, replay}
-use Rattle.rc_history.specs.Nodes.{node_can, node_step, name_of, new_node, node_in}
+use Rattle.rc_history.specs.Nodes.{can_take, node_step, name_of, new_node, node_in}
 use Rattle.rc_history.specs.Events.{is_legal_from, is_legal, events_from, events_of, StartsWith}
 use Rattle.rc_history.specs.Apart.{Step, events_by, sent_by, own_steps, left_at, TakenApart}
 
 -- An event in a world is a step of the node that it is for
 
 -- this node takes this work in this event: it does what its rule says, and no other node changes
-pub record NodeTakes (world : World) (event : Event) (name : NodeName) (work : Work) : Type 0 where
-  pub possible : is_possible world event ≡ node_can (node_in world name) work
+pub record NodeTakes (world : World) (event : Event) (name : NodeName) (work : NodeWork) : Type 0 where
+  pub possible : is_possible world event ≡ can_take (node_in world name) event work
   pub state : is_possible world event ≡ true → node_in (step world event) name ≡ (node_step (node_in world name) work).0
   pub sends : is_possible world event ≡ true →
       (step world event).sent ≡ world.sent ++ (node_step (node_in world name) work).1
@@ -22,7 +22,7 @@ pub record NodeTakes (world : World) (event : Event) (name : NodeName) (work : W
 
 -- whoever an event is for takes it
 abbrev pub EventsAreStepsOfNodes : Type 0
-EventsAreStepsOfNodes = (world : World) (event : Event) (name : NodeName) (work : Work) →
+EventsAreStepsOfNodes = (world : World) (event : Event) (name : NodeName) (work : NodeWork) →
     work_of world.sent event ≡ Some (record { node = name; work = work }) → NodeTakes world event name work
 
 -- the node that stands under a name is of that name, also after any events

@@ -20,9 +20,9 @@ pub fn steps_apart_are_a_history()
     ensures every { HistoriesComeOfSteps }
 {}
 
-/// An event is a step of the node that it is for: it is possible exactly where this node can be given its work; the
-/// node does what its rule says, what it sends is added to what was sent, and no other node changes. Each node keeps
-/// its name.
+/// An event is a step of the node that it is for: it is possible exactly where the server that it names, if it names
+/// one, runs on this node, and the node can be given its work; the node does what its rule says, what it sends is added
+/// to what was sent, and no other node changes. Each node keeps its name.
 pub fn events_are_steps_of_nodes()
     ensures steps { EventsAreStepsOfNodes }
     ensures names { NodesKeepTheirNames }

@@ -1,12 +1,12 @@
 -- A coordinator that is loaded is the one that was saved, and a host but for its master; and no save is a record of a
 -- journal.
 use Rattle.std.proofs.Common.{◌≡◌, Bool, true, false, ◌||◌, nat_eq, cond, Some, None, List, [], ◌∷◌}
-use Rattle.std.proofs.Common.{◌++◌, drop, ℕ, refl, sym, ap, ◌∙◌, subst}
+use Rattle.std.proofs.Common.{◌++◌, drop, filter, ℕ, refl, sym, ap, ◌∙◌, subst}
 use Rattle.std.proofs.lemmas.List.{drop_at}
 use Rattle.std.specs.Prelude.{is_some}
 use Rattle.rc_model.specs.Model.{Master, new_master, runs}
 use Rattle.rc_model.proofs.Tests.{true_false}
-use Rattle.rc_history.specs.Remade.{SameButMaster}
+use Rattle.rc_history.specs.Remade.{host_keeps, coordinator_keeps, SameButMaster}
 use Rattle.rc_coordinator.specs.Book.{Book, coordinator_of}
 use Rattle.rc_world.specs.HostView.{HostData, host_of}
 use Rattle.rc_world.specs.HostParts.{HostParts, head_of, setup_of, last_server, host_from}
@@ -14,7 +14,7 @@ use Rattle.rc_world.specs.NodeView.{NodeData, OutsideData, CoordinatorData, Host
 use Rattle.rc_types.specs.declared.events.NodeWork.{NodeWork}
 use Rattle.rc_types.specs.declared.events.NodeWork.TheVariants as work
 use Rattle.rc_keeping.specs.Claims.{AreReadFrom}
-use Rattle.rc_keeping.specs.Keeping.{kept_by_host, host_given, kept_by_coordinator, coordinator_given}
+use Rattle.rc_keeping.specs.Keeping.{host_given, coordinator_given}
 use Rattle.rc_keeping.specs.Spelling.{coded_work, journal_of}
 use Rattle.rc_keeping.proofs.JournalLaws.{written-is-read-back}
 use Rattle.rc_keeping.proofs.ComingBack.{saved-hosts-come-back, coordinators-come-back}
@@ -69,7 +69,7 @@ behind saved bytes rest node count read good is loaded all =
 
 pub hosts-come-back : HostsComeBack
 hosts-come-back host works saved node count read good is loaded all =
-    let kept : List NodeWork = kept_by_host (host_of host) works in
+    let kept : List NodeWork = filter host_keeps works in
     let mine : is.saved ≡ HostSave (parts_in host) = sym (same-save (HostSave (parts_in host)) is.saved is.its) in
     let found = behind is.saved saved (journal_of kept) node count read good is.written loaded all in
     let same : read ≡ kept = written-is-read-back kept read good found.1 in (
@@ -95,7 +95,7 @@ loaded-is-the-saved book saved rest node count is loaded =
 
 pub coordinators-are-back : CoordinatorsComeBack
 coordinators-are-back book works saved node count read good is loaded all =
-    let kept : List NodeWork = kept_by_coordinator (coordinator_of book) works in
+    let kept : List NodeWork = filter coordinator_keeps works in
     let mine : is.saved ≡ CoordinatorSave book = sym (same-save (CoordinatorSave book) is.saved is.its) in
     let found = behind is.saved saved (journal_of kept) node count read good is.written loaded all in
     let same : read ≡ kept = written-is-read-back kept read good found.1 in (

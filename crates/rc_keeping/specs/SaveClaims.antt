@@ -1,18 +1,18 @@
 -- What is promised of saves.
-use Rattle.std.specs.Prelude.{◌≡◌, ℕ, List, [], ◌++◌, length, drop, Some}
+use Rattle.std.specs.Prelude.{◌≡◌, ℕ, List, [], ◌++◌, length, drop, filter, Some}
 use Rattle.rc_codec.specs.Claims.{IsFront, BeginsWithNone}
 use Rattle.rc_codec.specs.Parts.{eight_bytes, four_bytes}
 use Rattle.rc_model.specs.Coordinator.{Coordinator}
 use Rattle.rc_model.specs.Nodes.{HostNode}
 use Rattle.rc_history.specs.Nodes.{TheHost, TheCoordinator}
-use Rattle.rc_history.specs.Remade.{SameButMaster}
+use Rattle.rc_history.specs.Remade.{host_keeps, coordinator_keeps, SameButMaster}
 use Rattle.rc_coordinator.specs.Book.{Book, coordinator_of}
 use Rattle.rc_world.specs.HostView.{HostData, host_of}
 use Rattle.rc_world.specs.HostParts.{HostParts, host_from}
 use Rattle.rc_world.specs.NodeView.{NodeData, CoordinatorData, HostNodeData, node_seen}
 use Rattle.rc_types.specs.declared.events.NodeWork.{NodeWork}
 use Rattle.rc_keeping.specs.Claims.{AreReadFrom}
-use Rattle.rc_keeping.specs.Keeping.{kept_by_host, host_given, kept_by_coordinator, coordinator_given}
+use Rattle.rc_keeping.specs.Keeping.{host_given, coordinator_given}
 use Rattle.rc_keeping.specs.Spelling.{sum_of, record_of, journal_of}
 use Rattle.rc_keeping.specs.Saved.{Saved, HostSave, saved_of, node_from, coded, save_of}
 use Rattle.rc_keeping.specs.Order.{IsSound}
@@ -79,15 +79,15 @@ LoadedIsSame = (host : HostData) (parts : HostParts) → saved_of (HostNodeData 
 abbrev pub LoadedGoesOn : Type 0
 LoadedGoesOn = (host : HostData) (parts : HostParts) (works : List NodeWork) →
     saved_of (HostNodeData host) ≡ Some (HostSave parts) →
-    SameButMaster (host_given (host_from parts) (kept_by_host (host_of host) works)) (host_given (host_of host) works)
+    SameButMaster (host_given (host_from parts) (filter host_keeps works)) (host_given (host_of host) works)
 
 -- what a host has to have on its disk: its save, and behind it the works that were kept since. Whoever loads that, and
 -- gives the works that are read behind it, has the host as it is after all works, but for its master
 abbrev pub HostsComeBack : Type 0
 HostsComeBack = (host : HostData) (works : List NodeWork) (saved : List ℕ) (node : NodeData) (count : ℕ)
     (read : List NodeWork) (good : ℕ) → IsSaved (HostNodeData host) [] saved →
-    IsLoaded (saved ++ journal_of (kept_by_host (host_of host) works)) node count →
-    AreReadFrom (drop count (saved ++ journal_of (kept_by_host (host_of host) works))) read good →
+    IsLoaded (saved ++ journal_of (filter host_keeps works)) node count →
+    AreReadFrom (drop count (saved ++ journal_of (filter host_keeps works))) read good →
     (loaded : HostNode) × (node_seen node ≡ TheHost loaded)
     × SameButMaster (host_given loaded read) (host_given (host_of host) works)
 
@@ -101,7 +101,7 @@ LoadedIsTheSaved = (book : Book) (saved rest : List ℕ) (node : NodeData) (coun
 abbrev pub CoordinatorsComeBack : Type 0
 CoordinatorsComeBack = (book : Book) (works : List NodeWork) (saved : List ℕ) (node : NodeData) (count : ℕ)
     (read : List NodeWork) (good : ℕ) → IsSaved (CoordinatorData book) [] saved →
-    IsLoaded (saved ++ journal_of (kept_by_coordinator (coordinator_of book) works)) node count →
-    AreReadFrom (drop count (saved ++ journal_of (kept_by_coordinator (coordinator_of book) works))) read good →
+    IsLoaded (saved ++ journal_of (filter coordinator_keeps works)) node count →
+    AreReadFrom (drop count (saved ++ journal_of (filter coordinator_keeps works))) read good →
     (loaded : Coordinator) × (node_seen node ≡ TheCoordinator loaded)
     × (coordinator_given loaded read ≡ coordinator_given (coordinator_of book) works)

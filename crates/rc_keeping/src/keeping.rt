@@ -1,18 +1,15 @@
 //! Which works of a node are kept.
 
 ghost use Rattle.std.specs.Prelude.{◌≡◌};
-ghost use Rattle.rc_history.specs.Nodes.{Node};
 ghost use Rattle.rc_history.specs.Remade.{changes_backup, host_keeps, coordinator_keeps, keeps};
-ghost use Rattle.rc_world.specs.NodeView.{work_at};
 
 use rc_types::{Body, NodeName, NodeWork};
 use rc_world::is_for_backup;
 
 /// Whether a node keeps a work, so that it can be made anew (`laws::nodes_come_back`): the outside nothing, the
-/// coordinator all but timers, a host its starts and stops, and what its backup took. It does not matter where the node
-/// is.
+/// coordinator all but timers, a host its starts and stops, and what its backup took.
 pub fn keeps(name: NodeName, work: &NodeWork) -> bool
-    ensures { (node : Node) → result ≡ keeps name (work_at node work.now) }
+    ensures { result ≡ keeps name work.now }
 {
     match name {
         NodeName::Outside => false,
@@ -23,7 +20,7 @@ pub fn keeps(name: NodeName, work: &NodeWork) -> bool
 
 /// The coordinator keeps all but timers.
 fn coordinator_keeps(work: &NodeWork) -> bool
-    ensures { (node : Node) → result ≡ coordinator_keeps (work_at node work.now) }
+    ensures { result ≡ coordinator_keeps work.now }
 {
     match work {
         NodeWork::Tick => false,
@@ -33,7 +30,7 @@ fn coordinator_keeps(work: &NodeWork) -> bool
 
 /// A host keeps its starts and stops, and what its backup took.
 fn host_keeps(work: &NodeWork) -> bool
-    ensures { (node : Node) → result ≡ host_keeps (work_at node work.now) }
+    ensures { result ≡ host_keeps work.now }
 {
     match work {
         NodeWork::Deliver(message) => changes_backup(&message.body),

@@ -2,7 +2,7 @@
 use Rattle.std.proofs.Common.{◌≡◌, ◌⊎◌, ℕ, ◌+◌, ◌<◌, List, [], ◌∷◌, ◌++◌, length, take, Option, Some, None, slice_get}
 use Rattle.std.proofs.Common.{refl, sym, ap, ◌∙◌, subst, inl, inr, arith}
 use Rattle.std.proofs.lemmas.List.{append-nil, append_assoc, take-append-le, take_all}
-use Rattle.rc_model.specs.Model.{ServerId, Addr, Server, Outside, Setup, Event, Message, Enlist, to_coordinator, Work, outside_sends}
+use Rattle.rc_model.specs.Model.{ServerId, Addr, Server, Outside, Setup, Event, Message, Enlist, to_coordinator, NodeWork, outside_sends}
 use Rattle.rc_model.specs.Model.{coordinator_step, server_of, host_step, next_server, World, opening, NodeName, TheOutside, TheCoordinator}
 use Rattle.rc_model.specs.Model.{TheHost, Job, work_of, is_possible, node_done, job_done, step, replay, In}
 use Rattle.rc_types.specs.declared.ids.Addr.TheVariants.{Coordinator as AtCoordinator}
@@ -29,13 +29,13 @@ from-server m from a b = (let e : ◌≡◌ {A = Addr} (Server m) Outside = sym 
 from-coordinator : (from : Addr) → from ≡ AtCoordinator → from ≡ Outside → ⊥
 from-coordinator from a b = (let e : ◌≡◌ {A = Addr} AtCoordinator Outside = sym a ∙ b in cc)
 
-outside-alone : (work : Work) → IsAlone (outside_sends work)
+outside-alone : (work : NodeWork) → IsAlone (outside_sends work)
 outside-alone (Ask to body) = inl (record { from = Outside; to = Server to; body = body }, refl)
 outside-alone _ = none-alone
 
 -- A host's step
 
-alone-host : (world : World) (one : Event) (i : ℕ) → GoodWorld world → (work : Work) → IsGiven world.sent (TheHost i) work →
+alone-host : (world : World) (one : Event) (i : ℕ) → GoodWorld world → (work : NodeWork) → IsGiven world.sent (TheHost i) work →
     IsAlone (host_step (world.hosts i) work).1
 alone-host world one i good work given = said-host world one i good IsAlone (record {
   none = none-alone;
@@ -52,7 +52,7 @@ record Adds (world after : World) : Type 0 where
   grows : after.sent ≡ world.sent ++ messages
   alone : IsAlone messages
 
-adds-node : (world : World) (one : Event) (node : NodeName) (work : Work) → GoodWorld world → IsGiven world.sent node work →
+adds-node : (world : World) (one : Event) (node : NodeName) (work : NodeWork) → GoodWorld world → IsGiven world.sent node work →
     Adds world (node_done world one node work)
 adds-node world one TheOutside work good given = record { messages = outside_sends work; grows = refl; alone = outside-alone work }
 adds-node world one TheCoordinator work good given = record {

@@ -8,9 +8,9 @@ use Rattle.std.proofs.lemmas.Bool.{le-leb, leb-true, and_parts}
 use Rattle.rc_types.specs.declared.events.Setup.{Setup}
 use Rattle.rc_types.specs.declared.messages.Message.{Message}
 use Rattle.rc_model.specs.Headline.{In}
-use Rattle.rc_model.specs.Model.{Work}
+use Rattle.rc_model.specs.Model.{NodeWork}
 use Rattle.rc_model.specs.World.{NodeName, same_node}
-use Rattle.rc_model.specs.Nodes.{runs}
+use Rattle.rc_model.specs.Nodes.{Stop, runs}
 use Rattle.rc_model.proofs.Ids.{same_node-true, same_node-refl}
 use Rattle.rc_model.proofs.Members.{In-left, In-right, In-append, filter-In}
 use Rattle.rc_model.proofs.Tests.{true_false}
@@ -212,20 +212,19 @@ deed-stands setup all (one ∷ more) zero (suc n) deed less done =
 
 -- A message among these is one of such a step
 
-stop-sends : (test : Deed → Bool) (name : NodeName) (n : Node) (journal : List Work) →
+stop-sends : (test : Deed → Bool) (name : NodeName) (n : Node) (journal : List NodeWork) →
     sent_by_deeds (filter test (stop_deeds name (record { node = n; journal = journal; started = 0 }) (stops n))) ≡ []
 stop-sends test name node.TheOutside journal = refl
 stop-sends test name (node.TheCoordinator c) journal = refl
 stop-sends test name (node.TheHost host) journal = by (runs host)
   where
     by : (b : Bool) → sent_by_deeds (filter test (stop_deeds name (record { node = node.TheHost host; journal = journal; started = 0 })
-        (cond b (Rattle.rc_model.specs.Nodes.Stop (Rattle.rc_model.specs.Nodes.server_of host) ∷ []) []))) ≡ []
+        (cond b (Stop ∷ []) []))) ≡ []
     by false = refl
-    by true = one (test (deed_of name (record { node = node.TheHost host; journal = journal; started = 0 })
-        (Rattle.rc_model.specs.Nodes.Stop (Rattle.rc_model.specs.Nodes.server_of host))))
+    by true = one (test (deed_of name (record { node = node.TheHost host; journal = journal; started = 0 }) Stop))
       where
-        one : (b : Bool) → sent_by_deeds (cond b (deed_of name (record { node = node.TheHost host; journal = journal; started = 0 })
-            (Rattle.rc_model.specs.Nodes.Stop (Rattle.rc_model.specs.Nodes.server_of host)) ∷ []) []) ≡ []
+        one : (b : Bool) →
+            sent_by_deeds (cond b (deed_of name (record { node = node.TheHost host; journal = journal; started = 0 }) Stop ∷ []) []) ≡ []
         one true = refl
         one false = refl
 

@@ -9,7 +9,7 @@ use Rattle.rc_model.specs.Messages.{to_outside}
 use Rattle.rc_model.specs.Made.{made}
 use Rattle.rc_model.specs.Headline.{In}
 use Rattle.rc_model.specs.Model.{ServerId, Entry}
-use Rattle.rc_model.specs.Nodes.{Work, Take, Ask}
+use Rattle.rc_model.specs.Nodes.{NodeWork, Deliver, Ask}
 use Rattle.rc_model.specs.World.{NodeName, TheOutside, TheHost}
 use Rattle.rc_model.proofs.Members.{In-filter, filter-In, In-left, In-right}
 use Rattle.rc_model.proofs.Said.{HasMade-in, HasMade-from}
@@ -28,7 +28,7 @@ pub it-may-happen : ItMayHappen
 it-may-happen = may-lines setup (new_processes setup) (lines_of setup forgetting) refl
 
 -- a step that outlives what comes after it is done
-done-at : (all : Setup) (happenings : List Happening) (number : ℕ) (name : NodeName) (work : Work) →
+done-at : (all : Setup) (happenings : List Happening) (number : ℕ) (name : NodeName) (work : NodeWork) →
     slice_get happenings number ≡ Some (Takes name work) →
     outlives (drop (number + 1) happenings) (deed_of name ((at_moment all happenings number).at name).life work) ≡ true →
     IsDone all happenings number (deed_of name ((at_moment all happenings number).at name).life work)
@@ -60,7 +60,7 @@ none-sent all happenings n m s o none number deed less done (entry, was) =
     among (one ∷ first) rest = In-right was.message one.sent (sent_by_deeds (first ++ deed ∷ rest)) (among first rest)
 
 -- what the end of its process has left less than it rests on is not done
-not-done : (all : Setup) (happenings : List Happening) (number : ℕ) (name : NodeName) (work : Work) →
+not-done : (all : Setup) (happenings : List Happening) (number : ℕ) (name : NodeName) (work : NodeWork) →
     slice_get happenings number ≡ Some (Takes name work) →
     outlives (drop (number + 1) happenings) (deed_of name ((at_moment all happenings number).at name).life work) ≡ false →
     (deed : Deed) → IsDone all happenings number deed → ⊥
@@ -83,7 +83,7 @@ not-done all happenings number name work takes forgotten deed done =
 pub it-forgets : ItForgets
 it-forgets = record {
   taken = refl;
-  forgotten = not-done setup run (first_of brings_append run) (TheHost 1) (Take append_b) refl refl;
+  forgotten = not-done setup run (first_of brings_append run) (TheHost 1) (Deliver append_b) refl refl;
 }
 
 -- The write and the read
@@ -124,8 +124,8 @@ c_ok = to_outside (id 0 2) (WriteOk 1 1 2 7 5 2)
 c-left : In c_ok (in_the_end setup run).left
 c-left = (In-filter (acks_place (id 0 2) 1 1) c_ok (in_the_end setup run).left (inl refl)).0
 
-abbrev the_read : Work
-the_read = Take (request_to (id 0 2) (Read 7 5))
+abbrev the_read : NodeWork
+the_read = Deliver (request_to (id 0 2) (Read 7 5))
 
 it-is-a-read : IsRead setup run read_a
 it-is-a-read = record {
@@ -160,8 +160,8 @@ b_ok = to_outside (id 0 1) (WriteOk 1 1 1 7 5 2)
 b-left : In b_ok (in_the_end setup held_run).left
 b-left = (In-filter (acks_place (id 0 1) 1 1) b_ok (in_the_end setup held_run).left (inl refl)).0
 
-abbrev early_read : Work
-early_read = Take (request_to (id 0 1) (Read 7 5))
+abbrev early_read : NodeWork
+early_read = Deliver (request_to (id 0 1) (Read 7 5))
 
 held-is-a-read : IsRead setup held_run held_read
 held-is-a-read = record {

@@ -4,7 +4,7 @@ use Rattle.std.proofs.Common.{arith}
 use Rattle.std.proofs.lemmas.Bool.{and_parts, leb-true}
 use Rattle.rc_types.specs.declared.events.Setup.{Setup}
 use Rattle.rc_types.specs.declared.messages.Message.{Message}
-use Rattle.rc_model.specs.Nodes.{Work, Take, Start, Ask, Create, Suspect, Decide}
+use Rattle.rc_model.specs.Nodes.{NodeWork, Deliver, Start, Ask, Create, Suspect, Decide}
 use Rattle.rc_model.specs.World.{NodeName, node_of}
 use Rattle.rc_model.proofs.Members.{In-get}
 use Rattle.rc_model.proofs.Tests.{true_false}
@@ -14,7 +14,7 @@ use Rattle.rc_linear_lives.specs.Script.{Line, Gives, Brings, AllIsSafe, Lets, E
 use Rattle.rc_linear_lives.specs.Script.{happening_of, happenings_of}
 
 -- such a work names its node, or none
-abbrev pub is_plain : Work → Bool
+abbrev pub is_plain : NodeWork → Bool
 is_plain (Start kept) = true
 is_plain (Ask to body) = true
 is_plain (Create table owner) = true
@@ -23,7 +23,7 @@ is_plain (Suspect id) = true
 is_plain _ = false
 
 abbrev pub can_bring : Processes → Option Message → Bool
-can_bring all (Some message) = node_can (all.at (node_of message.to)).life.node (Take message)
+can_bring all (Some message) = node_can (all.at (node_of message.to)).life.node (Deliver message)
 can_bring all None = false
 
 abbrev pub can_let : Processes → Option Deed → Option Message → Bool
@@ -41,7 +41,7 @@ abbrev pub can_all : Setup → Processes → List Line → Bool
 can_all setup all [] = true
 can_all setup all (line ∷ lines) = can_line all line && can_all setup (after setup all (happening_of all line)) lines
 
-may-give : (all : Processes) (name : NodeName) (work : Work) → node_can (all.at name).life.node work ≡ true → is_plain work ≡ true →
+may-give : (all : Processes) (name : NodeName) (work : NodeWork) → node_can (all.at name).life.node work ≡ true → is_plain work ≡ true →
     MayTake all name work
 may-give all name (Start kept) can plain = record { can = can; addressed = tt; brought = tt }
 may-give all name (Ask to body) can plain = record { can = can; addressed = tt; brought = tt }

@@ -21,7 +21,7 @@ use Rattle.rc_types.specs.declared.messages.Message.{Message}
 use Rattle.rc_types.specs.declared.messages.Body.{Body}
 use Rattle.rc_types.specs.declared.messages.Body.TheVariants.{Write, WriteOk, ReadOk}
 use Rattle.rc_model.specs.Messages.{to_outside}
-use Rattle.rc_model.specs.Nodes.{Take}
+use Rattle.rc_model.specs.Nodes.{Deliver}
 use Rattle.rc_model.specs.World.{TheHost}
 use Rattle.rc_model.specs.Recovered.{Ack}
 use Rattle.rc_model.specs.Headline.{In, HasMade, HasAcknowledged}
@@ -68,7 +68,7 @@ pub data IsRequest (setup : Setup) (happenings : List Happening) (number : ℕ) 
       IsRequest setup happenings number m body
   leaves : slice_get happenings number ≡ Some (Leaves (request_to m body)) →
       IsRequest setup happenings number m body
-  brought : slice_get happenings number ≡ Some (Takes (TheHost m.index) (Take (request_to m body))) →
+  brought : slice_get happenings number ≡ Some (Takes (TheHost m.index) (Deliver (request_to m body))) →
       IsRequest setup happenings number m body
 
 -- in this moment the master's answer leaves

@@ -5,7 +5,7 @@ use Rattle.rc_types.specs.declared.ids.Addr.{Addr}
 use Rattle.rc_types.specs.declared.ids.Addr.TheVariants.{Outside}
 use Rattle.rc_types.specs.declared.events.Setup.{Setup}
 use Rattle.rc_types.specs.declared.messages.Message.{Message}
-use Rattle.rc_model.specs.Nodes.{Work, Take}
+use Rattle.rc_model.specs.Nodes.{NodeWork, Deliver}
 use Rattle.rc_model.specs.World.{NodeName, TheOutside, node_of}
 use Rattle.rc_history.specs.Nodes.{node_step}
 use Rattle.rc_lives.specs.Processes.{Deed, Processes, Happening, Takes, Syncs, Leaves, Falls, new_processes, after}
@@ -13,7 +13,7 @@ use Rattle.rc_lives.specs.Processes.{Deed, Processes, Happening, Takes, Syncs, L
 -- a line is one happening
 pub data Line : Type 0 where
   -- a process gives its node a work that is no message
-  Gives : (name : NodeName) → (work : Work) → Line
+  Gives : (name : NodeName) → (work : NodeWork) → Line
   -- the message of this number, of those that have left, is brought to its node
   Brings : (number : ℕ) → Line
   -- all of a journal is safe
@@ -24,7 +24,7 @@ pub data Line : Type 0 where
   Ends : (name : NodeName) → Line
 
 abbrev pub brings : Option Message → Happening
-brings (Some message) = Takes (node_of message.to) (Take message)
+brings (Some message) = Takes (node_of message.to) (Deliver message)
 brings None = Syncs TheOutside 0
 
 abbrev pub lets_go : Option Message → Happening
@@ -56,7 +56,7 @@ played setup all (line ∷ lines) = played setup (after setup all (happening_of 
 
 pub data Piece : Type 0 where
   -- this work is given; then all of the journal is safe, and all that was sent leaves
-  Whole : (name : NodeName) → (work : Work) → Piece
+  Whole : (name : NodeName) → (work : NodeWork) → Piece
   -- so many messages are brought so, in the order in which they left; those to clients are passed over
   Next : (count : ℕ) → Piece
   -- all that have left are
@@ -72,7 +72,7 @@ abbrev pub lets : ℕ → ℕ → List Message → List Line
 lets deed number [] = []
 lets deed number (message ∷ messages) = Lets deed number ∷ lets deed (number + 1) messages
 
-abbrev pub whole : Processes → NodeName → Work → Line → List Line
+abbrev pub whole : Processes → NodeName → NodeWork → Line → List Line
 whole all name work line =
     line ∷ AllIsSafe name ∷ lets (length all.done) 0 (node_step (all.at name).life.node work).1
 
@@ -87,7 +87,7 @@ abbrev pub next_then : Setup → Processes → ℕ → Option Message → (Proce
 next_then setup all number None later = []
 next_then setup all number (Some message) later =
     if is_to_client message.to then later all
-    else played_then setup all (whole all (node_of message.to) (Take message) (Brings number)) later
+    else played_then setup all (whole all (node_of message.to) (Deliver message) (Brings number)) later
 
 abbrev pub settles : Setup → ℕ → ℕ → Processes → List Line
 settles setup zero number all = []

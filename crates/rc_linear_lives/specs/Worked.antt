@@ -8,7 +8,7 @@ use Rattle.rc_types.specs.declared.entries.Entry.{Entry}
 use Rattle.rc_types.specs.declared.messages.Message.{Message}
 use Rattle.rc_types.specs.declared.messages.Body.{Body}
 use Rattle.rc_types.specs.declared.messages.Body.TheVariants.{Write, Read, WriteOk, ReadOk, Append}
-use Rattle.rc_model.specs.Nodes.{Take, Start, Ask, Create, Decide}
+use Rattle.rc_model.specs.Nodes.{Deliver, Start, Ask, Create, Decide}
 use Rattle.rc_model.specs.World.{TheOutside, TheCoordinator, TheHost}
 use Rattle.rc_model.specs.Report.{message_lines}
 use Rattle.rc_lives.specs.Processes.{Deed, Happening, Takes, Leaves, new_processes, MayAll, after_all}
@@ -90,11 +90,11 @@ is_ask _ = false
 
 -- a Read is brought, or an Append behind the first place
 abbrev pub brings_read : Happening → Bool
-brings_read (Takes name (Take message)) = is_read_body message.body
+brings_read (Takes name (Deliver message)) = is_read_body message.body
 brings_read _ = false
 
 abbrev pub brings_append : Happening → Bool
-brings_append (Takes name (Take message)) = is_later_append message.body
+brings_append (Takes name (Deliver message)) = is_later_append message.body
 brings_append _ = false
 
 -- a WriteOk leaves, or a ReadOk
@@ -117,7 +117,7 @@ append_b = record { from = Server (id 0 1); to = Server (id 1 1); body = Append 
 
 -- the backup takes it in this moment, and it is not done in the end
 pub record IsForgotten (number : ℕ) : Type 0 where
-  pub taken : slice_get run number ≡ Some (Takes (TheHost 1) (Take append_b))
+  pub taken : slice_get run number ≡ Some (Takes (TheHost 1) (Deliver append_b))
   pub forgotten : (deed : Deed) → IsDone setup run number deed → ⊥
 
 abbrev pub ItForgets : Type 0

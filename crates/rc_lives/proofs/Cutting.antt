@@ -9,7 +9,7 @@ use Rattle.rc_types.specs.declared.messages.Message.{Message}
 use Rattle.rc_types.specs.declared.messages.Body.{Body}
 use Rattle.rc_types.specs.declared.limits.TheConstants.{MAX_HOSTS}
 use Rattle.rc_model.specs.MasterStep.{master_ticks}
-use Rattle.rc_model.specs.Model.{Backup, Master, master_takes, backup_takes, is_server, Work, Take, HostNode, host_step}
+use Rattle.rc_model.specs.Model.{Backup, Master, master_takes, backup_takes, is_server, NodeWork, Deliver, HostNode, host_step}
 use Rattle.rc_model.specs.Model.{host_can, is_for_backup, with_backup, with_master, server_takes, server_of, Fetch, takes_if_running}
 use Rattle.rc_model.specs.Nodes.{Tick, Stop, Start, runs, is_running_at}
 use Rattle.rc_model.specs.World.{NodeName, TheHost}
@@ -29,7 +29,7 @@ node_runs _ = false
 abbrev pub are_left : ℕ → List Deed → List Deed
 are_left k deeds = filter (λ (deed : Deed). nat_le deed.rests k) deeds
 
-abbrev is_start : Work → Bool
+abbrev is_start : NodeWork → Bool
 is_start (Start kept) = true
 is_start _ = false
 
@@ -47,42 +47,42 @@ takes-runs : (host : HostNode) (running : Option Master) (message : Message) →
 takes-runs host None message is so = so
 takes-runs host (Some m) message is so = ap is_some is
 
-runs-before : (host : HostNode) (work : Work) → is_start work ≡ false → runs (host_step host work).0 ≡ true → runs host ≡ true
-runs-before host (Take message) plain so = takes-runs host host.master message refl so
-runs-before host (Tick addr) plain so = by host.master refl so
+runs-before : (host : HostNode) (work : NodeWork) → is_start work ≡ false → runs (host_step host work).0 ≡ true → runs host ≡ true
+runs-before host (Deliver message) plain so = takes-runs host host.master message refl so
+runs-before host Tick plain so = by host.master refl so
   where
-    by : (running : Option Master) → host.master ≡ running → runs (host_step (record host { master = running }) (Tick addr)).0
+    by : (running : Option Master) → host.master ≡ running → runs (host_step (record host { master = running }) Tick).0
         ≡ true → runs host ≡ true
     by None is so = true_false (sym so)
     by (Some m) is so = ap is_some is
-runs-before host (Stop id) plain so = true_false (sym so)
+runs-before host Stop plain so = true_false (sym so)
 runs-before host (Start kept) plain so = true_false plain
 runs-before host _ plain so = so
 
-node-runs-before : (n : Node) (work : Work) → is_start work ≡ false → node_runs (node_step n work).0 ≡ true → node_runs n ≡ true
+node-runs-before : (n : Node) (work : NodeWork) → is_start work ≡ false → node_runs (node_step n work).0 ≡ true → node_runs n ≡ true
 node-runs-before node.TheOutside work plain so = so
 node-runs-before (node.TheCoordinator c) work plain so = true_false (sym so)
 node-runs-before (node.TheHost host) work plain so = runs-before host work plain so
 
 -- a stop leaves no host running
-stop-ends : (n : Node) (id : _) → node_runs (node_step n (Stop id)).0 ≡ true → ⊥
-stop-ends node.TheOutside id so = true_false (sym so)
-stop-ends (node.TheCoordinator c) id so = true_false (sym so)
-stop-ends (node.TheHost host) id so = true_false (sym so)
+stop-ends : (n : Node) → node_runs (node_step n Stop).0 ≡ true → ⊥
+stop-ends node.TheOutside so = true_false (sym so)
+stop-ends (node.TheCoordinator c) so = true_false (sym so)
+stop-ends (node.TheHost host) so = true_false (sym so)
 
 -- a master's work is given where one runs
-masters-run : (n : Node) (work : Work) → is_masters n work ≡ true → node_runs n ≡ true
-masters-run (node.TheHost host) (Take message) so =
+masters-run : (n : Node) (work : NodeWork) → is_masters n work ≡ true → node_runs n ≡ true
+masters-run (node.TheHost host) (Deliver message) so =
     (and_parts (runs host) (is_server (server_of host) message.to)
     (and_parts (is_running_at host message.to) (not (is_for_backup message.body)) so).0).0
-masters-run (node.TheHost host) (Tick addr) so = so
+masters-run (node.TheHost host) Tick so = so
 masters-run (node.TheHost host) _ so = true_false (sym so)
 masters-run node.TheOutside work so = true_false (sym so)
 masters-run (node.TheCoordinator c) work so = true_false (sym so)
 
 -- Journals grow
 
-longer : (name : NodeName) (life : Life) (work : Work) → length life.journal ≤ length (journal_next name life work)
+longer : (name : NodeName) (life : Life) (work : NodeWork) → length life.journal ≤ length (journal_next name life work)
 longer name life work = by (keeps name work)
   where
     by : (b : Bool) → length life.journal ≤ length (cond b (life.journal ++ work ∷ []) life.journal)
@@ -95,7 +95,7 @@ record Gone (k : ℕ) (life : Life) : Type 0 where
   long : k < length life.journal
   late : node_runs life.node ≡ true → k < life.started
 
-gone-rests : (name : NodeName) (k : ℕ) (life : Life) (work : Work) → Gone k life → k < rests_on name life work
+gone-rests : (name : NodeName) (k : ℕ) (life : Life) (work : NodeWork) → Gone k life → k < rests_on name life work
 gone-rests name k life work gone = by (keeps name work) (is_masters life.node work) refl
   where
     by : (b c : Bool) → is_masters life.node work ≡ c → k < cond b (length life.journal + 1) (cond c life.started (length life.journal))
@@ -103,13 +103,13 @@ gone-rests name k life work gone = by (keeps name work) (is_masters life.node wo
     by false true is = gone.late (masters-run life.node work is)
     by false false is = gone.long
 
-late-next : (name : NodeName) (k : ℕ) (life : Life) (work : Work) → Gone k life →
+late-next : (name : NodeName) (k : ℕ) (life : Life) (work : NodeWork) → Gone k life →
     node_runs (node_step life.node work).0 ≡ true → k < started_next life work
 late-next name k life (Start kept) gone so = let l = gone.long in omega arith
-late-next name k life (Stop id) gone so = absurd (stop-ends life.node id so)
+late-next name k life Stop gone so = absurd (stop-ends life.node so)
 late-next name k life given gone so = gone.late (node-runs-before life.node given refl so)
 
-gone-next : (name : NodeName) (k : ℕ) (life : Life) (work : Work) → Gone k life → Gone k (life_next name life work)
+gone-next : (name : NodeName) (k : ℕ) (life : Life) (work : NodeWork) → Gone k life → Gone k (life_next name life work)
 gone-next name k life work gone = record {
   long = let l = gone.long in let m = longer name life work in omega arith;
   late = late-next name k life work gone;
@@ -128,7 +128,7 @@ pub record IsCut (name : NodeName) (k : ℕ) (long short : Life) (deeds remainin
   pub lived : IsLived name short remaining
   pub journal : (life_of name short remaining).journal ≡ take k (life_of name long deeds).journal
 
-take-next : (name : NodeName) (k : ℕ) (life : Life) (work : Work) → k ≤ length life.journal →
+take-next : (name : NodeName) (k : ℕ) (life : Life) (work : NodeWork) → k ≤ length life.journal →
     take k (journal_next name life work) ≡ take k life.journal
 take-next name k life work in' = by (keeps name work)
   where
@@ -177,17 +177,17 @@ stay name k long short deed deeds within lives cut =
     ap (λ b. cond b (deed ∷ are_left k deeds) (are_left k deeds)) (le-leb deed.rests k within) in
     subst (IsCut name k long short (deed ∷ deeds)) (sym same) (record { lived = (lives, cut.lived); journal = cut.journal })
 
-abbrev life_at : HostNode → Backup → Master → List Work → ℕ → Life
+abbrev life_at : HostNode → Backup → Master → List NodeWork → ℕ → Life
 life_at base backup m journal started =
     record { node = node.TheHost (running base backup m); journal = journal; started = started }
 
-record Facts (k : ℕ) (long short : List Work) (started : ℕ) : Type 0 where
+record Facts (k : ℕ) (long short : List NodeWork) (started : ℕ) : Type 0 where
   over : k < length long
   full : length short ≡ k
   same : short ≡ take k long
   early : started ≤ k
 
-facts-more : (k : ℕ) (long short : List Work) (started : ℕ) (work : Work) → Facts k long short started →
+facts-more : (k : ℕ) (long short : List NodeWork) (started : ℕ) (work : NodeWork) → Facts k long short started →
     Facts k (long ++ work ∷ []) short started
 facts-more k long short started work facts = record {
   over = let o = facts.over in rw (length-append long (work ∷ [])) (omega arith);
@@ -197,7 +197,7 @@ facts-more k long short started work facts = record {
 }
 
 abbrev AllCut : ℕ → ℕ → HostNode → ℕ → List Deed → Type 0
-AllCut index k base started deeds = (one other : Backup) (m : Master) (long short : List Work) → Facts k long short started →
+AllCut index k base started deeds = (one other : Backup) (m : Master) (long short : List NodeWork) → Facts k long short started →
     IsLived (TheHost index) (life_at base one m long started) deeds →
     IsCut (TheHost index) k (life_at base one m long started) (life_at base other m short started) deeds (are_left k deeds)
 
@@ -207,10 +207,10 @@ taking base backup m message b c =
     cond b (cond c (with_backup (running base backup m) (backup_takes backup message.from message.body))
     (with_master (running base backup m) (master_takes m message.from message.body))) (running base backup m, [])
 
-abbrev taken_life : HostNode → Backup → Master → List Work → ℕ → Message → Bool → Bool → Bool → Life
+abbrev taken_life : HostNode → Backup → Master → List NodeWork → ℕ → Message → Bool → Bool → Bool → Life
 taken_life base backup m journal started message b c d = record {
   node = (with_host (taking base backup m message b c)).0;
-  journal = cond d (journal ++ Take message ∷ []) journal;
+  journal = cond d (journal ++ Deliver message ∷ []) journal;
   started = started;
 }
 
@@ -224,7 +224,7 @@ data Outcome (name : NodeName) (k rests again : ℕ) (sent said : List Message) 
   Stays : rests ≤ k → rests ≡ again → sent ≡ said → IsCut name k long next deeds (are_left k deeds) →
       Outcome name k rests again sent said long short next deeds
 
-take-outcome : (index k : ℕ) (base : HostNode) (one other : Backup) (m : Master) (long short : List Work) (started rests : ℕ)
+take-outcome : (index k : ℕ) (base : HostNode) (one other : Backup) (m : Master) (long short : List NodeWork) (started rests : ℕ)
     (sent : List Message) (message : Message) (deeds : List Deed) → AllCut index k base started deeds → Facts k long short started →
     (b c d : Bool) → (c ≡ false → d ≡ false) → sent ≡ (with_host (taking base one m message b c)).1 →
     rests ≡ cond d (length long + 1) (cond (b && not c) started (length long)) →
@@ -237,11 +237,11 @@ take-outcome index k base one other m long short started rests sent message deed
     true_false (follows refl)
 take-outcome index k base one other m long short started rests sent message deeds rest facts true true true follows sends is lived =
     Lost (let o = facts.over in omega arith)
-    (rest (backup_takes one message.from message.body).0 other m (long ++ Take message ∷ []) short
-    (facts-more k long short started (Take message) facts) lived)
+    (rest (backup_takes one message.from message.body).0 other m (long ++ Deliver message ∷ []) short
+    (facts-more k long short started (Deliver message) facts) lived)
 take-outcome index k base one other m long short started rests sent message deeds rest facts false true true follows sends is lived =
     Lost (let o = facts.over in omega arith)
-    (rest one other m (long ++ Take message ∷ []) short (facts-more k long short started (Take message) facts) lived)
+    (rest one other m (long ++ Deliver message ∷ []) short (facts-more k long short started (Deliver message) facts) lived)
 take-outcome index k base one other m long short started rests sent message deeds rest facts true true false follows sends is lived =
     Lost (let o = facts.over in omega arith)
     (rest (backup_takes one message.from message.body).0 other m long short facts lived)
@@ -251,39 +251,39 @@ take-outcome index k base one other m long short started rests sent message deed
     Stays (let o = facts.early in omega arith) is sends
     (rest one other (master_takes m message.from message.body).0 long short facts lived)
 
-same-next : (index k : ℕ) (base : HostNode) (one other : Backup) (m : Master) (long short : List Work) (started : ℕ)
-    (named : NodeName) (work : Work) (sent : List Message) (rests : ℕ) (deeds : List Deed) →
+same-next : (index k : ℕ) (base : HostNode) (one other : Backup) (m : Master) (long short : List NodeWork) (started : ℕ)
+    (named : NodeName) (work : NodeWork) (sent : List Message) (rests : ℕ) (deeds : List Deed) →
     AllCut index k base started deeds → Facts k long short started →
     IsLived (TheHost index) (life_at base one m long started) (record { node = named; work = work; sent = sent; rests = rests } ∷ deeds) →
     IsCut (TheHost index) k (life_at base one m long started) (life_at base other m short started)
     (record { node = named; work = work; sent = sent; rests = rests } ∷ deeds)
     (are_left k (record { node = named; work = work; sent = sent; rests = rests } ∷ deeds))
-same-next index k base one other m long short started named (Take message) sent rests deeds rest facts lived =
+same-next index k base one other m long short started named (Deliver message) sent rests deeds rest facts lived =
     elim (take-outcome index k base one other m long short started rests sent message deeds rest facts
     (is_server (server_of (running base one m)) message.to) (is_for_backup message.body) (changes_backup message.body)
     (unchanging message.body) lived.0.sends lived.0.rests lived.1) [
       | Lost over cut ↦ skip (TheHost index) k (life_at base one m long started) (life_at base other m short started)
-          (record { node = named; work = Take message; sent = sent; rests = rests }) deeds over cut
+          (record { node = named; work = Deliver message; sent = sent; rests = rests }) deeds over cut
       | Stays within again says cut ↦ stay (TheHost index) k (life_at base one m long started) (life_at base other m short started)
-          (record { node = named; work = Take message; sent = sent; rests = rests }) deeds within
+          (record { node = named; work = Deliver message; sent = sent; rests = rests }) deeds within
           (record { can = refl; sends = says; rests = again }) cut
     ]
-same-next index k base one other m long short started named (Tick addr) sent rests deeds rest facts lived =
+same-next index k base one other m long short started named Tick sent rests deeds rest facts lived =
     stay (TheHost index) k (life_at base one m long started) (life_at base other m short started)
-    (record { node = named; work = Tick addr; sent = sent; rests = rests }) deeds
+    (record { node = named; work = Tick; sent = sent; rests = rests }) deeds
     (let e = facts.early in let r : rests ≡ started = lived.0.rests in omega arith)
     (record { can = lived.0.can; sends = lived.0.sends; rests = lived.0.rests })
     (rest one other (master_ticks m).0 long short facts lived.1)
-same-next index k base one other m long short started named (Stop id) sent rests deeds rest facts lived =
+same-next index k base one other m long short started named Stop sent rests deeds rest facts lived =
     skip (TheHost index) k (life_at base one m long started) (life_at base other m short started)
-    (record { node = named; work = Stop id; sent = sent; rests = rests }) deeds
+    (record { node = named; work = Stop; sent = sent; rests = rests }) deeds
     (let o = facts.over in let r : rests ≡ length long + 1 = lived.0.rests in omega arith)
     (gone-cut (TheHost index) k _ _ deeds
     (record {
-      long = let o = facts.over in rw (length-append long (Stop id ∷ [])) (omega arith);
+      long = let o = facts.over in rw (length-append long (Stop ∷ [])) (omega arith);
       late = λ e. true_false (sym e);
     })
-    (facts-more k long short started (Stop id) facts).same lived.1)
+    (facts-more k long short started Stop facts).same lived.1)
 same-next index k base one other m long short started named (Start kept) sent rests deeds rest facts lived =
     true_false (sym (sym (and-off base) ∙ lived.0.can))
 same-next index k base one other m long short started named _ sent rests deeds rest facts lived = true_false (sym lived.0.can)
@@ -297,7 +297,8 @@ same-cut index k base started (deed ∷ deeds) one other m long short facts live
 -- The whole of a life
 
 -- a kept work that is one too many
-gone-here : (name : NodeName) (k : ℕ) (life : Life) (work : Work) (deeds : List Deed) → keeps name work ≡ true → length life.journal ≡ k →
+gone-here : (name : NodeName) (k : ℕ) (life : Life) (work : NodeWork) (deeds : List Deed) → keeps name work ≡ true →
+    length life.journal ≡ k →
     (node_runs (node_step life.node work).0 ≡ true → k < started_next life work) → IsLived name (life_next name life work) deeds →
     IsCut name k (life_next name life work) life deeds (are_left k deeds)
 gone-here name k life work deeds kept full late lived =
@@ -311,7 +312,7 @@ gone-here name k life work deeds kept full late lived =
     })
     (sym (ap (take k) grown ∙ take_at life.journal (work ∷ []) k full)) lived
 
-facts-here : (k : ℕ) (journal : List Work) (started : ℕ) (work : Work) → length journal ≡ k → started ≤ k →
+facts-here : (k : ℕ) (journal : List NodeWork) (started : ℕ) (work : NodeWork) → length journal ≡ k → started ≤ k →
     Facts k (journal ++ work ∷ []) journal started
 facts-here k journal started work full early = record {
   over = rw (length-append journal (work ∷ [])) (omega arith);
@@ -320,7 +321,7 @@ facts-here k journal started work full early = record {
   early = early;
 }
 
-kept-message : (index k : ℕ) (base : HostNode) (backup : Backup) (m : Master) (journal : List Work) (started : ℕ) (message : Message)
+kept-message : (index k : ℕ) (base : HostNode) (backup : Backup) (m : Master) (journal : List NodeWork) (started : ℕ) (message : Message)
     (deeds : List Deed) → length journal ≡ k → started ≤ k → (b c d : Bool) → (c ≡ false → d ≡ false) → d ≡ true →
     IsLived (TheHost index) (taken_life base backup m journal started message b c d) deeds →
     IsCut (TheHost index) k (taken_life base backup m journal started message b c d) (life_at base backup m journal started) deeds
@@ -328,48 +329,48 @@ kept-message : (index k : ℕ) (base : HostNode) (backup : Backup) (m : Master) 
 kept-message index k base backup m journal started message deeds full early b c false follows kept lived = true_false (sym kept)
 kept-message index k base backup m journal started message deeds full early b false true follows kept lived = true_false (follows refl)
 kept-message index k base backup m journal started message deeds full early true true true follows kept lived =
-    same-cut index k base started deeds (backup_takes backup message.from message.body).0 backup m (journal ++ Take message ∷ []) journal
-    (facts-here k journal started (Take message) full early) lived
+    same-cut index k base started deeds (backup_takes backup message.from message.body).0 backup m (journal ++ Deliver message ∷ []) journal
+    (facts-here k journal started (Deliver message) full early) lived
 kept-message index k base backup m journal started message deeds full early false true true follows kept lived =
-    same-cut index k base started deeds backup backup m (journal ++ Take message ∷ []) journal
-    (facts-here k journal started (Take message) full early) lived
+    same-cut index k base started deeds backup backup m (journal ++ Deliver message ∷ []) journal
+    (facts-here k journal started (Deliver message) full early) lived
 
-abbrev life_with : HostNode → Option Master → List Work → ℕ → Life
+abbrev life_with : HostNode → Option Master → List NodeWork → ℕ → Life
 life_with host running journal started = record
     { node = node.TheHost (record host { master = running }); journal = journal; started = started }
 
-message-next : (k : ℕ) (host : HostNode) (running : Option Master) (journal : List Work) (started : ℕ) (message : Message)
+message-next : (k : ℕ) (host : HostNode) (running : Option Master) (journal : List NodeWork) (started : ℕ) (message : Message)
     (deeds : List Deed) →
     changes_backup message.body ≡ true → length journal ≡ k → started ≤ k →
-    IsLived (TheHost host.index) (life_next (TheHost host.index) (life_with host running journal started) (Take message)) deeds →
-    IsCut (TheHost host.index) k (life_next (TheHost host.index) (life_with host running journal started) (Take message))
+    IsLived (TheHost host.index) (life_next (TheHost host.index) (life_with host running journal started) (Deliver message)) deeds →
+    IsCut (TheHost host.index) k (life_next (TheHost host.index) (life_with host running journal started) (Deliver message))
     (life_with host running journal started) deeds (are_left k deeds)
 message-next k host None journal started message deeds kept full early lived =
-    gone-here (TheHost host.index) k (life_with host None journal started) (Take message) deeds kept full (λ e. true_false (sym e)) lived
+    gone-here (TheHost host.index) k (life_with host None journal started) (Deliver message) deeds kept full (λ e. true_false (sym e)) lived
 message-next k host (Some m) journal started message deeds kept full early lived =
     kept-message host.index k host host.backup m journal started message deeds full early
     (is_server (server_of host) message.to) (is_for_backup message.body) (changes_backup message.body) (unchanging message.body) kept
     lived
 
-host-next : (k : ℕ) (host : HostNode) (journal : List Work) (started : ℕ) (work : Work) (deeds : List Deed) →
+host-next : (k : ℕ) (host : HostNode) (journal : List NodeWork) (started : ℕ) (work : NodeWork) (deeds : List Deed) →
     host_keeps work ≡ true → length journal ≡ k → started ≤ k →
     IsLived (TheHost host.index)
     (life_next (TheHost host.index) (record { node = node.TheHost host; journal = journal; started = started }) work) deeds →
     IsCut (TheHost host.index) k
     (life_next (TheHost host.index) (record { node = node.TheHost host; journal = journal; started = started }) work)
     (record { node = node.TheHost host; journal = journal; started = started }) deeds (are_left k deeds)
-host-next k host journal started (Take message) deeds kept full early lived =
+host-next k host journal started (Deliver message) deeds kept full early lived =
     message-next k host host.master journal started message deeds kept full early lived
 host-next k host journal started (Start names) deeds kept full early lived =
     gone-here (TheHost host.index) k (record { node = node.TheHost host; journal = journal; started = started }) (Start names) deeds kept
     full
     (λ _. omega arith) lived
-host-next k host journal started (Stop id) deeds kept full early lived =
-    gone-here (TheHost host.index) k (record { node = node.TheHost host; journal = journal; started = started }) (Stop id) deeds kept full
+host-next k host journal started Stop deeds kept full early lived =
+    gone-here (TheHost host.index) k (record { node = node.TheHost host; journal = journal; started = started }) Stop deeds kept full
     (λ e. true_false (sym e)) lived
 host-next k host journal started _ deeds kept full early lived = true_false (sym kept)
 
-over-next : (name : NodeName) (k : ℕ) (n : Node) (journal : List Work) (started : ℕ) (work : Work) (deeds : List Deed) → name_of n
+over-next : (name : NodeName) (k : ℕ) (n : Node) (journal : List NodeWork) (started : ℕ) (work : NodeWork) (deeds : List Deed) → name_of n
     ≡ name →
     keeps name work ≡ true → length journal ≡ k → started ≤ k →
     IsLived name (life_next name (record { node = n; journal = journal; started = started }) work) deeds →
@@ -388,33 +389,33 @@ over-next name k (node.TheHost host) journal started work deeds named kept full 
     (record { node = node.TheHost host; journal = journal; started = started }) deeds (are_left k deeds)) named
     (λ its l. host-next k host journal started work deeds its full early l) kept lived
 
-pub name-next : (n : Node) (work : Work) → name_of (node_step n work).0 ≡ name_of n
+pub name-next : (n : Node) (work : NodeWork) → name_of (node_step n work).0 ≡ name_of n
 name-next node.TheOutside work = refl
 name-next (node.TheCoordinator c) work = refl
 name-next (node.TheHost host) work = ap TheHost (host_step-index host work)
 
-started-host : (life : Life) (host : HostNode) (work : Work) → host_can host work ≡ true → life.started ≤ length life.journal →
+started-host : (life : Life) (host : HostNode) (work : NodeWork) → host_can host work ≡ true → life.started ≤ length life.journal →
     started_next life work ≤ length (journal_next (TheHost host.index) life work)
 started-host life host (Start kept) can early = rw (length-append life.journal (Start kept ∷ [])) (omega arith)
-started-host life host (Stop id) can early = omega arith
-started-host life host (Take message) can early = let l = longer (TheHost host.index) life (Take message) in omega arith
+started-host life host Stop can early = omega arith
+started-host life host (Deliver message) can early = let l = longer (TheHost host.index) life (Deliver message) in omega arith
 started-host life host _ can early = early
 
-started-other : (name : NodeName) (life : Life) (work : Work) → is_start work ≡ false → life.started ≤ length life.journal →
+started-other : (name : NodeName) (life : Life) (work : NodeWork) → is_start work ≡ false → life.started ≤ length life.journal →
     started_next life work ≤ length (journal_next name life work)
 started-other name life (Start kept) plain early = true_false plain
-started-other name life (Stop id) plain early = omega arith
+started-other name life Stop plain early = omega arith
 started-other name life given plain early = let l = longer name life given in omega arith
 
-no-start : (c : _) (work : Work) → node_can (node.TheCoordinator c) work ≡ true → is_start work ≡ false
+no-start : (c : _) (work : NodeWork) → node_can (node.TheCoordinator c) work ≡ true → is_start work ≡ false
 no-start c (Start kept) can = sym can
 no-start c work can = refl
 
-no-start-outside : (work : Work) → node_can node.TheOutside work ≡ true → is_start work ≡ false
+no-start-outside : (work : NodeWork) → node_can node.TheOutside work ≡ true → is_start work ≡ false
 no-start-outside (Start kept) can = sym can
 no-start-outside work can = refl
 
-pub started-next : (name : NodeName) (n : Node) (life : Life) (work : Work) → name_of n ≡ name → node_can n work ≡ true →
+pub started-next : (name : NodeName) (n : Node) (life : Life) (work : NodeWork) → name_of n ≡ name → node_can n work ≡ true →
     life.started ≤ length life.journal → started_next life work ≤ length (journal_next name life work)
 started-next name node.TheOutside life work named can early = started-other name life work (no-start-outside work can) early
 started-next name (node.TheCoordinator c) life work named can early = started-other name life work (no-start c work can) early
@@ -422,7 +423,7 @@ started-next name (node.TheHost host) life work named can early =
     subst (λ n. started_next life work ≤ length (journal_next n life work)) named (started-host life host work can early)
 
 -- what stays is within what is left of the journal
-within-next : (name : NodeName) (k : ℕ) (life : Life) (work : Work) (rests : ℕ) → rests ≡ rests_on name life work → rests ≤ k →
+within-next : (name : NodeName) (k : ℕ) (life : Life) (work : NodeWork) (rests : ℕ) → rests ≡ rests_on name life work → rests ≤ k →
     length life.journal ≤ k → length (journal_next name life work) ≤ k
 within-next name k life work rests is in' within = by (keeps name work) is
   where
@@ -432,7 +433,7 @@ within-next name k life work rests is in' within = by (keeps name work) is
     by false e = within
 
 -- what is lost and nothing before it is the first kept work that is too many
-over-here : (name : NodeName) (k : ℕ) (life : Life) (work : Work) (rests : ℕ) → rests ≡ rests_on name life work → k < rests →
+over-here : (name : NodeName) (k : ℕ) (life : Life) (work : NodeWork) (rests : ℕ) → rests ≡ rests_on name life work → k < rests →
     length life.journal ≤ k → life.started ≤ length life.journal → (keeps name work ≡ true) × (length life.journal ≡ k)
 over-here name k life work rests is over within early = by (keeps name work) (is_masters life.node work) is
   where

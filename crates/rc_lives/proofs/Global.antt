@@ -8,7 +8,7 @@ use Rattle.std.proofs.lemmas.List.Elements.{filter-append}
 use Rattle.rc_types.specs.declared.events.Setup.{Setup}
 use Rattle.rc_types.specs.declared.messages.Message.{Message}
 use Rattle.rc_model.specs.Headline.{In}
-use Rattle.rc_model.specs.Model.{Work, Take, HostNode}
+use Rattle.rc_model.specs.Model.{NodeWork, Deliver, HostNode}
 use Rattle.rc_model.specs.Model.{Master}
 use Rattle.std.proofs.Common.{Option, Some, None}
 use Rattle.rc_model.specs.World.{NodeName, TheOutside, TheCoordinator, TheHost, same_node}
@@ -28,8 +28,8 @@ abbrev pub own : NodeName → List Deed → List Deed
 own name deeds = filter (λ (deed : Deed). same_node deed.node name) deeds
 
 -- a message that is taken has left before
-abbrev pub IsSupported : (NodeName → ℕ) → List Deed → Work → Type 0
-IsSupported safe earlier (Take message) = MayLeave safe earlier message
+abbrev pub IsSupported : (NodeName → ℕ) → List Deed → NodeWork → Type 0
+IsSupported safe earlier (Deliver message) = MayLeave safe earlier message
 IsSupported safe earlier _ = Unit {0}
 
 pub record Brought (safe : NodeName → ℕ) (earlier : List Deed) (deed : Deed) : Type 0 where
@@ -74,10 +74,10 @@ leave-through safe after' done more message rises stays leaves = record {
       omega arith;
 }
 
-supported-through : (safe after' : NodeName → ℕ) (done more : List Deed) (work : Work) → ((name : NodeName) → safe name ≤ after' name) →
+supported-through : (safe after' : NodeName → ℕ) (done more : List Deed) (work : NodeWork) → ((name : NodeName) → safe name ≤ after' name) →
     ((deed : Deed) → In deed done → deed.rests ≤ safe deed.node → In deed more) → IsSupported safe done work →
     IsSupported after' more work
-supported-through safe after' done more (Take message) rises stays is = leave-through safe after' done more message rises stays is
+supported-through safe after' done more (Deliver message) rises stays is = leave-through safe after' done more message rises stays is
 supported-through safe after' done more work rises stays is = is
 
 brought-rises : (safe after' : NodeName → ℕ) (earlier deeds : List Deed) → ((name : NodeName) → safe name ≤ after' name) →
@@ -187,14 +187,14 @@ put-safe at name process rises other = by (same_node name other) refl
 
 -- A work is taken
 
-longer-next : (name : NodeName) (life : Life) (work : Work) → length life.journal ≤ length (life_next name life work).journal
+longer-next : (name : NodeName) (life : Life) (work : NodeWork) → length life.journal ≤ length (life_next name life work).journal
 longer-next name life work = by (keeps name work)
   where
     by : (b : Bool) → length life.journal ≤ length (cond b (life.journal ++ work ∷ []) life.journal)
     by true = rw (length-append life.journal (work ∷ [])) (omega arith)
     by false = omega arith
 
-well-takes : (setup : Setup) (name : NodeName) (process : Process) (deeds : List Deed) (work : Work) → Well setup name process deeds →
+well-takes : (setup : Setup) (name : NodeName) (process : Process) (deeds : List Deed) (work : NodeWork) → Well setup name process deeds →
     node_can process.life.node work ≡ true →
     Well setup name (record { life = life_next name process.life work; safe = process.safe })
     (deeds ++ deed_of name process.life work ∷ [])
@@ -208,12 +208,12 @@ well-takes setup name process deeds work well can = record {
   safe = let s = well.safe in let l = longer-next name process.life work in omega arith;
 }
 
-supported-takes : (all : Processes) (work : Work) → IsBrought all.left work →
+supported-takes : (all : Processes) (work : NodeWork) → IsBrought all.left work →
     ((message : Message) → In message all.left → MayLeave (safe_at all) all.done message) → IsSupported (safe_at all) all.done work
-supported-takes all (Take message) brought left = left message brought
+supported-takes all (Deliver message) brought left = left message brought
 supported-takes all work brought left = tt
 
-goes-takes : (setup : Setup) (all : Processes) (name : NodeName) (work : Work) → Goes setup all → MayTake all name work →
+goes-takes : (setup : Setup) (all : Processes) (name : NodeName) (work : NodeWork) → Goes setup all → MayTake all name work →
     Goes setup (after setup all (Takes name work))
 goes-takes setup all name work goes may =
     let deed = deed_of name (all.at name).life work in
@@ -268,11 +268,11 @@ goes-leaves setup all message goes may = record {
 
 -- A process falls
 
-pub name-life : (name : NodeName) (life : Life) (works : List Work) → name_of (life_after name life works).node ≡ name_of life.node
+pub name-life : (name : NodeName) (life : Life) (works : List NodeWork) → name_of (life_after name life works).node ≡ name_of life.node
 name-life name life [] = refl
 name-life name life (work ∷ works) = name-life name (life_next name life work) works ∙ name-next life.node work
 
-name-after : (n : Node) (works : List Work) → name_of (node_after n works) ≡ name_of n
+name-after : (n : Node) (works : List NodeWork) → name_of (node_after n works) ≡ name_of n
 name-after n [] = refl
 name-after n (work ∷ works) = name-after (node_step n work).0 works ∙ name-next n work
 
@@ -283,14 +283,14 @@ name-new setup (TheHost index) = refl
 
 -- its stop is its own, names it and delivers nothing
 
-own-stop : (name : NodeName) (life : Life) (works : List Work) → own name (stop_deeds name life works) ≡ stop_deeds name life works
+own-stop : (name : NodeName) (life : Life) (works : List NodeWork) → own name (stop_deeds name life works) ≡ stop_deeds name life works
 own-stop name life [] = refl
 own-stop name life (work ∷ works) =
     ap (λ b. cond b (deed_of name life work ∷ own name (stop_deeds name life works)) (own name (stop_deeds name life works)))
     (same_node-refl name)
     ∙ ap (λ l. deed_of name life work ∷ l) (own-stop name life works)
 
-other-stop : (name other : NodeName) (life : Life) (works : List Work) → same_node name other
+other-stop : (name other : NodeName) (life : Life) (works : List NodeWork) → same_node name other
     ≡ false → own other (stop_deeds name life works) ≡ []
 other-stop name other life [] differ = refl
 other-stop name other life (work ∷ works) differ =
@@ -298,16 +298,15 @@ other-stop name other life (work ∷ works) differ =
     ∙ other-stop name other life works differ
 
 stop-brought-host : (safe : NodeName → ℕ) (earlier : List Deed) (name : NodeName) (life : Life) (host : HostNode)
-    (running : Option Master) →
-    TheHost host.index ≡ name → AllBrought safe earlier (stop_deeds name life (stops (node.TheHost (record host { master = running }))))
-stop-brought-host safe earlier name life host None named = tt
-stop-brought-host safe earlier name life host (Some m) named = (record { addressed = named; supported = tt }, tt)
+    (running : Option Master) → AllBrought safe earlier (stop_deeds name life (stops (node.TheHost (record host { master = running }))))
+stop-brought-host safe earlier name life host None = tt
+stop-brought-host safe earlier name life host (Some m) = (record { addressed = tt; supported = tt }, tt)
 
-stop-brought : (safe : NodeName → ℕ) (earlier : List Deed) (name : NodeName) (life : Life) (n : Node) → name_of n ≡ name →
+stop-brought : (safe : NodeName → ℕ) (earlier : List Deed) (name : NodeName) (life : Life) (n : Node) →
     AllBrought safe earlier (stop_deeds name life (stops n))
-stop-brought safe earlier name life node.TheOutside named = tt
-stop-brought safe earlier name life (node.TheCoordinator c) named = tt
-stop-brought safe earlier name life (node.TheHost host) named = stop-brought-host safe earlier name life host host.master named
+stop-brought safe earlier name life node.TheOutside = tt
+stop-brought safe earlier name life (node.TheCoordinator c) = tt
+stop-brought safe earlier name life (node.TheHost host) = stop-brought-host safe earlier name life host host.master
 
 -- the life of which so many works are left
 cut-life : (setup : Setup) (name : NodeName) (k : ℕ) (deeds : List Deed) → Life
@@ -319,7 +318,7 @@ record Falls' (setup : Setup) (name : NodeName) (k : ℕ) (process : Process) (d
       ++ stop_deeds name (replayed setup name (take k process.life.journal))
       (stops (replayed setup name (take k process.life.journal)).node))
 
-longer-after : (name : NodeName) (life : Life) (works : List Work) → length life.journal ≤ length (life_after name life works).journal
+longer-after : (name : NodeName) (life : Life) (works : List NodeWork) → length life.journal ≤ length (life_after name life works).journal
 longer-after name life works =
     rw (life_journal name life works) (rw (length-append life.journal (filter (keeps name) works)) (omega arith))
 
@@ -364,7 +363,7 @@ left-passes name k safe deed within rests = by (same_node deed.node name) refl
 goes-falls : (setup : Setup) (all : Processes) (name : NodeName) (k : ℕ) → Goes setup all → MayBeLeft (all.at name) k →
     Goes setup (after setup all (Falls name k))
 goes-falls setup all name k goes may =
-    let kept : List Work = take k (all.at name).life.journal in
+    let kept : List NodeWork = take k (all.at name).life.journal in
     let again : Life = replayed setup name kept in
     let stop : List Deed = stop_deeds name again (stops again.node) in
     let remain : List Deed = filter (is_left name k) all.done in
@@ -388,7 +387,7 @@ goes-falls setup all name k goes may =
           brought-rises (safe_at all) _ [] (remain ++ stop) rises
           (brought-append (safe_at all) [] remain stop
           (brought-filter (safe_at all) (is_left name k) passes [] all.done goes.brought)
-          (stop-brought (safe_at all) remain name again again.node (name-after (new_node setup name) kept ∙ name-new setup name)));
+          (stop-brought (safe_at all) remain name again again.node));
       left = λ message at.
           leave-through (safe_at all) _ all.done (remain ++ stop) message rises
           (λ d among e. In-left d remain stop (in-filter (is_left name k) d all.done among (passes d e))) (goes.left message at);

@@ -3,7 +3,7 @@ use Rattle.std.proofs.Common.{◌≡◌, Bool, true, false, cond, List, [], ◌�
 use Rattle.std.proofs.Common.{◌∙◌}
 use Rattle.std.proofs.Common.{append_assoc}
 use Rattle.std.proofs.lemmas.List.{append-nil}
-use Rattle.rc_model.specs.Nodes.{Work}
+use Rattle.rc_model.specs.Nodes.{NodeWork}
 use Rattle.rc_model.specs.World.{NodeName}
 use Rattle.rc_history.specs.Nodes.{node_can, node_step}
 use Rattle.rc_lives.specs.Lives.{Life, keeps, life_next, life_after, rests_on, node_after}
@@ -18,7 +18,7 @@ abbrev pub IsLived : NodeName → Life → List Deed → Type 0
 IsLived name life [] = Unit {0}
 IsLived name life (deed ∷ deeds) = Lives name life deed × IsLived name (life_next name life deed.work) deeds
 
-abbrev pub works_of : List Deed → List Work
+abbrev pub works_of : List Deed → List NodeWork
 works_of deeds = map (λ (deed : Deed). deed.work) deeds
 
 abbrev pub life_of : NodeName → Life → List Deed → Life
@@ -44,11 +44,11 @@ lived-last name life [] more lived = lived
 lived-last name life (deed ∷ deeds) more lived = lived-last name (life_next name life deed.work) deeds more lived.1
 
 -- the node is where its works lead, and the journal has those that are kept
-pub life_node : (name : NodeName) (life : Life) (works : List Work) → (life_after name life works).node ≡ node_after life.node works
+pub life_node : (name : NodeName) (life : Life) (works : List NodeWork) → (life_after name life works).node ≡ node_after life.node works
 life_node name life [] = refl
 life_node name life (work ∷ works) = life_node name (life_next name life work) works
 
-pub life_journal : (name : NodeName) (life : Life) (works : List Work) →
+pub life_journal : (name : NodeName) (life : Life) (works : List NodeWork) →
     (life_after name life works).journal ≡ life.journal ++ filter (keeps name) works
 life_journal name life [] = sym (append-nil life.journal)
 life_journal name life (work ∷ works) = life_journal name (life_next name life work) works ∙ by (keeps name work)
@@ -58,5 +58,6 @@ life_journal name life (work ∷ works) = life_journal name (life_next name life
     by true = append_assoc life.journal (work ∷ []) (filter (keeps name) works)
     by false = refl
 
-pub deed_lives : (name : NodeName) (life : Life) (work : Work) → node_can life.node work ≡ true → Lives name life (deed_of name life work)
+pub deed_lives : (name : NodeName) (life : Life) (work : NodeWork) → node_can life.node work ≡ true →
+    Lives name life (deed_of name life work)
 deed_lives name life work can = record { can = can; sends = refl; rests = refl }

@@ -3,14 +3,13 @@ use Rattle.std.proofs.Common.{◌≡◌, ℕ, true, false, List, [], ◌∷◌, 
 use Rattle.std.specs.Prelude.{is_some}
 use Rattle.rc_types.specs.declared.events.Setup.{Setup}
 use Rattle.rc_types.specs.declared.messages.Message.{Message}
-use Rattle.rc_model.specs.Model.{Master, master_takes, backup_takes, is_server, Work, Take, HostNode, host_step}
+use Rattle.rc_model.specs.Model.{Master, master_takes, backup_takes, is_server, NodeWork, Deliver, HostNode, host_step}
 use Rattle.rc_model.specs.Model.{is_for_backup, with_backup, with_master, server_takes, server_of, takes_if_running, ticks_if_running}
 use Rattle.rc_model.specs.Model.{host_after, coordinator_after, coordinator_step}
 use Rattle.rc_model.specs.Coordinator.{Coordinator, new_coordinator}
 use Rattle.rc_model.specs.Nodes.{Tick, Stop, Start, runs, new_host, master_setup}
 use Rattle.rc_model.specs.World.{NodeName, TheOutside, TheCoordinator, TheHost}
 use Rattle.rc_model.proofs.Tests.{either, true_false}
-use Rattle.rc_model.proofs.Ids.{same_id-refl}
 use Rattle.rc_history.specs.Nodes.{Node, node_can, new_node}
 use Rattle.rc_history.specs.Nodes as node
 use Rattle.rc_history.specs.Remade.{stopped, SameButMaster, host_keeps, coordinator_keeps}
@@ -20,16 +19,16 @@ use Rattle.rc_lives.specs.Processes.{Deed, stop_deeds}
 use Rattle.rc_lives.proofs.Own.{IsLived, works_of, life_of, life_node, life_journal}
 use Rattle.rc_lives.proofs.Cutting.{node_runs}
 
-node_after-outside : (works : List Work) → node_after node.TheOutside works ≡ node.TheOutside
+node_after-outside : (works : List NodeWork) → node_after node.TheOutside works ≡ node.TheOutside
 node_after-outside [] = refl
 node_after-outside (work ∷ works) = node_after-outside works
 
-node_after-coordinator : (c : Coordinator) (works : List Work) → node_after (node.TheCoordinator c) works
+node_after-coordinator : (c : Coordinator) (works : List NodeWork) → node_after (node.TheCoordinator c) works
     ≡ node.TheCoordinator (coordinator_after c works)
 node_after-coordinator c [] = refl
 node_after-coordinator c (work ∷ works) = node_after-coordinator (coordinator_step c work).0 works
 
-node_after-host : (host : HostNode) (works : List Work) → node_after (node.TheHost host) works ≡ node.TheHost (host_after host works)
+node_after-host : (host : HostNode) (works : List NodeWork) → node_after (node.TheHost host) works ≡ node.TheHost (host_after host works)
 node_after-host host [] = refl
 node_after-host host (work ∷ works) = node_after-host (host_step host work).0 works
 
@@ -51,28 +50,30 @@ ticks-runs host (Some m) is = sym (ap is_some is)
 abbrev RestsZero : Life → Type 0
 RestsZero life = node_runs life.node ≡ false → life.started ≡ 0
 
-zero-host : (name : NodeName) (host : HostNode) (journal : List Work) (started : ℕ) (work : Work) → (runs host ≡ false → started ≡ 0) →
+zero-host : (name : NodeName) (host : HostNode) (journal : List NodeWork) (started : ℕ) (work : NodeWork) →
+    (runs host ≡ false → started ≡ 0) →
     RestsZero (life_next name (record { node = node.TheHost host; journal = journal; started = started }) work)
-zero-host name host journal started (Take message) zero e = zero (sym (takes-runs host host.master message refl) ∙ e)
-zero-host name host journal started (Tick addr) zero e = zero (sym (ticks-runs host host.master refl) ∙ e)
-zero-host name host journal started (Stop id) zero e = refl
+zero-host name host journal started (Deliver message) zero e = zero (sym (takes-runs host host.master message refl) ∙ e)
+zero-host name host journal started Tick zero e = zero (sym (ticks-runs host host.master refl) ∙ e)
+zero-host name host journal started Stop zero e = refl
 zero-host name host journal started (Start kept) zero e = true_false e
 zero-host name host journal started _ zero e = zero e
 
-zero-coordinator : (name : NodeName) (c : Coordinator) (journal : List Work) (started : ℕ) (work : Work) → started ≡ 0 →
+zero-coordinator : (name : NodeName) (c : Coordinator) (journal : List NodeWork) (started : ℕ) (work : NodeWork) → started ≡ 0 →
     node_can (node.TheCoordinator c) work ≡ true →
     (life_next name (record { node = node.TheCoordinator c; journal = journal; started = started }) work).started ≡ 0
 zero-coordinator name c journal started (Start kept) zero can = true_false (sym can)
-zero-coordinator name c journal started (Stop id) zero can = refl
+zero-coordinator name c journal started Stop zero can = refl
 zero-coordinator name c journal started work zero can = zero
 
-zero-outside : (name : NodeName) (journal : List Work) (started : ℕ) (work : Work) → started ≡ 0 → node_can node.TheOutside work ≡ true →
+zero-outside : (name : NodeName) (journal : List NodeWork) (started : ℕ) (work : NodeWork) → started ≡ 0 →
+    node_can node.TheOutside work ≡ true →
     (life_next name (record { node = node.TheOutside; journal = journal; started = started }) work).started ≡ 0
 zero-outside name journal started (Start kept) zero can = true_false (sym can)
-zero-outside name journal started (Stop id) zero can = refl
+zero-outside name journal started Stop zero can = refl
 zero-outside name journal started work zero can = zero
 
-zero-next : (name : NodeName) (n : Node) (journal : List Work) (started : ℕ) (work : Work) → (node_runs n ≡ false → started ≡ 0) →
+zero-next : (name : NodeName) (n : Node) (journal : List NodeWork) (started : ℕ) (work : NodeWork) → (node_runs n ≡ false → started ≡ 0) →
     node_can n work ≡ true → RestsZero (life_next name (record { node = n; journal = journal; started = started }) work)
 zero-next name node.TheOutside journal started work zero can e = zero-outside name journal started work (zero refl) can
 zero-next name (node.TheCoordinator c) journal started work zero can e = zero-coordinator name c journal started work (zero refl) can
@@ -94,7 +95,7 @@ pub record Ends (name : NodeName) (one other : Life) : Type 0 where
   pub life : life_after name one (stops one.node) ≡ life_after name other (stops other.node)
   pub deeds : stop_deeds name one (stops one.node) ≡ stop_deeds name other (stops other.node)
 
-ends-both : (name : NodeName) (base : HostNode) (one other : Option Master) (journal : List Work) (started : ℕ) →
+ends-both : (name : NodeName) (base : HostNode) (one other : Option Master) (journal : List NodeWork) (started : ℕ) →
     is_some one ≡ is_some other → (is_some other ≡ false → started ≡ 0) →
     Ends name (record { node = node.TheHost (record base { master = one }); journal = journal; started = 0 })
     (record { node = node.TheHost (record base { master = other }); journal = journal; started = started })
@@ -107,7 +108,7 @@ ends-both name base (Some one) None journal started both zero = true_false both
 ends-both name base (Some one) (Some other) journal started both zero = record { life = refl; deeds = refl }
 
 -- hosts that are the same but for their masters, with one journal
-ends-host : (name : NodeName) (one other : HostNode) (journal : List Work) (started : ℕ) → SameButMaster one other →
+ends-host : (name : NodeName) (one other : HostNode) (journal : List NodeWork) (started : ℕ) → SameButMaster one other →
     (runs other ≡ false → started ≡ 0) →
     Ends name (record { node = node.TheHost one; journal = journal; started = 0 })
     (record { node = node.TheHost other; journal = journal; started = started })
@@ -116,14 +117,14 @@ ends-host name one other journal started same zero =
     (record { node = node.TheHost other; journal = journal; started = started })) (sym same.rest)
     (ends-both name (stopped other) one.master other.master journal started same.runs zero)
 
-ends-same : (name : NodeName) (n : Node) (journal : List Work) (started : ℕ) → started ≡ 0 →
+ends-same : (name : NodeName) (n : Node) (journal : List NodeWork) (started : ℕ) → started ≡ 0 →
     Ends name (record { node = n; journal = journal; started = 0 }) (record { node = n; journal = journal; started = started })
 ends-same name n journal started zero =
     subst (λ s. Ends name (record { node = n; journal = journal; started = 0 }) (record { node = n; journal = journal; started = s }))
     (sym zero)
     (record { life = refl; deeds = refl })
 
-ends-at : (name : NodeName) (n m one other : Node) (journal : List Work) (started : ℕ) → n ≡ one → m ≡ other →
+ends-at : (name : NodeName) (n m one other : Node) (journal : List NodeWork) (started : ℕ) → n ≡ one → m ≡ other →
     (RestsZero (record { node = m; journal = journal; started = started })) →
     ((node_runs other ≡ false → started ≡ 0) →
     Ends name (record { node = one; journal = journal; started = 0 }) (record { node = other; journal = journal; started = started })) →
@@ -170,14 +171,14 @@ remade-ends setup (TheHost index) deeds lived =
 
 -- the stop is a deed of its life
 
-stop-host : (name : NodeName) (host : HostNode) (running : Option Master) (journal : List Work) (started : ℕ) →
+stop-host : (name : NodeName) (host : HostNode) (running : Option Master) (journal : List NodeWork) (started : ℕ) →
     IsLived name (record { node = node.TheHost (record host { master = running }); journal = journal; started = started })
     (stop_deeds name (record { node = node.TheHost (record host { master = running }); journal = journal; started = started })
     (stops (node.TheHost (record host { master = running }))))
 stop-host name host None journal started = tt
-stop-host name host (Some m) journal started = (record { can = same_id-refl (server_of host); sends = refl; rests = refl }, tt)
+stop-host name host (Some m) journal started = (record { can = refl; sends = refl; rests = refl }, tt)
 
-stop-node : (name : NodeName) (n : Node) (journal : List Work) (started : ℕ) →
+stop-node : (name : NodeName) (n : Node) (journal : List NodeWork) (started : ℕ) →
     IsLived name (record { node = n; journal = journal; started = started })
     (stop_deeds name (record { node = n; journal = journal; started = started }) (stops n))
 stop-node name node.TheOutside journal started = tt
@@ -209,18 +210,18 @@ made-at : (n m one other : Node) → n ≡ one → m ≡ other → SameNode one 
 made-at n m one other e f same =
     subst (λ (x : Node). SameNode x m) (sym e) (subst (λ (x : Node). SameNode one x) (sym f) same)
 
-pub same-made : (setup : Setup) (name : NodeName) (works : List Work) →
+pub same-made : (setup : Setup) (name : NodeName) (works : List NodeWork) →
     SameNode (node_after (new_node setup name) (filter (keeps name) works)) (node_after (new_node setup name) works)
 same-made setup TheOutside works =
     made-at _ _ node.TheOutside node.TheOutside (node_after-outside (filter (keeps TheOutside) works)) (node_after-outside works) tt
 same-made setup TheCoordinator works =
-    let kept : List Work = filter coordinator_keeps works in
+    let kept : List NodeWork = filter coordinator_keeps works in
     made-at _ _ (node.TheCoordinator (coordinator_after new_coordinator kept))
     (node.TheCoordinator (coordinator_after new_coordinator works))
     (node_after-coordinator new_coordinator kept) (node_after-coordinator new_coordinator works)
     (coordinator-remade new_coordinator works)
 same-made setup (TheHost index) works =
-    let kept : List Work = filter host_keeps works in
+    let kept : List NodeWork = filter host_keeps works in
     let fresh : HostNode = new_host index (master_setup setup index) in
     made-at _ _ (node.TheHost (host_after fresh kept)) (node.TheHost (host_after fresh works))
     (node_after-host fresh kept) (node_after-host fresh works) (hosts-remade fresh works)

@@ -1,24 +1,20 @@
 -- What was done and is not forgotten is steps that nodes take apart.
-use Rattle.std.proofs.Common.{◌≡◌, ℕ, Bool, true, false, cond, inl, inr, List, [], ◌∷◌, ◌++◌, Some, slice_get}
+use Rattle.std.proofs.Common.{◌≡◌, ℕ, Bool, true, false, cond, inl, inr, List, [], ◌∷◌, ◌++◌, Some}
 use Rattle.std.proofs.Common.{refl, sym, ap, ◌∙◌, subst, append_assoc}
 use Rattle.std.specs.List.{flat_map}
 use Rattle.std.proofs.lemmas.List.{append-nil}
 use Rattle.std.proofs.lemmas.Grind.{flat_map-append}
 use Rattle.rc_types.specs.declared.events.Setup.{Setup}
-use Rattle.rc_types.specs.declared.events.Event.{Event}
-use Rattle.rc_types.specs.declared.events.Event.TheVariants as event
 use Rattle.rc_types.specs.declared.messages.Message.{Message}
 use Rattle.rc_model.specs.Headline.{In}
-use Rattle.rc_model.specs.Model.{Work, Take, Create, Split}
-use Rattle.rc_model.specs.Nodes.{Ask, Tick, Stop, Start, Suspect, Decide}
-use Rattle.rc_model.specs.World.{NodeName, TheOutside, TheCoordinator, TheHost, same_node, Job, work_of, delivery}
-use Rattle.rc_model.proofs.Tests.{true_false}
+use Rattle.rc_model.specs.Model.{NodeWork, Deliver}
+use Rattle.rc_model.specs.World.{NodeName, same_node, Job}
 use Rattle.rc_model.proofs.Ids.{same_node-true, same_node-refl}
 use Rattle.rc_model.proofs.Members.{In-left, In-right, place_of}
-use Rattle.rc_history.specs.Nodes.{Node, node_can, node_step, new_node, name_of}
-use Rattle.rc_history.specs.Nodes as node
-use Rattle.rc_history.specs.Apart.{Step, sent_by, left_at, TakenApart}
+use Rattle.rc_history.specs.Nodes.{Node, node_step, new_node, name_of, event_of}
+use Rattle.rc_history.specs.Apart.{Step, WasSent, sent_by, left_at, TakenApart}
 use Rattle.rc_history.proofs.Apart.{sent_by-push, left_at-push, taken_apart-push, taken_apart-none}
+use Rattle.rc_history.proofs.Own.{given-job, takes-own}
 use Rattle.rc_lives.specs.Lives.{SameNode, node_after, Life, new_life, life_next}
 use Rattle.rc_lives.specs.Processes.{Takes, after, deed_of, Deed, Processes, new_processes, Happening, IsAddressed, MayLeave, safe_at}
 use Rattle.rc_lives.specs.Processes.{MayAll, after_all}
@@ -56,82 +52,15 @@ pub record Further (setup : Setup) (done more : List Deed) (base : Told setup do
   pub rest : List Step
   pub same : told.steps ≡ base.steps ++ rest
 
--- the event that gives a node a work
-record Given (sent : List Message) (name : NodeName) (work : Work) : Type 0 where
-  event : Event
-  gives : work_of sent event ≡ Some (record { node = name; work = work })
-
-given-named : (sent : List Message) (name named : NodeName) (work : Work) (e : Event) → work_of sent e
-    ≡ Some (record { node = named; work = work }) →
-    named ≡ name → Given sent name work
-given-named sent name named work e gives same = record {
-  event = e;
-  gives = gives ∙ ap (λ (n : NodeName). Some (let job : Job = record { node = n; work = work } in job)) same;
-}
-
-given-host : (sent : List Message) (name : NodeName) (n : Node) (kept : _) → name_of n ≡ name → node_can n (Start kept)
-    ≡ true → Given sent name (Start kept)
-given-host sent name node.TheOutside kept named can = true_false (sym can)
-given-host sent name (node.TheCoordinator c) kept named can = true_false (sym can)
-given-host sent name (node.TheHost host) kept named can = given-named sent name (TheHost host.index) (Start kept)
-    (event.Start host.index kept) refl named
-
-given-asked : (sent : List Message) (name : NodeName) (n : Node) (to : _) (body : _) → name_of n ≡ name → node_can n (Ask to body)
-    ≡ true →
-    Given sent name (Ask to body)
-given-asked sent name node.TheOutside to body named can = given-named sent name TheOutside (Ask to body) (event.Ask to body) refl named
-given-asked sent name (node.TheCoordinator c) to body named can = true_false (sym can)
-given-asked sent name (node.TheHost host) to body named can = true_false (sym can)
-
-abbrev is_told : Work → Bool
-is_told (Suspect id) = true
-is_told (Decide id) = true
-is_told (Create table owner) = true
-is_told (Split table at) = true
-is_told _ = false
-
-told-coordinator : (name : NodeName) (n : Node) (work : Work) → name_of n ≡ name → node_can n work ≡ true → is_told work
-    ≡ true → TheCoordinator ≡ name
-told-coordinator name (node.TheCoordinator c) work named can told = named
-told-coordinator name node.TheOutside (Suspect id) named can told = true_false (sym can)
-told-coordinator name node.TheOutside (Decide id) named can told = true_false (sym can)
-told-coordinator name node.TheOutside (Create table owner) named can told = true_false (sym can)
-told-coordinator name node.TheOutside (Split table at) named can told = true_false (sym can)
-told-coordinator name node.TheOutside work named can told = true_false (sym told)
-told-coordinator name (node.TheHost host) (Suspect id) named can told = true_false (sym can)
-told-coordinator name (node.TheHost host) (Decide id) named can told = true_false (sym can)
-told-coordinator name (node.TheHost host) (Create table owner) named can told = true_false (sym can)
-told-coordinator name (node.TheHost host) (Split table at) named can told = true_false (sym can)
-told-coordinator name (node.TheHost host) work named can told = true_false (sym told)
-
-given-message : (sent : List Message) (name : NodeName) (message : Message) (at : (k : ℕ) × (slice_get sent k ≡ Some message)) →
-    IsAddressed name (Take message) → Given sent name (Take message)
-given-message sent name message at addressed =
-    given-named sent name _ (Take message) (event.Deliver at.0) (ap delivery at.1) addressed
-
-given : (setup : Setup) (safe : NodeName → ℕ) (earlier : List Deed) (sent : List Message) (name : NodeName) (n : Node) (work : Work) →
-    sent ≡ said_by earlier → name_of n ≡ name → node_can n work ≡ true → IsAddressed name work → IsSupported safe earlier work →
-    Given sent name work
-given setup safe earlier sent name n (Take message) same named can addressed supported =
-    given-message sent name message
-    (place_of sent message (subst (In message) (sym same) (in-said message supported.deed earlier supported.done_before supported.its)))
-    addressed
-given setup safe earlier sent name n (Tick addr) same named can addressed supported = given-named sent name _ (Tick addr)
-    (event.Tick addr) refl addressed
-given setup safe earlier sent name n (Stop id) same named can addressed supported = given-named sent name _ (Stop id)
-    (event.Stop id) refl addressed
-given setup safe earlier sent name n (Start kept) same named can addressed supported = given-host sent name n kept named can
-given setup safe earlier sent name n (Ask to body) same named can addressed supported = given-asked sent name n to body named can
-given setup safe earlier sent name n (Suspect id) same named can addressed supported =
-    given-named sent name TheCoordinator (Suspect id) (event.Suspect id) refl (told-coordinator name n (Suspect id) named can refl)
-given setup safe earlier sent name n (Decide id) same named can addressed supported =
-    given-named sent name TheCoordinator (Decide id) (event.Decide id) refl (told-coordinator name n (Decide id) named can refl)
-given setup safe earlier sent name n (Create table owner) same named can addressed supported =
-    given-named sent name TheCoordinator (Create table owner) (event.Create table owner) refl
-    (told-coordinator name n (Create table owner) named can refl)
-given setup safe earlier sent name n (Split table at) same named can addressed supported =
-    given-named sent name TheCoordinator (Split table at) (event.Split table at) refl
-    (told-coordinator name n (Split table at) named can refl)
+-- what a node is given was sent to it, if it is a message
+was-sent : (safe : NodeName → ℕ) (earlier : List Deed) (sent : List Message) (name : NodeName) (n : Node) (work : NodeWork) →
+    sent ≡ said_by earlier → name_of n ≡ name → IsAddressed name work → IsSupported safe earlier work →
+    (number : ℕ) × WasSent sent n number work
+was-sent safe earlier sent name n (Deliver message) same own addressed supported =
+    let at = place_of sent message
+    (subst (In message) (sym same) (in-said message supported.deed earlier supported.done_before supported.its)) in
+    (at.0, (at.1, addressed ∙ sym own))
+was-sent safe earlier sent name n _ same own addressed supported = (0, tt)
 
 -- One deed more
 
@@ -153,13 +82,13 @@ told-push : (setup : Setup) (safe : NodeName → ℕ) (done : List Deed) (deed :
     Lives deed.node (life_of deed.node (new_life setup deed.node) (own deed.node done)) deed → Further setup done (deed ∷ []) told
 told-push setup safe done deed told brought lives =
     let n : Node = (life_of deed.node (new_life setup deed.node) (own deed.node done)).node in
-    let g : Given (sent_by told.steps) deed.node deed.work =
-    given setup safe done (sent_by told.steps) deed.node n deed.work told.sent
-    (name-life deed.node (new_life setup deed.node) (works_of (own deed.node done)) ∙ name-new setup deed.node) lives.can
-    brought.addressed brought.supported in
+    let own_name : name_of n ≡ deed.node =
+    name-life deed.node (new_life setup deed.node) (works_of (own deed.node done)) ∙ name-new setup deed.node in
+    let was : (number : ℕ) × WasSent (sent_by told.steps) n number deed.work =
+    was-sent safe done (sent_by told.steps) deed.node n deed.work told.sent own_name brought.addressed brought.supported in
     let step : Step = record {
       node = deed.node;
-      event = g.event;
+      event = event_of n was.0 deed.work;
       work = deed.work;
       before = n;
       after = (node_step n deed.work).0;
@@ -171,9 +100,10 @@ told-push setup safe done deed told brought lives =
       told = record {
         steps = told.steps ++ step ∷ [];
         apart = taken_apart-push setup told.steps step told.apart (record {
-          given = g.gives;
+          given = given-job (sent_by told.steps) n was.0 deed.work was.1 lives.can
+              ∙ ap (λ (name : NodeName). Some (let job : Job = record { node = name; work = deed.work } in job)) own_name;
           before = sym (told.nodes deed.node);
-          can = lives.can;
+          can = takes-own n was.0 deed.work lives.can;
           state = refl;
           sends = lives.sends;
         });

@@ -3,7 +3,7 @@ use Rattle.std.specs.Prelude.{◌≡◌, List, ◌++◌}
 use Rattle.rc_types.specs.declared.events.Setup.{Setup}
 use Rattle.rc_types.specs.declared.messages.Message.{Message}
 use Rattle.rc_model.specs.Headline.{In}
-use Rattle.rc_model.specs.Nodes.{Work}
+use Rattle.rc_model.specs.Nodes.{NodeWork}
 use Rattle.rc_model.specs.World.{NodeName}
 use Rattle.rc_history.specs.Nodes.{new_node}
 use Rattle.rc_history.specs.Apart.{Step, sent_by, left_at, TakenApart}
@@ -63,5 +63,5 @@ pub record ComesLast (setup : Setup) (all : Processes) (sent : List Message) : T
 abbrev pub StepsComeLast : Type 0
 StepsComeLast = (setup : Setup) (happenings : List Happening) → MayAll setup (new_processes setup) happenings →
     let all = after_all setup (new_processes setup) happenings in
-    (name : NodeName) (work : Work) → MayTake all name work →
+    (name : NodeName) (work : NodeWork) → MayTake all name work →
     ComesLast setup all (deed_of name (all.at name).life work).sent

@@ -4,15 +4,15 @@ use Rattle.std.specs.Prelude.{take}
 use Rattle.rc_types.specs.declared.events.Setup.{Setup}
 use Rattle.rc_types.specs.declared.messages.Message.{Message}
 use Rattle.rc_model.specs.Headline.{In}
-use Rattle.rc_model.specs.Nodes.{Work, Take, Tick, Stop}
-use Rattle.rc_model.specs.World.{NodeName, TheHost, same_node, node_of}
+use Rattle.rc_model.specs.Nodes.{NodeWork, Deliver}
+use Rattle.rc_model.specs.World.{NodeName, same_node, node_of}
 use Rattle.rc_history.specs.Nodes.{node_can, node_step}
 use Rattle.rc_lives.specs.Lives.{Life, new_life, life_next, rests_on, replayed, remade, stops}
 
 -- what a node has done: a work, what it sends, and how many works of its journal that rests on
 pub record Deed : Type 0 where
   pub node : NodeName
-  pub work : Work
+  pub work : NodeWork
   pub sent : List Message
   pub rests : ℕ
 
@@ -37,7 +37,7 @@ new_processes setup = record { at = new_process setup; done = []; left = [] }
 -- what may happen
 pub data Happening : Type 0 where
   -- a process gives its node a work, and holds back what that sends
-  Takes : (name : NodeName) → (work : Work) → Happening
+  Takes : (name : NodeName) → (work : NodeWork) → Happening
   -- so many works of a journal are safe
   Syncs : (name : NodeName) → (count : ℕ) → Happening
   -- a message leaves
@@ -47,20 +47,18 @@ pub data Happening : Type 0 where
 
 -- When it may happen
 
--- a message is brought to the node that it names; a timer and a stop name their node
-abbrev pub IsAddressed : NodeName → Work → Type 0
-IsAddressed name (Take message) = node_of message.to ≡ name
-IsAddressed name (Tick addr) = node_of addr ≡ name
-IsAddressed name (Stop id) = TheHost id.index ≡ name
+-- a message is brought to the node that it names
+abbrev pub IsAddressed : NodeName → NodeWork → Type 0
+IsAddressed name (Deliver message) = node_of message.to ≡ name
 IsAddressed name _ = Unit {0}
 
 -- a message that is brought has left
-abbrev pub IsBrought : List Message → Work → Type 0
-IsBrought left (Take message) = In message left
+abbrev pub IsBrought : List Message → NodeWork → Type 0
+IsBrought left (Deliver message) = In message left
 IsBrought left _ = Unit {0}
 
 -- the node can be given the work
-pub record MayTake (all : Processes) (name : NodeName) (work : Work) : Type 0 where
+pub record MayTake (all : Processes) (name : NodeName) (work : NodeWork) : Type 0 where
   pub can : node_can (all.at name).life.node work ≡ true
   pub addressed : IsAddressed name work
   pub brought : IsBrought all.left work
@@ -91,7 +89,7 @@ May all (Falls name count) = MayBeLeft (all.at name) count
 abbrev pub with_process : (NodeName → Process) → NodeName → Process → NodeName → Process
 with_process at name process other = if same_node name other then process else at other
 
-abbrev pub deed_of : NodeName → Life → Work → Deed
+abbrev pub deed_of : NodeName → Life → NodeWork → Deed
 deed_of name life work =
     record { node = name; work = work; sent = (node_step life.node work).1; rests = rests_on name life work }
 
@@ -99,7 +97,7 @@ deed_of name life work =
 abbrev pub is_left : NodeName → ℕ → Deed → Bool
 is_left name count deed = if same_node deed.node name then nat_le deed.rests count else true
 
-abbrev pub stop_deeds : NodeName → Life → List Work → List Deed
+abbrev pub stop_deeds : NodeName → Life → List NodeWork → List Deed
 stop_deeds name life works = map (deed_of name life) works
 
 abbrev pub fallen : Setup → NodeName → ℕ → Processes → Processes

@@ -4,7 +4,7 @@ use Rattle.std.proofs.Common.{None, refl, sym, ap, ◌∙◌, subst, inl, inr, a
 use Rattle.rc_model.specs.Model.{ServerId, Addr, Server, Outside, Setup, Event, Message, Body}
 use Rattle.rc_model.specs.Model.{Data, Stored, Replicas, Enlist, same_id, put_id, to_coordinator}
 use Rattle.rc_model.specs.Model.{Backup, backup_takes}
-use Rattle.rc_model.specs.Model.{Master, new_master, master_takes, master_ticks, Work}
+use Rattle.rc_model.specs.Model.{Master, new_master, master_takes, master_ticks, NodeWork}
 use Rattle.rc_model.specs.Model.{HostNode, master_setup, outside_sends, coordinator_step, server_of, host_step}
 use Rattle.rc_model.specs.Model.{with_backup, with_master, starts_host, next_server}
 use Rattle.rc_model.specs.Model.{World, opening, NodeName, TheOutside, TheCoordinator, TheHost, Job, work_of, is_possible, with_last_view}
@@ -60,7 +60,7 @@ others-backup backup from body = each-told BySelf backup (λ x s e len closed. r
 
 -- A world
 
-pub coordinator-from : (world : World) (work : Work) → GoodWorld world → IsGiven world.sent TheCoordinator work →
+pub coordinator-from : (world : World) (work : NodeWork) → GoodWorld world → IsGiven world.sent TheCoordinator work →
     (message : Message) → In message (coordinator_step world.coordinator work).1 → message.from ≡ AtCoordinator
 coordinator-from world work good given = (coordinator-moved world work good given).from
 
@@ -83,7 +83,7 @@ module _ (P Q : List Message → ServerId → Master → Type 0) (led : IsLed P 
   not-server_too : {Q : Type 0} (m : ServerId) → Outside ≡ Server m → Q
   not-server_too m e = cc
 
-  outside-others : (work : Work) (m : ServerId) → OthersSay m (outside_sends work)
+  outside-others : (work : NodeWork) (m : ServerId) → OthersSay m (outside_sends work)
   outside-others (Ask to body) m message (inl same) from = not-server_too m (sym (ap (λ (one : Message). one.from) same) ∙ from)
   outside-others (Ask to body) m message (inr never) from = absurd never
   outside-others _ m message at from = absurd at
@@ -152,7 +152,7 @@ module _ (P Q : List Message → ServerId → Master → Type 0) (led : IsLed P 
             (sym was.index)
             (was.unstarted ((world.hosts i).generation + 1) (omega arith))
 
-    done-host : (work : Work) → IsGiven world.sent (TheHost i) work → Done (host_step (world.hosts i) work)
+    done-host : (work : NodeWork) → IsGiven world.sent (TheHost i) work → Done (host_step (world.hosts i) work)
     done-host work given = walked-host world one i good Done (record {
       still = done-quiet (world.hosts i) [] refl (each-none BySelf);
       backs = λ master e from says at moved. done-backup (backup_takes (world.hosts i).backup from says)
@@ -171,7 +171,7 @@ module _ (P Q : List Message → ServerId → Master → Type 0) (led : IsLed P 
   abbrev After : World → Type 0
   After world = OfAll Q world.sent world.masters
 
-  led-node : (world : World) (one : Event) (node : NodeName) (work : Work) → GoodWorld world → Before world →
+  led-node : (world : World) (one : Event) (node : NodeName) (work : NodeWork) → GoodWorld world → Before world →
       IsGiven world.sent node work → After (node_done world one node work)
   led-node world one TheOutside work good p given = quiet-all world.sent (outside_sends work) world.masters p (outside-others work)
   led-node world one TheCoordinator work good p given =

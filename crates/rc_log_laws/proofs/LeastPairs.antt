@@ -6,7 +6,7 @@ use Rattle.rc_model.specs.Model.{ServerId, Pair, Addr, Server, Outside}
 use Rattle.rc_model.specs.Model.{Event, Message, Body, Commit, CommitOk}
 use Rattle.rc_model.specs.Model.{put_id, same_id, is_server, from_coordinator}
 use Rattle.rc_model.specs.Model.{is_below, greater_pair, begins_attempt}
-use Rattle.rc_model.specs.Model.{Work, Take}
+use Rattle.rc_model.specs.Model.{NodeWork, Deliver}
 use Rattle.rc_model.specs.Model.{outside_sends, coordinator_step, host_step, World, opening, NodeName, TheOutside, TheCoordinator}
 use Rattle.rc_model.specs.Model.{TheHost, Job, work_of, is_possible, node_done, job_done, step, replay_from, replay, pair_in, least_pair}
 use Rattle.rc_model.specs.Model.{In}
@@ -71,7 +71,8 @@ module _ (c : Coordinator) (H : Addr → Body → Type 0) where
     splits = λ table at tablet is holds inside unmarked room m. inl refl;
   }
 
-  pub told-step : (work : Work) → ((message : Message) → work ≡ Take message → H message.from message.body) → Told (coordinator_step c work)
+  pub told-step : (work : NodeWork) → ((message : Message) → work ≡ Deliver message → H message.from message.body) →
+      Told (coordinator_step c work)
   told-step work h = walked-step c H Same Told (any-stays c H Told (λ messages m. inl refl)) told-moves work h
 
 -- A world: each least pair is the first one, or was told
@@ -91,7 +92,7 @@ told-more sent messages m old new (inr there) (inl same) =
     inr (In-left (from_coordinator m (CommitOk new.seg new.epoch)) sent messages
     (subst (λ (pair : Pair). In (from_coordinator m (CommitOk pair.seg pair.epoch)) sent) (sym same) there))
 
-told-node : (world : World) (one : Event) (node : NodeName) (work : Work) → LeastTold world → LeastTold (node_done world one node work)
+told-node : (world : World) (one : Event) (node : NodeName) (work : NodeWork) → LeastTold world → LeastTold (node_done world one node work)
 told-node world one TheCoordinator work p m =
     told-more world.sent (coordinator_step world.coordinator work).1 m (world.coordinator.least m)
     ((coordinator_step world.coordinator work).0.least m) (p m) (told-step world.coordinator (λ _ _. Unit {0}) work (λ _ _. tt) m)

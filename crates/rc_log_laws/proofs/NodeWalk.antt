@@ -2,7 +2,7 @@
 -- keeps is kept by its whole steps.
 use Rattle.std.proofs.Common.{◌≡◌, ℕ, true, List, [], ◌∷◌, Option, Some, None, refl, sym, ap, ◌∙◌, subst}
 use Rattle.rc_model.specs.Model.{ServerId, Addr, Server, Outside, Event, Message, Body, put, is_server, to_coordinator, Backup}
-use Rattle.rc_model.specs.Model.{backup_takes, Master, master_takes, master_ticks, Work, Take, HostNode, coordinator_step, host_step}
+use Rattle.rc_model.specs.Model.{backup_takes, Master, master_takes, master_ticks, NodeWork, Deliver, HostNode, coordinator_step, host_step}
 use Rattle.rc_model.specs.Model.{server_of, is_for_backup, with_backup, with_master, server_takes, takes_if_running}
 use Rattle.rc_model.specs.Model.{ticks_if_running, next_server, starts_host, World, NodeName, TheCoordinator, TheHost}
 use Rattle.rc_model.specs.Model.{node_of, In}
@@ -33,8 +33,8 @@ may-hear sent masters hosts c good (Server y) (body.Replicas number rows) at = a
 may-hear sent masters hosts c good from _ at = tt
 
 -- what a node is given was sent to it
-abbrev pub IsGiven : List Message → NodeName → Work → Type 0
-IsGiven sent node (Take message) = In message sent × (node_of message.to ≡ node)
+abbrev pub IsGiven : List Message → NodeName → NodeWork → Type 0
+IsGiven sent node (Deliver message) = In message sent × (node_of message.to ≡ node)
 IsGiven sent node _ = Unit {0}
 
 -- an address of the coordinator, and one of a host's server
@@ -44,15 +44,15 @@ to-coordinator-is AtCoordinator e = refl
 to-coordinator-is Outside e = cc
 
 -- what the coordinator takes was sent to it
-pub taken-at : (sent : List Message) (work : Work) → IsGiven sent TheCoordinator work → (message : Message) → work ≡ Take message →
+pub taken-at : (sent : List Message) (work : NodeWork) → IsGiven sent TheCoordinator work → (message : Message) → work ≡ Deliver message →
     In (record { from = message.from; to = AtCoordinator; body = message.body }) sent
 taken-at sent work given message is =
-    let taken : IsGiven sent TheCoordinator (Take message) = subst (IsGiven sent TheCoordinator) is given in
+    let taken : IsGiven sent TheCoordinator (Deliver message) = subst (IsGiven sent TheCoordinator) is given in
     subst (λ (to : Addr). In (record { from = message.from; to = to; body = message.body }) sent)
     (to-coordinator-is message.to taken.1) taken.0
 
 -- so it moves
-pub coordinator-moved : (world : World) (work : Work) → GoodWorld world → IsGiven world.sent TheCoordinator work →
+pub coordinator-moved : (world : World) (work : NodeWork) → GoodWorld world → IsGiven world.sent TheCoordinator work →
     CoordinatorMoved world.sent world.coordinator (coordinator_step world.coordinator work)
 coordinator-moved world work good given =
     moved-step world.sent world.coordinator good.coordinator work
@@ -173,13 +173,13 @@ module _ (world : World) (one : Event) (i : ℕ) (good : GoodWorld world) where
     walked-timer (Some master) e = w.ticks master e
         (master_ticks_keeps world.sent (server_of (world.hosts i)) master (is-good master e) (is-fine master e))
 
-    pub walked-host : (work : Work) → IsGiven world.sent (TheHost i) work → D (host_step (world.hosts i) work)
-    walked-host (Take message) given = walked-delivery (world.hosts i).master refl message given.0
-    walked-host (Tick addr) given = walked-timer (world.hosts i).master refl
-    walked-host (Stop id) given = w.stops
+    pub walked-host : (work : NodeWork) → IsGiven world.sent (TheHost i) work → D (host_step (world.hosts i) work)
+    walked-host (Deliver message) given = walked-delivery (world.hosts i).master refl message given.0
+    walked-host Tick given = walked-timer (world.hosts i).master refl
+    walked-host Stop given = w.stops
     walked-host (Start kept) given = w.starts kept
     walked-host _ given = w.still
 
-  pub said-host : (P : List Message → Type 0) → HostSays world i P → (work : Work) → IsGiven world.sent (TheHost i) work →
+  pub said-host : (P : List Message → Type 0) → HostSays world i P → (work : NodeWork) → IsGiven world.sent (TheHost i) work →
       P (host_step (world.hosts i) work).1
   said-host P says work given = walked-host (λ after. P after.1) (host-says world i P says) work given

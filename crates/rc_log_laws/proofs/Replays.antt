@@ -5,7 +5,7 @@ use Rattle.std.proofs.lemmas.Bool.{and_parts, eqb-true}
 use Rattle.std.proofs.Math.Path.{fun_ext}
 use Rattle.rc_model.specs.Model.{ServerId, Server, Outside, Entry, Setup, Event, Message, Body, same_id, put, put_id}
 use Rattle.rc_model.specs.Model.{between, to_coordinator, Backup, backup_takes, Master, new_master, master_takes, master_ticks}
-use Rattle.rc_model.specs.Model.{Work, Take, HostNode}
+use Rattle.rc_model.specs.Model.{NodeWork, Deliver, HostNode}
 use Rattle.rc_model.specs.Model.{master_setup, is_for_clients, outside_can, server_of}
 use Rattle.rc_model.specs.Model.{with_backup, with_master, next_server, starts_host}
 use Rattle.rc_model.specs.Model.{coordinator_step, World, opening, NodeName, TheOutside, TheCoordinator}
@@ -33,6 +33,7 @@ use Rattle.rc_log_laws.proofs.Worlds.{Led, host_later-refl, coordinator_later-re
 use Rattle.rc_log_laws.proofs.MasterWorlds.{good-master}
 use Rattle.rc_log_laws.proofs.HostWorlds.{coordinator-still, good-backup, good-host}
 use Rattle.rc_model.proofs.Ids.{same_id-true}
+use Rattle.rc_model.proofs.Replays.{possible-job}
 use Rattle.rc_model.proofs.Tests.{true_false, either}
 
 -- a good world after another, and what it has more
@@ -96,16 +97,16 @@ good-none : (sent : List Message) (masters : ServerId → Master) (hosts : ℕ �
 good-none sent masters hosts c good = good-quiet sent [] masters hosts c c good quiet-none (coordinator_later-refl c)
     (λ m s e at. absurd at) (coordinator-still sent [] c good.coordinator) (λ message at. absurd at)
 
-good-outside : (world : World) (one : Event) (work : Work) → GoodWorld world → outside_can work ≡ true →
+good-outside : (world : World) (one : Event) (work : NodeWork) → GoodWorld world → outside_can work ≡ true →
     GoodStep world (node_done world one TheOutside work)
 good-outside world one (Ask to asked) good can = good-asked world.sent world.masters world.hosts world.coordinator to
     asked good (and_parts (is_for_clients asked) _ can).0
-good-outside world one (Take message) good can = good-none world.sent world.masters world.hosts world.coordinator good
+good-outside world one (Deliver message) good can = good-none world.sent world.masters world.hosts world.coordinator good
 good-outside world one _ good can = true_false (sym can)
 
 -- The coordinator
 
-good-coordinator-node : (world : World) (one : Event) (work : Work) → GoodWorld world →
+good-coordinator-node : (world : World) (one : Event) (work : NodeWork) → GoodWorld world →
     IsGiven world.sent TheCoordinator work → GoodStep world (node_done world one TheCoordinator work)
 good-coordinator-node world one work good given =
     good-coordinator world.sent world.masters world.hosts world.coordinator (coordinator_step world.coordinator work) good
@@ -267,7 +268,7 @@ module _ (world : World) (one : Event) (i : ℕ) (good : GoodWorld world) where
           world.coordinator one) (sym same) tt
       fine message (inr never) = absurd never
 
-  good-host-node : (work : Work) → IsGiven world.sent (TheHost i) work → GoodStep world (node_done world one (TheHost i) work)
+  good-host-node : (work : NodeWork) → IsGiven world.sent (TheHost i) work → GoodStep world (node_done world one (TheHost i) work)
   good-host-node work given = walked-host world one i good (λ after. GoodStep world (host_done world one i after)) (record {
     still = good-still;
     backs = λ master e from says at moved. good-backs (backup_takes (world.hosts i).backup from says) moved;
@@ -302,7 +303,7 @@ delivery-given : (sent : List Message) (found : Option Message) (job : Job) →
     IsGiven sent job.node job.work
 delivery-given sent None job was e = cc
 delivery-given sent (Some message) job was e =
-    let same : record { node = node_of message.to; work = Take message } ≡ job = cc in
+    let same : record { node = node_of message.to; work = Deliver message } ≡ job = cc in
     subst (λ (some : Job). IsGiven sent some.node some.work) same (was message refl, refl)
 
 of-job : (sent : List Message) (this job : Job) → IsGiven sent this.node this.work → Some this ≡ Some job → IsGiven sent job.node job.work
@@ -313,7 +314,7 @@ work_of-given sent (event.Deliver number) job e =
     delivery-given sent (slice_get sent number) job (λ message at. In-get sent number message at) e
 work_of-given sent _ job e = of-job sent _ job tt e
 
-good-node : (world : World) (one : Event) (node : NodeName) (work : Work) → GoodWorld world →
+good-node : (world : World) (one : Event) (node : NodeName) (work : NodeWork) → GoodWorld world →
     IsGiven world.sent node work → node_can world node work ≡ true → GoodStep world (node_done world one node work)
 good-node world one TheOutside work good given can = good-outside world one work good can
 good-node world one TheCoordinator work good given can = good-coordinator-node world one work good given
@@ -328,7 +329,7 @@ good-job world one (Some job) is good can = good-node world one job.node job.wor
 pub led-step : (world : World) (one : Event) → GoodWorld world → GoodStep world (step world one)
 led-step world one good =
     either (GoodStep world) (is_possible world one) (job_done world one (work_of world.sent one)) world
-    (λ can. good-job world one (work_of world.sent one) refl good can) (λ _. led-still world good)
+    (λ can. good-job world one (work_of world.sent one) refl good (possible-job world one can)) (λ _. led-still world good)
 
 pub good-step : (world : World) (one : Event) → GoodWorld world → GoodWorld (step world one)
 good-step world one good = (led-step world one good).good

@@ -3,13 +3,14 @@ use Rattle.std.proofs.Common.{◌≡◌, ℕ, true, List, [], ◌∷◌, ◌++�
 use Rattle.std.proofs.Common.{subst, inl, inr}
 use Rattle.std.proofs.Math.Seq.{drop-append_seam, drop-length}
 use Rattle.rc_model.specs.Model.{ServerId, Server, Outside, Event, Message, Body, Enlist, put_id}
-use Rattle.rc_model.specs.Model.{to_coordinator, Backup, backup_takes, Master, master_takes, master_ticks, Work}
+use Rattle.rc_model.specs.Model.{to_coordinator, Backup, backup_takes, Master, master_takes, master_ticks, NodeWork}
 use Rattle.rc_model.specs.Model.{HostNode, outside_sends, coordinator_step, server_of, host_step, with_backup}
 use Rattle.rc_model.specs.Model.{with_master, next_server, starts_host, World, NodeName}
 use Rattle.rc_model.specs.Model.{TheOutside, TheCoordinator, TheHost, Job, work_of, is_possible, host_done, node_done}
 use Rattle.rc_model.specs.Model.{job_done, step, In, is_for_clients, outside_can, node_can, is_possible_job}
 use Rattle.std.proofs.lemmas.Bool.{and_parts}
 use Rattle.rc_model.specs.Nodes.{Ask}
+use Rattle.rc_model.proofs.Replays.{possible-job}
 use Rattle.rc_model.proofs.Tests.{either}
 use Rattle.rc_model.proofs.Tables.{put-same, put_id-same}
 use Rattle.rc_step_laws.specs.Moves.{MasterMoved}
@@ -20,7 +21,7 @@ use Rattle.rc_log_laws.proofs.Replays.{GoodWorld, IsGiven, work_of-given}
 pub record EachSender (world : World) (P : World → Message → Type 0) : Type 0 where
   pub outside : (after : World) (to : ServerId) (asked : Body) → is_for_clients asked ≡ true →
       P after (record { from = Outside; to = Server to; body = asked })
-  pub coordinator : (after : World) (work : Work) (message : Message) → IsGiven world.sent TheCoordinator work →
+  pub coordinator : (after : World) (work : NodeWork) (message : Message) → IsGiven world.sent TheCoordinator work →
       In message (coordinator_step world.coordinator work).1 → P after message
   pub backup : (after : World) (i : ℕ) (given message : Message) → In given world.sent →
       given.to ≡ Server (server_of (world.hosts i)) →
@@ -59,11 +60,11 @@ module _ (world : World) (one : Event) (good : GoodWorld world) (P : World → M
           (each.outside (node_done world one TheOutside (Ask to asked)) to asked clients)
       by (inr never) = absurd never
 
-  of_outside : (work : Work) → outside_can work ≡ true → Since (node_done world one TheOutside work)
+  of_outside : (work : NodeWork) → outside_can work ≡ true → Since (node_done world one TheOutside work)
   of_outside (Ask to asked) can = of_asked to asked (and_parts (is_for_clients asked) _ can).0
   of_outside given can = nothing (node_done world one TheOutside given) refl
 
-  of_coordinator : (work : Work) → IsGiven world.sent TheCoordinator work → Since (node_done world one TheCoordinator work)
+  of_coordinator : (work : NodeWork) → IsGiven world.sent TheCoordinator work → Since (node_done world one TheCoordinator work)
   of_coordinator work given message at =
       each.coordinator (node_done world one TheCoordinator work) work message given
       (new world.sent (coordinator_step world.coordinator work).1 message at)
@@ -134,7 +135,7 @@ module _ (world : World) (one : Event) (good : GoodWorld world) (P : World → M
             (each.starts (host_done world one i (starts_host (world.hosts i) (next_server (world.hosts i)) kept)) i)
         by (inr never) = absurd never
 
-    of_host : (work : Work) → IsGiven world.sent (TheHost i) work → Done (host_step (world.hosts i) work)
+    of_host : (work : NodeWork) → IsGiven world.sent (TheHost i) work → Done (host_step (world.hosts i) work)
     of_host work given = walked-host world one i good Done (record {
       still = quiet (world.hosts i);
       backs = λ master e from says at moved.
@@ -146,7 +147,7 @@ module _ (world : World) (one : Event) (good : GoodWorld world) (P : World → M
       starts = of_starts;
     }) work given
 
-  of_node : (node : NodeName) (work : Work) → IsGiven world.sent node work → node_can world node work ≡ true →
+  of_node : (node : NodeName) (work : NodeWork) → IsGiven world.sent node work → node_can world node work ≡ true →
       Since (node_done world one node work)
   of_node TheOutside work given can = of_outside work can
   of_node TheCoordinator work given can = of_coordinator work given
@@ -161,4 +162,4 @@ module _ (world : World) (one : Event) (good : GoodWorld world) (P : World → M
   pub each-sent : (message : Message) → In message (drop (length world.sent) (step world one).sent) → P (step world one) message
   each-sent =
       either Since (is_possible world one) (job_done world one (work_of world.sent one)) world
-      (λ can. of_job (work_of world.sent one) refl can) (λ _. none world refl)
+      (λ can. of_job (work_of world.sent one) refl (possible-job world one can)) (λ _. none world refl)

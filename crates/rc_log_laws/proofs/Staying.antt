@@ -1,7 +1,7 @@
 -- What a server keeps of a master that it has fenced stays as it is.
 use Rattle.std.proofs.Common.{◌≡◌, ℕ, ◌≤◌, true, List, [], ◌∷◌, Option, Some, None, refl, sym, ◌∙◌, subst, arith}
-use Rattle.rc_model.specs.Model.{ServerId, Event, Message, is_server, Backup, backup_takes, Master, master_takes, master_ticks, Work}
-use Rattle.rc_model.specs.Model.{Take, HostNode, server_of, host_step, is_for_backup, with_backup, with_master, server_takes}
+use Rattle.rc_model.specs.Model.{ServerId, Event, Message, is_server, Backup, backup_takes, Master, master_takes, master_ticks, NodeWork}
+use Rattle.rc_model.specs.Model.{Deliver, HostNode, server_of, host_step, is_for_backup, with_backup, with_master, server_takes}
 use Rattle.rc_model.specs.Model.{takes_if_running, ticks_if_running, World, opening, NodeName, TheOutside, TheCoordinator, TheHost, Job}
 use Rattle.rc_model.specs.Model.{work_of, is_possible, node_done, job_done, step, replay_from, replay}
 use Rattle.rc_model.specs.Nodes.{Tick, Stop, Start}
@@ -69,16 +69,16 @@ stays-ticks : (host : HostNode) (found : Option Master) → StaysFenced host (ti
 stays-ticks host None = stays-still host
 stays-ticks host (Some master) = stays-master host (master_ticks master)
 
-stays-host : (host : HostNode) (work : Work) → StaysFenced host (host_step host work).0
-stays-host host (Take message) = stays-takes host host.master message
-stays-host host (Tick addr) = stays-ticks host host.master
-stays-host host (Stop id) = stays-same host (record host { master = None }) refl refl
+stays-host : (host : HostNode) (work : NodeWork) → StaysFenced host (host_step host work).0
+stays-host host (Deliver message) = stays-takes host host.master message
+stays-host host Tick = stays-ticks host host.master
+stays-host host Stop = stays-same host (record host { master = None }) refl refl
 stays-host host (Start kept) = record { generation = omega arith; kept = λ same. absurd (omega (arith, same)) }
 stays-host host _ = stays-still host
 
 -- A world
 
-stays-node : (world : World) (one : Event) (node : NodeName) (work : Work) (i : ℕ) →
+stays-node : (world : World) (one : Event) (node : NodeName) (work : NodeWork) (i : ℕ) →
     StaysFenced (world.hosts i) ((node_done world one node work).hosts i)
 stays-node world one TheOutside work i = stays-still (world.hosts i)
 stays-node world one TheCoordinator work i = stays-still (world.hosts i)

@@ -8,7 +8,7 @@ use Rattle.rc_types.specs.declared.messages.Message.{Message}
 use Rattle.rc_types.specs.declared.messages.Body.TheVariants.{CommitOk}
 use Rattle.rc_model.specs.Messages.{from_coordinator}
 use Rattle.rc_model.specs.Coordinator.{Coordinator}
-use Rattle.rc_model.specs.Nodes.{Work, coordinator_step}
+use Rattle.rc_model.specs.Nodes.{NodeWork, coordinator_step}
 use Rattle.rc_model.specs.World.{replay}
 use Rattle.rc_model.specs.Recovered.{least_pair}
 use Rattle.rc_model.specs.Headline.{In}
@@ -29,7 +29,7 @@ WasCommitted sent m s e = In (from_coordinator m (CommitOk s e)) sent
 
 -- in each of its steps the coordinator grants only to servers that are up
 abbrev pub EachGrantGoesToTheUp : Type 0
-EachGrantGoesToTheUp = (c : Coordinator) (work : Work) (m : ServerId) (s e : ℕ) →
+EachGrantGoesToTheUp = (c : Coordinator) (work : NodeWork) (m : ServerId) (s e : ℕ) →
     WasCommitted (coordinator_step c work).1 m s e → is_up c.servers m ≡ true
 
 -- what one event newly grants goes to a server that is up at that moment

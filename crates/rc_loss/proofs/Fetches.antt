@@ -5,7 +5,7 @@ use Rattle.std.proofs.lemmas.Bool.{and_parts, le-leb}
 use Rattle.std.specs.Prelude.{is_some}
 use Rattle.rc_model.specs.Model.{ServerId, Server, Row, PlanRow, Part, Setup, Event, Fetch, Data, Replicas}
 use Rattle.rc_model.specs.Model.{to_coordinator, between, Replica, Attempt, Master, replica_of, rows_of_replicas, is_in_part}
-use Rattle.rc_model.specs.Model.{row_of_replica, data_of, answers_fetch, HostNode, Take, host_step, runs, server_of, is_running_at}
+use Rattle.rc_model.specs.Model.{row_of_replica, data_of, answers_fetch, HostNode, Deliver, host_step, runs, server_of, is_running_at}
 use Rattle.rc_model.specs.Model.{takes_if_running, server_takes, replay, In}
 use Rattle.rc_types.specs.declared.messages.Body.TheVariants.{Plan as PlanBody}
 use Rattle.rc_types.specs.declared.ids.Addr.TheVariants.{Coordinator as AtCoordinator}
@@ -35,7 +35,7 @@ answers : (host : HostNode) (asker m holder : ServerId) (number seg len : ℕ) (
     host.master ≡ Some master → is_server (server_of host) (Server holder) ≡ true → host.backup.own ≡ holder →
     (host.backup.held m).fenced ≡ true → replica_of seg (host.backup.held m).replicas ≡ Some replica →
     nat_le len (length replica.entries) ≡ true →
-    (host_step host (Take (between asker holder (Fetch number m seg len part)))).1 ≡
+    (host_step host (Deliver (between asker holder (Fetch number m seg len part)))).1 ≡
     between holder asker (Data number seg part.term (filter (is_in_part part) (take len replica.entries))) ∷ []
 answers host asker m holder number seg len part replica master running here own fenced kept enough =
     ap (λ (found : Option Master). (takes_if_running host found (between asker holder (Fetch number m seg len part))).1) running

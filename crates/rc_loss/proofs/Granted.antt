@@ -201,7 +201,7 @@ module _ (setup : Setup) (events : List Event) (m crashed : ServerId) (number : 
   awaits = ap (λ (b : Bool). b && not (owns_term master.ownership state.part.term)) p.complete
       ∙ ap (λ (b : Bool). not b) p.unowned
 
-  told : In (to_coordinator m (Recovered number state.part.term)) (host_step host (Tick (Server m))).1
+  told : In (to_coordinator m (Recovered number state.part.term)) (host_step host Tick).1
   told = subst (λ (sent : List Message). In (to_coordinator m (Recovered number state.part.term)) sent)
       (sym (ap (λ (found : Option Master). (ticks_if_running host found).1) running))
       (subst (λ (message : Message). In message (master_ticks master).1)

@@ -4,7 +4,7 @@ use Rattle.std.proofs.Common.{slice_get}
 use Rattle.std.proofs.Common.{refl, sym, ap, ◌∙◌, subst, inl, inr}
 use Rattle.std.proofs.lemmas.Bool.{eqb-true}
 use Rattle.rc_model.specs.Model.{ServerId, Addr, Server, Outside, Event, Message, Body, Stored, Enlist, between, to_coordinator, put}
-use Rattle.rc_model.specs.Model.{is_server, Backup, backup_takes, restart, Log, Master, master_takes, master_ticks, Work, Take}
+use Rattle.rc_model.specs.Model.{is_server, Backup, backup_takes, restart, Log, Master, master_takes, master_ticks, NodeWork, Deliver}
 use Rattle.rc_model.specs.Model.{HostNode, server_of, host_step, next_server, starts_host, is_for_backup, with_backup, with_master}
 use Rattle.rc_model.specs.Model.{server_takes}
 use Rattle.rc_model.specs.Model.{takes_if_running, ticks_if_running, outside_sends, coordinator_step, World, NodeName, TheOutside}
@@ -53,7 +53,7 @@ same-start index i list kept nodes works = (let a : index ≡ i = cc in let b : 
     both : index ≡ i → list ≡ kept → event.Start index list ≡ event.Start i kept
     both p q j = event.Start (p j) (q j)
 
-abbrev is_start : Work → Bool
+abbrev is_start : NodeWork → Bool
 is_start (Start kept) = true
 is_start _ = false
 
@@ -64,7 +64,7 @@ start-work sent (event.Deliver number) i kept e = by (slice_get sent number) e
   where
     by : (found : Option Message) → delivery found ≡ Some (starting i kept) → event.Deliver number ≡ event.Start i kept
     by None e = cc
-    by (Some message) e = let never : ◌≡◌ {A = Work} (Take message) (Start kept) = same-work _ (starting i kept) e in cc
+    by (Some message) e = let never : ◌≡◌ {A = NodeWork} (Deliver message) (Start kept) = same-work _ (starting i kept) e in cc
 start-work sent (event.Start index list) i kept e =
     same-start index i list kept (same-node _ (starting i kept) e) (same-work _ (starting i kept) e)
 start-work sent _ i kept e = true_false (sym (ap is_start (same-work _ (starting i kept) e)))
@@ -84,10 +84,10 @@ ticks-same host None = refl
 ticks-same host (Some master) = refl
 
 -- a host's generation stays, but by a start
-host-work : (host : HostNode) (work : Work) →
+host-work : (host : HostNode) (work : NodeWork) →
     ((host_step host work).0.generation ≡ host.generation) ⊎ ((kept : List (ServerId × ℕ)) × (work ≡ Start kept))
-host-work host (Take message) = inl (takes-same host host.master message)
-host-work host (Tick addr) = inl (ticks-same host host.master)
+host-work host (Deliver message) = inl (takes-same host host.master message)
+host-work host Tick = inl (ticks-same host host.master)
 host-work host (Start kept) = inr (kept, refl)
 host-work host _ = inl refl
 
@@ -110,7 +110,7 @@ module _ (world : World) (one : Event) (i : ℕ) where
       new : HostNode
       new = (starts_host (world.hosts index) (next_server (world.hosts index)) kept).0
 
-  same-host : (index : ℕ) (work : Work) → work_of world.sent one ≡ Some (record { node = TheHost index; work = work }) →
+  same-host : (index : ℕ) (work : NodeWork) → work_of world.sent one ≡ Some (record { node = TheHost index; work = work }) →
       is_possible world one ≡ true → Same (node_done world one (TheHost index) work)
   same-host index work is possible =
       split (nat_eq index i) (λ e. here (eqb-true index i e) (host-work (world.hosts index) work))
@@ -125,10 +125,10 @@ module _ (world : World) (one : Event) (i : ℕ) where
           inl (ap (λ (host : HostNode). host.generation) (ap (put world.hosts index new) (sym same) ∙ put-same world.hosts index new)
           ∙ (stays ∙ ap (λ k. (world.hosts k).generation) same))
       here same (inr (kept, starts)) =
-          inr (subst (λ (w : Work). IsStart world one i (node_done world one (TheHost index) w)) (sym starts)
-          (started index kept same (is ∙ ap (λ (w : Work). Some (record { node = TheHost index; work = w })) starts) possible))
+          inr (subst (λ (w : NodeWork). IsStart world one i (node_done world one (TheHost index) w)) (sym starts)
+          (started index kept same (is ∙ ap (λ (w : NodeWork). Some (record { node = TheHost index; work = w })) starts) possible))
 
-  same-node_done : (node : NodeName) (work : Work) → work_of world.sent one ≡ Some (record { node = node; work = work }) →
+  same-node_done : (node : NodeName) (work : NodeWork) → work_of world.sent one ≡ Some (record { node = node; work = work }) →
       is_possible world one ≡ true → Same (node_done world one node work)
   same-node_done TheOutside work is possible = inl refl
   same-node_done TheCoordinator work is possible = inl refl
@@ -190,7 +190,7 @@ module _ (world : World) (one : Event) (good : GoodWorld world) (x : ServerId) (
     no-enlist (inl same) = is_said.not_enlist (ap (λ (message : Message). message.body) same)
     no-enlist (inr never) = never
 
-    by-host : (work : Work) → IsGiven world.sent (TheHost i) work → HostStands (host_step (world.hosts i) work)
+    by-host : (work : NodeWork) → IsGiven world.sent (TheHost i) work → HostStands (host_step (world.hosts i) work)
     by-host work given = walked-host world one i good HostStands (record {
       still = λ at. absurd at;
       backs = λ master is. by-backup;
@@ -200,7 +200,7 @@ module _ (world : World) (one : Event) (good : GoodWorld world) (x : ServerId) (
       starts = λ kept at. absurd (no-enlist at);
     }) work given
 
-    host-stands : (work : Work) → IsGiven world.sent (TheHost i) work → Stands (node_done world one (TheHost i) work)
+    host-stands : (work : NodeWork) → IsGiven world.sent (TheHost i) work → Stands (node_done world one (TheHost i) work)
     host-stands work given at =
         In-either message_said world.sent (host_step (world.hosts i) work).1 at (λ there. inl there)
         (λ new. (let p = by-host work given new in inr (there p.0 p.1)))
@@ -212,7 +212,7 @@ module _ (world : World) (one : Event) (good : GoodWorld world) (x : ServerId) (
             (good.hosts_are i).index) ∙
             put-same world.hosts i (host_step (world.hosts i) work).0)) p
 
-  no-outside : (work : Work) → In message_said (outside_sends work) → ⊥
+  no-outside : (work : NodeWork) → In message_said (outside_sends work) → ⊥
   no-outside (Ask addressee asked) (inl same) =
       (let never : ◌≡◌ {A = Addr} (Server x) Outside = ap (λ (message : Message). message.from) same in cc)
   no-outside (Ask addressee asked) (inr never) = never
@@ -221,7 +221,7 @@ module _ (world : World) (one : Event) (good : GoodWorld world) (x : ServerId) (
   from-coordinator : Server x ≡ AtCoordinator → ⊥
   from-coordinator same = cc
 
-  stands-node : (node : NodeName) (work : Work) → IsGiven world.sent node work → Stands (node_done world one node work)
+  stands-node : (node : NodeName) (work : NodeWork) → IsGiven world.sent node work → Stands (node_done world one node work)
   stands-node TheOutside work given = none-new (node_done world one TheOutside work) (outside_sends work) refl (no-outside work)
   stands-node TheCoordinator work given =
       none-new (node_done world one TheCoordinator work) (coordinator_step world.coordinator work).1 refl

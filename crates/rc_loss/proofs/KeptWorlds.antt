@@ -1,6 +1,7 @@
 -- What backups keep holds of each host after an event.
 use Rattle.std.proofs.Common.{◌≡◌, ℕ, List, [], Option, Some, None, refl}
-use Rattle.rc_model.specs.Model.{ServerId, Event, Message, is_server, Backup, backup_takes, Master, master_takes, Work, Take, HostNode}
+use Rattle.rc_model.specs.Model.{ServerId, Event, Message, is_server, Backup, backup_takes, Master, master_takes, NodeWork, Deliver}
+use Rattle.rc_model.specs.Model.{HostNode}
 use Rattle.rc_model.specs.Model.{server_of, host_step, is_for_backup, with_backup, with_master, server_takes, takes_if_running}
 use Rattle.rc_model.specs.Model.{ticks_if_running, World, NodeName, TheOutside, TheCoordinator, TheHost, Job, work_of, is_possible}
 use Rattle.rc_model.specs.Model.{node_done}
@@ -37,9 +38,9 @@ module _ (sent : List Message) (host : HostNode) (up : (m : ServerId) → Ascend
   kept-ticks None = all
   kept-ticks (Some master) = all
 
-  kept-host : (i : ℕ) (work : Work) → IsGiven sent (TheHost i) work → KeptAfter (host_step host work)
-  kept-host i (Take message) given = kept-takes host.master message given.0
-  kept-host i (Tick addr) given = kept-ticks host.master
+  kept-host : (i : ℕ) (work : NodeWork) → IsGiven sent (TheHost i) work → KeptAfter (host_step host work)
+  kept-host i (Deliver message) given = kept-takes host.master message given.0
+  kept-host i Tick given = kept-ticks host.master
   kept-host i (Start list) given = λ m. kept-restarted sent m list (host.backup.held m) (up m) (all m)
   kept-host i _ given = all
 
@@ -47,7 +48,7 @@ abbrev pub AllHosts : List Message → (ℕ → HostNode) → Type 0
 AllHosts sent hosts = (i : ℕ) → AllKept sent (hosts i).backup
 
 module _ (world : World) (one : Event) (good : GoodWorld world) (all : AllHosts world.sent world.hosts) where
-  kept-node : (node : NodeName) (work : Work) → IsGiven world.sent node work → AllHosts world.sent (node_done world one node work).hosts
+  kept-node : (node : NodeName) (work : NodeWork) → IsGiven world.sent node work → AllHosts world.sent (node_done world one node work).hosts
   kept-node TheOutside work given = all
   kept-node TheCoordinator work given = all
   kept-node (TheHost index) work given =

@@ -3,7 +3,8 @@ use Rattle.std.proofs.Common.{◌≡◌, ◌⊎◌, ℕ, ◌<◌, ◌≤◌, Boo
 use Rattle.std.proofs.Common.{refl, sym, ap, ◌∙◌, subst, inl, inr, arith}
 use Rattle.std.proofs.lemmas.List.{append-nil, append_assoc, length-map}
 use Rattle.rc_model.specs.Model.{ServerId, Addr, Server, Setup, Event, Member, Message, Stored, Enlist, between, to_coordinator, Backup}
-use Rattle.rc_model.specs.Model.{backup_takes, ids_of, Master, master_takes, master_ticks, factor_of, Work, HostNode, server_of, host_step}
+use Rattle.rc_model.specs.Model.{backup_takes, ids_of, Master, master_takes, master_ticks, factor_of, NodeWork, HostNode, server_of}
+use Rattle.rc_model.specs.Model.{host_step}
 use Rattle.rc_model.specs.Model.{next_server, with_backup, with_master, World, opening, NodeName, TheOutside, TheCoordinator, TheHost, Job}
 use Rattle.rc_model.specs.Model.{work_of, is_possible, with_last_view, host_done, node_done, job_done, step, replay, In}
 use Rattle.rc_types.specs.declared.ids.Addr.TheVariants.{Coordinator as AtCoordinator}
@@ -54,7 +55,7 @@ module _ (world : World) (one : Event) (good : GoodWorld world) (m : ServerId) w
         (let never : ◌≡◌ {A = Addr} (Server m) AtCoordinator = ap (λ (message : Message). message.to) same in cc)
     no-enlist x s e len closed (inr never) = never
 
-    done-host : (work : Work) → IsGiven world.sent (TheHost i) work → Done (host_step (world.hosts i) work)
+    done-host : (work : NodeWork) → IsGiven world.sent (TheHost i) work → Done (host_step (world.hosts i) work)
     done-host work given = walked-host world one i good Done (record {
       still = done-none (world.hosts i);
       backs = λ master is from says at moved. done-backup master is (backup_takes (world.hosts i).backup from says);
@@ -65,7 +66,7 @@ module _ (world : World) (one : Event) (good : GoodWorld world) (m : ServerId) w
           (to_coordinator (next_server (world.hosts i)) Enlist ∷ []) refl no-enlist;
     }) work given
 
-  either-node : (node : NodeName) (work : Work) → IsGiven world.sent node work → Either (node_done world one node work)
+  either-node : (node : NodeName) (work : NodeWork) → IsGiven world.sent node work → Either (node_done world one node work)
   either-node TheOutside work given = inl refl
   either-node TheCoordinator work given = inl refl
   either-node (TheHost i) work given = done-host i work given

@@ -12,7 +12,7 @@ use Rattle.rc_types.specs.declared.messages.Body.TheVariants.{Fetch, Data, Plan 
 use Rattle.rc_model.specs.Messages.{between}
 use Rattle.rc_model.specs.Replica.{Replica}
 use Rattle.rc_model.specs.Backup.{replica_of, is_in_part}
-use Rattle.rc_model.specs.Nodes.{HostNode, Take, host_step, is_running_at}
+use Rattle.rc_model.specs.Nodes.{HostNode, Deliver, host_step, is_running_at}
 use Rattle.rc_model.specs.World.{replay}
 use Rattle.rc_model.specs.Headline.{In}
 use Rattle.rc_log_laws.specs.WordClaims.{sent_after}
@@ -36,7 +36,7 @@ pub record HasItsData (host : HostNode) (asker : ServerId) (number : ℕ) (m : S
   pub replica : Replica
   pub kept : replica_of row.seg (host.backup.held m).replicas ≡ Some replica
   pub whole : row.len ≡ length replica.entries
-  pub answer : (host_step host (Take (fetch_of_row asker number m row part))).1 ≡ between row.holder asker
+  pub answer : (host_step host (Deliver (fetch_of_row asker number m row part))).1 ≡ between row.holder asker
       (Data number row.seg part.term (filter (is_in_part part) (take row.len replica.entries))) ∷ []
 
 -- a Fetch of a row that was planned is answered while its holder runs

@@ -28,7 +28,7 @@ pub record AwaitsOwn (setup : Setup) (events : List Event) (m : ServerId) (state
 -- master; and as long as that attempt is the current one and the server is up, its answer is the part's Own
 pub record WillBeGranted (setup : Setup) (events : List Event) (m crashed : ServerId) (number term : ℕ) : Type 0 where
   pub told : In (to_coordinator m (Recovered number term))
-      (host_step ((replay setup events).hosts m.index) (Tick (Server m))).1
+      (host_step ((replay setup events).hosts m.index) Tick).1
   pub granted : (replay setup events).coordinator.current crashed ≡ number →
       is_up (replay setup events).coordinator.servers m ≡ true →
       IsAnsweredByOwn (replay setup events).coordinator m number term

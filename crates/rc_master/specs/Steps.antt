@@ -9,11 +9,5 @@ use Rattle.rc_model.specs.MasterStep.{master_takes, master_ticks}
 -- what isn't a message or the timer is for other nodes, and does nothing here
 abbrev pub steps : Master → NodeWork → Master × List Message
 steps master (work.Deliver message) = master_takes master message.from message.body
-steps master (work.Ask to body) = (master, [])
 steps master work.Tick = master_ticks master
-steps master work.Stop = (master, [])
-steps master (work.Start kept) = (master, [])
-steps master (work.Suspect id) = (master, [])
-steps master (work.Decide id) = (master, [])
-steps master (work.Create table owner) = (master, [])
-steps master (work.Split table at) = (master, [])
+steps master _ = (master, [])

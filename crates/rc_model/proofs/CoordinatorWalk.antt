@@ -16,7 +16,7 @@ use Rattle.rc_model.specs.Model.{up_of_host, follows_generation, enlists, notes_
 use Rattle.rc_model.specs.Model.{commits_pair, is_current, with_answer, keeps_answer_in, ready_ids, decision_of, decides_on, decides_with}
 use Rattle.rc_model.specs.Model.{decides_attempt, own_body, range_of, grant_of, grant_to, part_of_sender, grants_part}
 use Rattle.rc_model.specs.Model.{takes_recovered, creates_table, is_too_many, creates, split_fault}
-use Rattle.rc_model.specs.Model.{has_open_part, asks_again, asks_again_of, coordinator_ticks, coordinator_takes, Work, Take, Create}
+use Rattle.rc_model.specs.Model.{has_open_part, asks_again, asks_again_of, coordinator_ticks, coordinator_takes, NodeWork, Deliver, Create}
 use Rattle.rc_model.specs.Model.{Split, coordinator_step}
 use Rattle.rc_types.specs.declared.rows.Plan.{Plan}
 use Rattle.rc_types.specs.declared.messages.Body.TheVariants.{Plan as PlanBody}
@@ -281,10 +281,10 @@ module _ (c : Coordinator) (H : Addr → Body → Type 0) (N M : Coordinator × 
   walked-takes (Server from) (Recovered attempt term) h = walked-recovered from attempt term h
   walked-takes from body h = w.done c [] w.same
 
-  pub walked-step : (work : Work) → ((message : Message) → work ≡ Take message → H message.from message.body) →
+  pub walked-step : (work : NodeWork) → ((message : Message) → work ≡ Deliver message → H message.from message.body) →
       M (coordinator_step c work)
-  walked-step (Take message) h = walked-takes message.from message.body (h message refl)
-  walked-step (Tick addr) h = s.ticks
+  walked-step (Deliver message) h = walked-takes message.from message.body (h message refl)
+  walked-step Tick h = s.ticks
   walked-step (Suspect id) h = walked-suspects id
   walked-step (Decide id) h = walked-decides id (attempt_at c (c.current id)) refl
   walked-step (Create table owner) h = walked-creates table owner

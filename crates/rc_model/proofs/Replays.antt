@@ -1,13 +1,13 @@
 -- How a world goes on.
-use Rattle.std.proofs.Common.{◌≡◌, ℕ, ◌≤◌, Bool, true, false, cond, nat_eq, List, [], ◌∷◌, ◌++◌, Option, Some, None}
+use Rattle.std.proofs.Common.{◌≡◌, ℕ, ◌≤◌, Bool, true, false, cond, nat_eq, ◌&&◌, List, [], ◌∷◌, ◌++◌, Option, Some, None}
 use Rattle.std.proofs.Common.{refl, sym, ap, ◌∙◌, arith}
-use Rattle.std.proofs.lemmas.Bool.{eqb-true}
+use Rattle.std.proofs.lemmas.Bool.{eqb-true, and_parts}
 use Rattle.std.proofs.lemmas.List.{append-nil}
-use Rattle.rc_model.specs.Model.{Event, Message, is_server, backup_takes, Master, master_takes, Work, Take, HostNode}
+use Rattle.rc_model.specs.Model.{Event, Message, is_server, backup_takes, Master, master_takes, NodeWork, Deliver, HostNode}
 use Rattle.rc_model.specs.Model.{host_step, coordinator_step, is_for_backup, with_backup, with_master, server_takes, server_of}
 use Rattle.rc_model.specs.Model.{takes_if_running, ticks_if_running, World, NodeName, TheOutside, TheCoordinator, TheHost, Job, same_node}
-use Rattle.rc_model.specs.Model.{step, is_possible, is_possible_job, node_done, job_done, replay_from, work_of, work_if_for, work_in}
-use Rattle.rc_model.specs.Model.{works_of, host_after, coordinator_after}
+use Rattle.rc_model.specs.Model.{step, is_possible, is_possible_job, runs_as_named, node_done, job_done, replay_from}
+use Rattle.rc_model.specs.Model.{work_of, work_if_for, work_in, works_of, host_after, coordinator_after}
 use Rattle.rc_model.specs.Coordinator.{Coordinator}
 use Rattle.rc_model.specs.Nodes.{Tick}
 use Rattle.rc_model.proofs.Tests.{either, true_false}
@@ -22,7 +22,13 @@ replay_from-push world (first ∷ events) event = replay_from-push (step world f
 pub step-impossible : (world : World) (event : Event) → is_possible world event ≡ false → step world event ≡ world
 step-impossible world event not_possible = ap (λ b. cond b (job_done world event (work_of world.sent event)) world) not_possible
 
-noted_node : (world : World) (event : Event) (node : NodeName) (work : Work) →
+-- a possible event is a job that its node can be given
+pub possible-job : (world : World) (event : Event) → is_possible world event ≡ true →
+    is_possible_job world (work_of world.sent event) ≡ true
+possible-job world event possible =
+    (and_parts (runs_as_named world event) (is_possible_job world (work_of world.sent event)) possible).1
+
+noted_node : (world : World) (event : Event) (node : NodeName) (work : NodeWork) →
     (node_done world event node work).events ≡ world.events ++ event ∷ []
 noted_node world event TheOutside work = refl
 noted_node world event TheCoordinator work = refl
@@ -33,15 +39,15 @@ noted_job : (world : World) (event : Event) (job : Option Job) → is_possible_j
 noted_job world event None possible = true_false (sym possible)
 noted_job world event (Some job) possible = noted_node world event job.node job.work
 
-noted_if : (world : World) (event : Event) (job : Option Job) (b : Bool) → is_possible_job world job ≡ b →
+noted_if : (world : World) (event : Event) (job : Option Job) (named b : Bool) → (named && is_possible_job world job) ≡ b →
     (cond b (job_done world event job) world).events ≡ cond b (world.events ++ event ∷ []) world.events
-noted_if world event job true possible = noted_job world event job possible
-noted_if world event job false possible = refl
+noted_if world event job named true possible = noted_job world event job (and_parts named (is_possible_job world job) possible).1
+noted_if world event job named false possible = refl
 
 -- an event that is possible is noted, and nothing else is
 pub noted : (world : World) (event : Event) →
     (step world event).events ≡ cond (is_possible world event) (world.events ++ event ∷ []) world.events
-noted world event = noted_if world event (work_of world.sent event) (is_possible world event) refl
+noted world event = noted_if world event (work_of world.sent event) (runs_as_named world event) (is_possible world event) refl
 
 -- the later world has sent what the earlier one has, and more
 abbrev pub HasSentMore : World → World → Type 0
@@ -50,7 +56,7 @@ HasSentMore old new = (more : List Message) × (new.sent ≡ old.sent ++ more)
 sent_more-same : (world : World) → HasSentMore world world
 sent_more-same world = ([], sym (append-nil world.sent))
 
-sent_more-node : (world : World) (event : Event) (node : NodeName) (work : Work) → HasSentMore world (node_done world event node work)
+sent_more-node : (world : World) (event : Event) (node : NodeName) (work : NodeWork) → HasSentMore world (node_done world event node work)
 sent_more-node world event TheOutside work = (_, refl)
 sent_more-node world event TheCoordinator work = (_, refl)
 sent_more-node world event (TheHost index) work = (_, refl)
@@ -67,7 +73,7 @@ sent_more-step world event =
 
 -- A node's own works
 
-host_of_node : (world : World) (event : Event) (index : ℕ) (node : NodeName) (work : Work) →
+host_of_node : (world : World) (event : Event) (index : ℕ) (node : NodeName) (work : NodeWork) →
     (node_done world event node work).hosts index ≡ host_after (world.hosts index) (cond (same_node node (TheHost index)) (work ∷ []) [])
 host_of_node world event index TheOutside work = refl
 host_of_node world event index TheCoordinator work = refl
@@ -93,7 +99,7 @@ pub host_step-own : (world : World) (event : Event) (index : ℕ) →
     (step world event).hosts index ≡ host_after (world.hosts index) (work_in (TheHost index) world event)
 host_step-own world event index = host_if world event index (work_of world.sent event) (is_possible world event)
 
-host_after-append : (host : HostNode) (works others : List Work) →
+host_after-append : (host : HostNode) (works others : List NodeWork) →
     host_after host (works ++ others) ≡ host_after (host_after host works) others
 host_after-append host [] others = refl
 host_after-append host (work ∷ works) others = host_after-append (host_step host work).0 works others
@@ -108,7 +114,7 @@ hosts-follow world (event ∷ events) index =
     ∙ sym (host_after-append (world.hosts index) (work_in (TheHost index) world event)
     (works_of (TheHost index) (step world event) events)))
 
-coordinator_of_node : (world : World) (event : Event) (node : NodeName) (work : Work) →
+coordinator_of_node : (world : World) (event : Event) (node : NodeName) (work : NodeWork) →
     (node_done world event node work).coordinator ≡ coordinator_after world.coordinator
     (cond (same_node node TheCoordinator) (work ∷ []) [])
 coordinator_of_node world event TheOutside work = refl
@@ -130,7 +136,7 @@ pub coordinator_step-own : (world : World) (event : Event) →
     (step world event).coordinator ≡ coordinator_after world.coordinator (work_in TheCoordinator world event)
 coordinator_step-own world event = coordinator_if world event (work_of world.sent event) (is_possible world event)
 
-coordinator_after-append : (c : Coordinator) (works others : List Work) →
+coordinator_after-append : (c : Coordinator) (works others : List NodeWork) →
     coordinator_after c (works ++ others) ≡ coordinator_after (coordinator_after c works) others
 coordinator_after-append c [] others = refl
 coordinator_after-append c (work ∷ works) others = coordinator_after-append (coordinator_step c work).0 works others
@@ -168,14 +174,14 @@ ticks-generation host None = refl
 ticks-generation host (Some master) = refl
 
 -- a host's work never lowers its generation
-pub generation-step : (host : HostNode) (work : Work) → host.generation ≤ (host_step host work).0.generation
-generation-step host (Take message) = let e : (takes_if_running host host.master message).0.generation ≡ host.generation
+pub generation-step : (host : HostNode) (work : NodeWork) → host.generation ≤ (host_step host work).0.generation
+generation-step host (Deliver message) = let e : (takes_if_running host host.master message).0.generation ≡ host.generation
     = takes-generation host host.master message in omega arith
-generation-step host (Tick addr) = let e : (ticks_if_running host host.master).0.generation ≡ host.generation =
+generation-step host Tick = let e : (ticks_if_running host host.master).0.generation ≡ host.generation =
     ticks-generation host host.master in omega arith
 generation-step host _ = omega arith
 
-generation-after : (host : HostNode) (works : List Work) → host.generation ≤ (host_after host works).generation
+generation-after : (host : HostNode) (works : List NodeWork) → host.generation ≤ (host_after host works).generation
 generation-after host [] = omega arith
 generation-after host (work ∷ works) =
     let first : host.generation ≤ (host_step host work).0.generation = generation-step host work in

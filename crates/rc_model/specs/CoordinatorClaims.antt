@@ -12,7 +12,7 @@ use Rattle.rc_model.specs.Pick.{is_below}
 use Rattle.rc_model.specs.Attempts.{Attempt}
 use Rattle.rc_model.specs.Coordinator.{Coordinator, refuses_server, attempt_at, commits_pair}
 use Rattle.rc_model.specs.Deciding.{is_current, grant_to, takes_recovered}
-use Rattle.rc_model.specs.Nodes.{Work, coordinator_step}
+use Rattle.rc_model.specs.Nodes.{NodeWork, coordinator_step}
 use Rattle.rc_model.specs.Headline.{In}
 
 -- a least pair never falls, and is at least what is committed
@@ -48,6 +48,6 @@ is_granting _ = false
 
 -- in each of its works, a Create too, the coordinator sends such a message only to an id that is up
 abbrev pub GrantsGoOnlyToTheUp : Type 0
-GrantsGoOnlyToTheUp = (c : Coordinator) (work : Work) (message : Message) (id : ServerId) →
+GrantsGoOnlyToTheUp = (c : Coordinator) (work : NodeWork) (message : Message) (id : ServerId) →
     In message (coordinator_step c work).1 → is_granting message.body ≡ true → message.to ≡ Server id →
     is_up c.servers id ≡ true

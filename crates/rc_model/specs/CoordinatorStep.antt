@@ -59,7 +59,8 @@ split_fault tablets at (Some tablet) =
 -- a split of the tablet that holds the key
 abbrev pub splits : Coordinator → ℕ → ℕ → Coordinator × List Message
 splits c table at =
-    let split = (record c { tablets = split_at table at c.tablets }, coordinator_tells (SplitOk table at) ∷ []) in
+    let split : Coordinator × List Message =
+    (record c { tablets = split_at table at c.tablets }, coordinator_tells (SplitOk table at) ∷ []) in
     let fault = split_fault c.tablets at (tablet_of c.tablets table at) in
     option_map_or (λ why. (c, coordinator_refuses why ∷ [])) fault split
 

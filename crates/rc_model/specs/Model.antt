@@ -8,7 +8,6 @@ pub use Rattle.rc_types.specs.Counts.{within_64_bits}
 pub use Rattle.rc_types.specs.Texts.{addr_text, id_text}
 pub use Rattle.rc_types.specs.declared.entries.Entry.{Entry}
 pub use Rattle.rc_types.specs.declared.events.Event.{Event}
-pub use Rattle.rc_types.specs.declared.events.Event.TheVariants.{Deliver}
 pub use Rattle.rc_types.specs.declared.events.NodeWork.{NodeWork}
 pub use Rattle.rc_types.specs.declared.events.Setup.{Setup}
 pub use Rattle.rc_types.specs.declared.faults.Code.{Code}
@@ -118,7 +117,7 @@ pub use Rattle.rc_model.specs.MasterTick.{reminds_shut_members, standing, stood,
 pub use Rattle.rc_model.specs.Measure.{closes_unsent, commits_unsent, measure, one_if, parts_unanswered, rank}
 pub use Rattle.rc_model.specs.Messages.{between, coordinator_refuses, coordinator_tells, from_coordinator, refuses}
 pub use Rattle.rc_model.specs.Messages.{to_coordinator, to_each, to_outside}
-pub use Rattle.rc_model.specs.Nodes.{Create, HostNode, Split, Take, Work, coordinator_can, coordinator_step}
+pub use Rattle.rc_model.specs.Nodes.{Create, HostNode, Split, Deliver, NodeWork, coordinator_can, coordinator_step}
 pub use Rattle.rc_model.specs.Nodes.{factor_of, host_can, host_step, is_for_backup, is_for_clients, is_running_at}
 pub use Rattle.rc_model.specs.Nodes.{master_setup, new_host, next_server, outside_can, outside_sends, runs, server_of}
 pub use Rattle.rc_model.specs.Nodes.{server_takes, starts_host, takes_if_running, ticks_if_running, with_backup}
@@ -161,6 +160,7 @@ pub use Rattle.rc_model.specs.Versions.{next_version, or_greater, read_of}
 pub use Rattle.rc_model.specs.Works.{coordinator_after, host_after, work_if_for, work_in, works_of}
 pub use Rattle.rc_model.specs.World.{Job, NodeName, TheCoordinator, TheHost, TheOutside, World, coordinator_done}
 pub use Rattle.rc_model.specs.World.{delivery, host_done, is_possible, is_possible_job, job_done, master_of, node_can}
+pub use Rattle.rc_model.specs.World.{runs_as_named, server_named}
 pub use Rattle.rc_model.specs.World.{node_done, node_of, opening, replay, replay_from, same_node, step}
 pub use Rattle.rc_model.specs.World.{with_last_view, work_of}
 pub use Rattle.rc_model.specs.WorldClaims.{CoordinatorFollowsItsWorks, EachNodeIsTheSame, GenerationsNeverFall}

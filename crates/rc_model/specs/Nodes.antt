@@ -7,6 +7,10 @@ use Rattle.rc_types.specs.declared.ids.ServerId.{ServerId}
 use Rattle.rc_types.specs.declared.ids.Addr.{Addr}
 use Rattle.rc_types.specs.declared.ids.Addr.TheVariants.{Server, Outside}
 use Rattle.rc_types.specs.declared.events.Setup.{Setup}
+-- what a node is given
+pub use Rattle.rc_types.specs.declared.events.NodeWork.{NodeWork}
+pub use Rattle.rc_types.specs.declared.events.NodeWork.TheVariants.{Ask, Deliver, Tick, Stop, Start, Suspect, Decide}
+pub use Rattle.rc_types.specs.declared.events.NodeWork.TheVariants.{Create, Split}
 use Rattle.rc_types.specs.declared.limits.TheConstants.{MAX_HOSTS}
 use Rattle.rc_types.specs.declared.messages.Message.{Message}
 use Rattle.rc_types.specs.declared.messages.Body.{Body}
@@ -21,18 +25,6 @@ use Rattle.rc_model.specs.Coordinator.{Coordinator, suspects}
 use Rattle.rc_model.specs.Deciding.{decides}
 use Rattle.rc_model.specs.CoordinatorStep.{creates, splits, coordinator_ticks, coordinator_takes}
 
--- what a node is given
-pub data Work : Type 0 where
-  Ask : (to : ServerId) → (body : Body) → Work
-  Take : (message : Message) → Work
-  Tick : (addr : Addr) → Work
-  Stop : (id : ServerId) → Work
-  Start : (kept : List (ServerId × ℕ)) → Work
-  Suspect : (id : ServerId) → Work
-  Decide : (id : ServerId) → Work
-  Create : (table : ℕ) → (owner : ServerId) → Work
-  Split : (table : ℕ) → (at : ℕ) → Work
-
 -- The outside: it asks servers to write and to read, and takes answers without a word
 
 abbrev pub is_for_clients : Body → Bool
@@ -40,29 +32,29 @@ is_for_clients (Write table key value) = true
 is_for_clients (Read table key) = true
 is_for_clients _ = false
 
-abbrev pub outside_can : Work → Bool
+abbrev pub outside_can : NodeWork → Bool
 outside_can (Ask to body) = is_for_clients body && nat_lt to.index MAX_HOSTS
-outside_can (Take message) = true
+outside_can (Deliver message) = true
 outside_can _ = false
 
-abbrev pub outside_sends : Work → List Message
+abbrev pub outside_sends : NodeWork → List Message
 outside_sends (Ask to body) = record { from = Outside; to = Server to; body = body } ∷ []
 outside_sends _ = []
 
 -- The coordinator
 
-abbrev pub coordinator_can : Work → Bool
-coordinator_can (Take message) = true
-coordinator_can (Tick addr) = true
+abbrev pub coordinator_can : NodeWork → Bool
+coordinator_can (Deliver message) = true
+coordinator_can Tick = true
 coordinator_can (Suspect id) = true
 coordinator_can (Decide id) = true
 coordinator_can (Create table owner) = true
 coordinator_can (Split table at) = true
 coordinator_can _ = false
 
-abbrev pub coordinator_step : Coordinator → Work → Coordinator × List Message
-coordinator_step c (Take message) = coordinator_takes c message.from message.body
-coordinator_step c (Tick addr) = (c, coordinator_ticks c)
+abbrev pub coordinator_step : Coordinator → NodeWork → Coordinator × List Message
+coordinator_step c (Deliver message) = coordinator_takes c message.from message.body
+coordinator_step c Tick = (c, coordinator_ticks c)
 coordinator_step c (Suspect id) = suspects c id
 coordinator_step c (Decide id) = decides c id
 coordinator_step c (Create table owner) = creates c table owner
@@ -101,10 +93,10 @@ runs host = is_some host.master
 abbrev pub is_running_at : HostNode → Addr → Bool
 is_running_at host addr = runs host && is_server (server_of host) addr
 
-abbrev pub host_can : HostNode → Work → Bool
-host_can host (Take message) = true
-host_can host (Tick addr) = is_running_at host addr
-host_can host (Stop id) = is_running_at host (Server id)
+abbrev pub host_can : HostNode → NodeWork → Bool
+host_can host (Deliver message) = true
+host_can host Tick = runs host
+host_can host Stop = runs host
 host_can host (Start kept) = nat_lt host.index MAX_HOSTS && (if runs host then false else true)
 host_can host _ = false
 
@@ -149,9 +141,9 @@ abbrev pub next_server : HostNode → ServerId
 next_server host = record { index = host.index; generation = host.generation + 1 }
 
 -- a message to an id that isn't running does nothing; a stop sends nothing, and the host keeps its replicas
-abbrev pub host_step : HostNode → Work → HostNode × List Message
-host_step host (Take message) = takes_if_running host host.master message
-host_step host (Tick addr) = ticks_if_running host host.master
-host_step host (Stop id) = (record host { master = None }, [])
+abbrev pub host_step : HostNode → NodeWork → HostNode × List Message
+host_step host (Deliver message) = takes_if_running host host.master message
+host_step host Tick = ticks_if_running host host.master
+host_step host Stop = (record host { master = None }, [])
 host_step host (Start kept) = starts_host host (next_server host) kept
 host_step host _ = (host, [])

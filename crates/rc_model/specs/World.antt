@@ -1,9 +1,10 @@
 -- The world: all nodes, and all messages ever sent. An event is one input, taken by one node.
-use Rattle.std.specs.Prelude.{ℕ, Bool, true, false, nat_eq, if◌then◌else◌, List, [], ◌∷◌, ◌++◌, Option, Some}
-use Rattle.std.specs.Prelude.{slice_get, option_map}
+use Rattle.std.specs.Prelude.{ℕ, Bool, true, false, nat_eq, ◌&&◌, if◌then◌else◌, List, [], ◌∷◌, ◌++◌, Option, Some}
+use Rattle.std.specs.Prelude.{None, slice_get, option_map}
 use Rattle.std.specs.Option.{option_map_or}
 use Rattle.std.specs.List.{fold}
 use Rattle.rc_types.specs.declared.ids.ServerId.{ServerId}
+use Rattle.rc_types.specs.declared.ids.Addr.TheVariants.{Server}
 pub use Rattle.rc_types.specs.declared.ids.NodeName.{NodeName}
 pub use Rattle.rc_types.specs.declared.ids.NodeName.TheVariants.{Outside as TheOutside, Coordinator as TheCoordinator}
 pub use Rattle.rc_types.specs.declared.ids.NodeName.TheVariants.{Host as TheHost}
@@ -15,9 +16,9 @@ use Rattle.rc_types.specs.declared.messages.Message.{Message}
 use Rattle.rc_model.specs.Tables.{put, put_id}
 use Rattle.rc_model.specs.Master.{Master, new_master}
 use Rattle.rc_model.specs.Coordinator.{Coordinator, new_coordinator}
-use Rattle.rc_model.specs.Nodes.{Work, Ask, Take, Tick, Stop, Start, Suspect, Decide, Create, Split, HostNode}
+use Rattle.rc_model.specs.Nodes.{NodeWork, Ask, Deliver, Tick, Stop, Start, Suspect, Decide, Create, Split, HostNode}
 use Rattle.rc_model.specs.Nodes.{new_host, master_setup, outside_can, outside_sends, coordinator_can}
-use Rattle.rc_model.specs.Nodes.{coordinator_step, host_can, host_step}
+use Rattle.rc_model.specs.Nodes.{coordinator_step, host_can, host_step, is_running_at}
 
 pub record World : Type 0 where
   pub setup : Setup
@@ -49,18 +50,18 @@ same_node _ _ = false
 
 pub record Job : Type 0 where
   pub node : NodeName
-  pub work : Work
+  pub work : NodeWork
 
 -- the delivery of a message, where it was sent
 abbrev pub delivery : Option Message → Option Job
-delivery sent = option_map (λ message. record { node = node_of message.to; work = Take message }) sent
+delivery sent = option_map (λ message. record { node = node_of message.to; work = Deliver message }) sent
 
 -- the job of an event, given what was sent; none where it delivers what was not
 abbrev pub work_of : List Message → Event → Option Job
 work_of sent (event.Ask to body) = Some (record { node = TheOutside; work = Ask to body })
 work_of sent (event.Deliver number) = delivery (slice_get sent number)
-work_of sent (event.Tick addr) = Some (record { node = node_of addr; work = Tick addr })
-work_of sent (event.Stop id) = Some (record { node = TheHost id.index; work = Stop id })
+work_of sent (event.Tick addr) = Some (record { node = node_of addr; work = Tick })
+work_of sent (event.Stop id) = Some (record { node = TheHost id.index; work = Stop })
 work_of sent (event.Start host kept) = Some (record { node = TheHost host; work = Start kept })
 work_of sent (event.Suspect id) = Some (record { node = TheCoordinator; work = Suspect id })
 work_of sent (event.Decide id) = Some (record { node = TheCoordinator; work = Decide id })
@@ -68,17 +69,28 @@ work_of sent (event.Create table owner) = Some (record { node = TheCoordinator; 
 work_of sent (event.Split table at) = Some (record { node = TheCoordinator; work = Split table at })
 
 -- whether the node can be given this now
-abbrev pub node_can : World → NodeName → Work → Bool
+abbrev pub node_can : World → NodeName → NodeWork → Bool
 node_can world TheOutside work = outside_can work
 node_can world TheCoordinator work = coordinator_can work
 node_can world (TheHost index) work = host_can (world.hosts index) work
+
+-- the server whose timer goes off, or that stops
+abbrev pub server_named : Event → Option ServerId
+server_named (event.Tick (Server id)) = Some id
+server_named (event.Stop id) = Some id
+server_named _ = None
+
+-- a server that is named runs
+abbrev pub runs_as_named : World → Event → Bool
+runs_as_named world event =
+    option_map_or (λ id. is_running_at (world.hosts id.index) (Server id)) (server_named event) true
 
 abbrev pub is_possible_job : World → Option Job → Bool
 is_possible_job world found = option_map_or (λ job. node_can world job.node job.work) found false
 
 -- the event is possible in this world
 abbrev pub is_possible : World → Event → Bool
-is_possible world event = is_possible_job world (work_of world.sent event)
+is_possible world event = runs_as_named world event && is_possible_job world (work_of world.sent event)
 
 -- The step
 
@@ -103,7 +115,7 @@ abbrev pub host_done : World → Event → ℕ → HostNode × List Message → 
 host_done world event index (host, messages) = happened event messages (with_host world index host)
 
 -- one node takes its work: its state changes, and its messages are added to those sent
-abbrev pub node_done : World → Event → NodeName → Work → World
+abbrev pub node_done : World → Event → NodeName → NodeWork → World
 node_done world event TheOutside work = happened event (outside_sends work) world
 node_done world event TheCoordinator work = coordinator_done world event (coordinator_step world.coordinator work)
 node_done world event (TheHost index) work = host_done world event index (host_step (world.hosts index) work)

@@ -7,7 +7,7 @@ use Rattle.rc_model.specs.Model.{put_id, ServerList, is_up, enlisted, crashed}
 use Rattle.rc_model.specs.Model.{id_crashed, up, whole_table, tablets_of, assigned, marked_crashed, split_at, greater_pair}
 use Rattle.rc_model.specs.Model.{Attempt, Decision, plan_messages, new_coordinator, refuses_server, list_body, spreads_list}
 use Rattle.rc_model.specs.Model.{begins_attempt, with_attempt, with_answer, decision_of, decides_on, own_body, range_of}
-use Rattle.rc_model.specs.Model.{grant_of, first_grant, coordinator_ticks, creates_table, is_too_many, Work, coordinator_step, Pair}
+use Rattle.rc_model.specs.Model.{grant_of, first_grant, coordinator_ticks, creates_table, is_too_many, NodeWork, coordinator_step, Pair}
 use Rattle.rc_types.specs.declared.rows.Plan.{Plan}
 use Rattle.rc_model.specs.Coordinator.{Coordinator}
 use Rattle.rc_model.proofs.Sending.{each-all}
@@ -213,7 +213,7 @@ module _ (c : Coordinator) (n : ℕ) (h : CoordinatorWithin n c) where
             (decision_of c (c.current master) attempt.master plan ids) ids;
       }
 
-pub coordinator-within : (c : Coordinator) (work : Work) (n : ℕ) → CoordinatorWithin n c → After n (coordinator_step c work)
+pub coordinator-within : (c : Coordinator) (work : NodeWork) (n : ℕ) → CoordinatorWithin n c → After n (coordinator_step c work)
 coordinator-within c work n h =
     walked-step c (λ _ _. Unit {0}) (Before n) (After n) (stays c n h) (moves c n h) work (λ _ _. tt)
 

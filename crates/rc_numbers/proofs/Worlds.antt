@@ -4,7 +4,8 @@ use Rattle.std.proofs.Common.{ℕ, nat_lt, ◌≡◌, ◌+◌, ◌≤◌, true, 
 use Rattle.std.proofs.lemmas.List.Elements.{All-nil}
 use Rattle.rc_model.specs.Model.{ServerId, Server, Outside, MAX_HOSTS, Setup, Event, Message, Body, Place, Append, Data, Enlist}
 use Rattle.rc_model.specs.Model.{is_server, to_coordinator, Backup, backup_takes, Master, MasterSetup, new_master, master_takes}
-use Rattle.rc_model.specs.Model.{master_ticks, Work, Take, HostNode, new_host, master_setup, is_for_clients, outside_can, outside_sends}
+use Rattle.rc_model.specs.Model.{master_ticks, NodeWork, Deliver, HostNode, new_host, master_setup, is_for_clients, outside_can}
+use Rattle.rc_model.specs.Model.{outside_sends}
 use Rattle.rc_model.specs.Model.{coordinator_step, server_of, host_step, is_for_backup, with_backup, with_master, server_takes}
 use Rattle.rc_model.specs.Model.{takes_if_running, ticks_if_running, starts_host, next_server, World, opening, NodeName, TheOutside}
 use Rattle.rc_model.specs.Model.{TheCoordinator, TheHost, Job, delivery, work_of, node_can, is_possible_job, is_possible, node_done}
@@ -17,6 +18,7 @@ use Rattle.rc_numbers.proofs.Entries.{All-get, body-more, messages-more, none-wi
 use Rattle.rc_numbers.proofs.Coordinators.{After, within-more, coordinator-within, new-within}
 use Rattle.rc_numbers.proofs.Masters.{Done, master-more, tick-done, takes-done}
 use Rattle.rc_numbers.proofs.Backups.{BackupDone, backup-done, restart-within, backup-more}
+use Rattle.rc_model.proofs.Replays.{possible-job}
 use Rattle.rc_model.proofs.Tests.{either}
 use Rattle.rc_model.proofs.Tables.{put_each}
 
@@ -110,14 +112,15 @@ none-some : {P X : Type 0} {x : X} → None ≡ Some x → P
 none-some e = cc
 
 -- what a node is given is within n, where it was sent
-abbrev pub WorkWithin : ℕ → Work → Type 0
-WorkWithin n (Take message) = body_within n message.body
+abbrev pub WorkWithin : ℕ → NodeWork → Type 0
+WorkWithin n (Deliver message) = body_within n message.body
 WorkWithin n _ = Unit {0}
 
-pub host-within : (n : ℕ) (host : HostNode) (work : Work) → HostWithin n host → WorkWithin n work → HostDone (n + 1) (host_step host work)
-host-within n host (Take message) h p = takes-host n host host.master message h refl p
-host-within n host (Tick addr) h p = ticks-host n host host.master h refl
-host-within n host (Stop id) h p =
+pub host-within : (n : ℕ) (host : HostNode) (work : NodeWork) → HostWithin n host → WorkWithin n work →
+    HostDone (n + 1) (host_step host work)
+host-within n host (Deliver message) h p = takes-host n host host.master message h refl p
+host-within n host Tick h p = ticks-host n host host.master h refl
+host-within n host Stop h p =
     let now : HostWithin (n + 1) host = host-more n (n + 1) (omega arith) host h in
     still (n + 1) (record host { master = None })
     (record { generation = now.generation; backup = now.backup; master = λ master e. none-some e })
@@ -132,7 +135,7 @@ client-within n (Append seg offset entries) e = cc
 client-within n (Data attempt seg term entries) e = cc
 client-within n body e = tt
 
-outside-within : (n : ℕ) (work : Work) → outside_can work ≡ true → MessagesWithin n (outside_sends work)
+outside-within : (n : ℕ) (work : NodeWork) → outside_can work ≡ true → MessagesWithin n (outside_sends work)
 outside-within n (Ask to body) can = one-within n (record { from = Outside; to = Server to; body = body })
     (client-within n body (and_parts (is_for_clients body) (nat_lt to.index MAX_HOSTS) can).0)
 outside-within n work can = none-within n
@@ -140,7 +143,7 @@ outside-within n work can = none-within n
 -- A world
 
 -- a node's new state, and what it has sent
-node-within : (n : ℕ) (world : World) (one : Event) (node : NodeName) (work : Work) → WorldWithin n world →
+node-within : (n : ℕ) (world : World) (one : Event) (node : NodeName) (work : NodeWork) → WorldWithin n world →
     node_can world node work ≡ true → WorkWithin n work → WorldWithin (n + 1) (node_done world one node work)
 node-within n world one TheOutside work h can p =
     let now : WorldWithin (n + 1) world = world-more n (n + 1) (omega arith) world h in
@@ -191,7 +194,7 @@ job-within n world one (Some job) h can p = node-within n world one job.node job
 pub step-within : (n : ℕ) (world : World) (one : Event) → WorldWithin n world → WorldWithin (n + 1) (step world one)
 step-within n world one h =
     either (WorldWithin (n + 1)) (is_possible world one) (job_done world one (work_of world.sent one)) world
-    (λ can. job-within n world one (work_of world.sent one) h can (work-within n world.sent one h.messages))
+    (λ can. job-within n world one (work_of world.sent one) h (possible-job world one can) (work-within n world.sent one h.messages))
     (λ _. world-more n (n + 1) (omega arith) world h)
 
 within-from : (n : ℕ) (world : World) (events : List Event) → WorldWithin n world →

@@ -1,7 +1,7 @@
 -- What holds of data holds of every world that a list of events leads to.
 use Rattle.std.proofs.Common.{◌≡◌, ◌⊎◌, ℕ, true, List, [], ◌∷◌, ◌++◌, Option, Some, None, refl, sym, subst, inl, inr}
 use Rattle.std.proofs.lemmas.Bool.{and_parts}
-use Rattle.rc_model.specs.Model.{ServerId, Addr, Server, Setup, Event, Message, Body, Log, Master, master_takes, master_ticks, Work}
+use Rattle.rc_model.specs.Model.{ServerId, Addr, Server, Setup, Event, Message, Body, Log, Master, master_takes, master_ticks, NodeWork}
 use Rattle.rc_model.specs.Model.{is_for_clients, outside_can, outside_sends, coordinator_step, server_of, host_step, World, opening}
 use Rattle.rc_model.specs.Model.{NodeName, TheOutside, TheCoordinator, TheHost, Job, work_of, node_can, is_possible_job, is_possible}
 use Rattle.rc_model.specs.Model.{node_done, job_done, step, replay_from, replay, In, next_server, to_coordinator}
@@ -14,6 +14,7 @@ use Rattle.rc_log_laws.proofs.NodeWalk.{walked-host}
 use Rattle.rc_log_laws.proofs.Replays.{GoodWorld, GoodStep, IsGiven, work_of-given, coordinator-moved, led-step, good-step, good-opening}
 use Rattle.rc_owner_laws.specs.Data.{data_fine, DataAreCuts}
 use Rattle.rc_owner_laws.proofs.DataCuts.{data-later, IsNoData, no-data-fine, backup-fine}
+use Rattle.rc_model.proofs.Replays.{possible-job}
 use Rattle.rc_model.proofs.Tests.{true_false, either}
 use Rattle.rc_step_laws.proofs.Copies.{In-either}
 
@@ -42,7 +43,7 @@ by_clients _ e = tt
 fine-none : (world : World) → AllFine world []
 fine-none world message at = absurd at
 
-fine-outside : (world : World) (work : Work) → outside_can work ≡ true → AllFine world (outside_sends work)
+fine-outside : (world : World) (work : NodeWork) → outside_can work ≡ true → AllFine world (outside_sends work)
 fine-outside world (Ask to asked) can message (inl same) =
     subst (λ (one : Message). data_fine world.sent world.masters one.from one.to one.body) (sym same)
     (no-data-fine world.sent world.masters Rattle.rc_types.specs.declared.ids.Addr.TheVariants.Outside (Server to) asked
@@ -55,7 +56,7 @@ fine-moved : (world : World) (after : Coordinator × List Message) →
 fine-moved world after is message at = no-data-fine world.sent world.masters message.from message.to message.body
     (by_coordinator after.0 message.to message.body (is.says message at))
 
-fine-coordinator : (world : World) (work : Work) → GoodWorld world → IsGiven world.sent TheCoordinator work →
+fine-coordinator : (world : World) (work : NodeWork) → GoodWorld world → IsGiven world.sent TheCoordinator work →
     AllFine world (coordinator_step world.coordinator work).1
 fine-coordinator world work good given =
     fine-moved world (coordinator_step world.coordinator work) (coordinator-moved world work good given)
@@ -70,7 +71,7 @@ module _ (world : World) (one : Event) (i : ℕ) (good : GoodWorld world) where
       (by_master world.sent (world.sent ++ after.1) (server_of (world.hosts i)) master.log after.0.log message.to
       message.body (is.says message at).says)
 
-  fine-host : (work : Work) → IsGiven world.sent (TheHost i) work → AllFine world (host_step (world.hosts i) work).1
+  fine-host : (work : NodeWork) → IsGiven world.sent (TheHost i) work → AllFine world (host_step (world.hosts i) work).1
   fine-host work given = walked-host world one i good (λ after. AllFine world after.1) (record {
     still = fine-none world;
     backs = λ master e from says at moved.
@@ -96,7 +97,7 @@ next-sent : (world : World) (messages : List Message) → AllFine world messages
     message.to message.body
 next-sent world messages fine message at = In-either message world.sent messages at (λ old. inl old) (λ new. inr (fine message new))
 
-next-node : (world : World) (one : Event) (node : NodeName) (work : Work) → GoodWorld world →
+next-node : (world : World) (one : Event) (node : NodeName) (work : NodeWork) → GoodWorld world →
     IsGiven world.sent node work → node_can world node work ≡ true → IsNext world (node_done world one node work)
 next-node world one TheOutside work good given can = next-sent world (outside_sends work) (fine-outside world work can)
 next-node world one TheCoordinator work good given can =
@@ -112,7 +113,7 @@ next-job world one (Some job) is good can = next-node world one job.node job.wor
 next-step : (world : World) (one : Event) → GoodWorld world → IsNext world (step world one)
 next-step world one good =
     either (IsNext world) (is_possible world one) (job_done world one (work_of world.sent one)) world
-    (λ can. next-job world one (work_of world.sent one) refl good can) (λ _ message at. inl at)
+    (λ can. next-job world one (work_of world.sent one) refl good (possible-job world one can)) (λ _ message at. inl at)
 
 cuts-step : (world : World) (one : Event) → GoodWorld world → CutsOf world → CutsOf (step world one)
 cuts-step world one good p message at = by (next-step world one good message at)

@@ -6,7 +6,7 @@ use Rattle.std.proofs.lemmas.Bool.Decides.{nat_tests}
 use Rattle.rc_model.specs.Model.{ServerId, Addr, Server, Setup, Event, NoTable, Deposed, Part, Grant, Message, Own, same_id}
 use Rattle.rc_model.specs.Model.{from_coordinator, is_up, has_range, assigned, Attempt, GivenPart, parts_of, refuses_server, attempt_at}
 use Rattle.rc_model.specs.Model.{is_current, own_body, range_of, grant_of, is_grant_to, grant_to, part_in, part_of_sender}
-use Rattle.rc_model.specs.Model.{takes_recovered, Work, coordinator_step, outside_sends, server_of}
+use Rattle.rc_model.specs.Model.{takes_recovered, NodeWork, coordinator_step, outside_sends, server_of}
 use Rattle.rc_model.specs.Model.{host_step, next_server, World, opening, NodeName, TheOutside, TheCoordinator, TheHost, Job, work_of}
 use Rattle.rc_model.specs.Model.{is_possible, node_done, job_done, step, replay_from, replay, In, Enlist, to_coordinator, grants_anew}
 use Rattle.rc_types.specs.declared.messages.Body.TheVariants.{Plan as PlanBody}
@@ -48,12 +48,12 @@ more-says sent messages old new message at = In-either message sent messages at 
 servers-say : (messages : List Message) → FromServers messages → NoneLacksTablet messages
 servers-say messages from message at = ap (λ (one : Addr). lacks_tablet one message.to message.body) (from message at).1
 
-outside-says : (work : Work) → NoneLacksTablet (outside_sends work)
+outside-says : (work : NodeWork) → NoneLacksTablet (outside_sends work)
 outside-says (Ask to body) message (inl same) = ap (λ (one : Message). lacks_tablet one.from one.to one.body) same
 outside-says (Ask to body) message (inr never) = absurd never
 outside-says _ message at = absurd at
 
-from-host : (world : World) (one : Event) (i : ℕ) → GoodWorld world → (work : Work) → IsGivenWork world.sent (TheHost i) work →
+from-host : (world : World) (one : Event) (i : ℕ) → GoodWorld world → (work : NodeWork) → IsGivenWork world.sent (TheHost i) work →
     FromServers (host_step (world.hosts i) work).1
 from-host world one i good work given = said-host world one i good FromServers (record {
   none = λ message at. absurd at;
@@ -63,7 +63,7 @@ from-host world one i good work given = said-host world one i good FromServers (
       (to_coordinator (next_server (world.hosts i)) Enlist) (next_server (world.hosts i), refl);
 }) work given
 
-tablets-node : (world : World) (one : Event) (node : NodeName) (work : Work) → GoodWorld world → OfWorld world →
+tablets-node : (world : World) (one : Event) (node : NodeName) (work : NodeWork) → GoodWorld world → OfWorld world →
     TabletsWorld world → IsGivenWork world.sent node work → TabletsWorld (node_done world one node work)
 tablets-node world one TheOutside work good grants p given =
     record { good = p.good; says = more-says world.sent (outside_sends work) p.says (outside-says work) }

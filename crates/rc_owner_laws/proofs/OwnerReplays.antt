@@ -1,7 +1,7 @@
 -- What holds of tablets and grants holds of every world that a list of events leads to.
 use Rattle.std.proofs.Common.{◌≡◌, ℕ, true, List, [], ◌∷◌, ◌++◌, Option, Some, None, refl, sym, subst, inl, inr}
 use Rattle.std.proofs.lemmas.Bool.{and_parts}
-use Rattle.rc_model.specs.Model.{ServerId, Addr, Server, Setup, Event, Message, Body, put, Backup, Log, Master, Work, HostNode}
+use Rattle.rc_model.specs.Model.{ServerId, Addr, Server, Setup, Event, Message, Body, put, Backup, Log, Master, NodeWork, HostNode}
 use Rattle.rc_model.specs.Model.{is_for_clients, outside_can, outside_sends, coordinator_step, server_of, host_step, World, opening}
 use Rattle.rc_model.specs.Model.{NodeName, TheOutside, TheCoordinator, TheHost, Job, work_of, node_can, is_possible_job, is_possible}
 use Rattle.rc_model.specs.Model.{node_done, job_done, step, replay_from, replay, next_server, to_coordinator}
@@ -16,6 +16,7 @@ use Rattle.rc_owner_laws.specs.Grants.{own_said, GoodGrants, GrantsKept}
 use Rattle.rc_owner_laws.proofs.Decided.{OwnSaid, OwnSays}
 use Rattle.rc_owner_laws.proofs.OwnerSteps.{moved, new-grants}
 use Rattle.rc_owner_laws.proofs.OwnersOrdered.{kept-step, kept-others, kept-none}
+use Rattle.rc_model.proofs.Replays.{possible-job}
 use Rattle.rc_model.proofs.Tests.{true_false, either}
 
 pub record GrantsWorld (sent : List Message) (c : Coordinator) : Type 0 where
@@ -48,13 +49,13 @@ by_clients c to (body.Own table lo hi term before attempt) e = true_false (sym e
 by_clients c to (body.Plan head number master rows parts) e = true_false (sym e)
 by_clients c to _ e = tt
 
-says-outside : (c : Coordinator) (work : Work) → outside_can work ≡ true → OwnSays c (outside_sends work)
+says-outside : (c : Coordinator) (work : NodeWork) → outside_can work ≡ true → OwnSays c (outside_sends work)
 says-outside c (Ask to asked) can message (inl same) = subst (λ (one : Message). own_said c one.to one.body) (sym same)
     (by_clients c (Server to) asked (and_parts (is_for_clients asked) _ can).0)
 says-outside c (Ask to asked) can message (inr never) = absurd never
 says-outside c _ can message at = absurd at
 
-says-host : (world : World) (one : Event) (i : ℕ) → GoodWorld world → (work : Work) → IsGiven world.sent (TheHost i) work →
+says-host : (world : World) (one : Event) (i : ℕ) → GoodWorld world → (work : NodeWork) → IsGiven world.sent (TheHost i) work →
     OwnSays world.coordinator (host_step (world.hosts i) work).1
 says-host world one i good work given = said-host world one i good (OwnSays world.coordinator) (record {
   none = λ message at. absurd at;
@@ -66,11 +67,11 @@ says-host world one i good work given = said-host world one i good (OwnSays worl
   starts = each-one (OwnSaid world.coordinator) (to_coordinator (next_server (world.hosts i)) body.Enlist) tt;
 }) work given
 
-pub later-coordinator : (world : World) (work : Work) → GoodWorld world → IsGiven world.sent TheCoordinator work →
+pub later-coordinator : (world : World) (work : NodeWork) → GoodWorld world → IsGiven world.sent TheCoordinator work →
     CoordinatorLater world.coordinator (coordinator_step world.coordinator work).0
 later-coordinator world work good given = (coordinator-moved world work good given).later
 
-grants-node : (world : World) (one : Event) (node : NodeName) (work : Work) → GoodWorld world → OfWorld world →
+grants-node : (world : World) (one : Event) (node : NodeName) (work : NodeWork) → GoodWorld world → OfWorld world →
     IsGiven world.sent node work → node_can world node work ≡ true → OfWorld (node_done world one node work)
 grants-node world one TheOutside work good p given can =
     others world.sent world.coordinator (outside_sends work) p (says-outside world.coordinator work can)
@@ -90,7 +91,7 @@ grants-job world one (Some job) is good p can = grants-node world one job.node j
 pub grants-step : (world : World) (one : Event) → GoodWorld world → OfWorld world → OfWorld (step world one)
 grants-step world one good p =
     either OfWorld (is_possible world one) (job_done world one (work_of world.sent one)) world
-    (λ can. grants-job world one (work_of world.sent one) refl good p can) (λ _. p)
+    (λ can. grants-job world one (work_of world.sent one) refl good p (possible-job world one can)) (λ _. p)
 
 grants-from : (world : World) (events : List Event) → GoodWorld world → OfWorld world → OfWorld (replay_from world events)
 grants-from world [] good p = p

@@ -16,7 +16,7 @@ use Rattle.rc_model.specs.Model.{with_attempt}
 use Rattle.rc_model.specs.Model.{with_answer, decision_of, decides_on}
 use Rattle.rc_model.specs.Model.{own_body, range_of, grant_of, is_grant_to, grant_to}
 use Rattle.rc_model.specs.Model.{first_grant}
-use Rattle.rc_model.specs.Model.{coordinator_ticks, Work, coordinator_step}
+use Rattle.rc_model.specs.Model.{coordinator_ticks, NodeWork, coordinator_step}
 use Rattle.rc_model.specs.Model.{in_range, In}
 use Rattle.rc_types.specs.declared.rows.Plan.{Plan}
 use Rattle.rc_model.specs.Coordinator.{Coordinator}
@@ -408,7 +408,7 @@ module _ (sent : List Message) (c : Coordinator) (base : GoodCoordinator sent c)
         (each-one (OwnSaid (record c { tablets = split_at table at c.tablets })) (coordinator_tells (SplitOk table at)) tt);
   }
 
-  pub moved : (work : Work) → GrantsMoved c (coordinator_step c work)
+  pub moved : (work : NodeWork) → GrantsMoved c (coordinator_step c work)
   moved work = walked-step c Hears Came Moved stays moves work (λ _ _. tt)
 
 -- The beginning

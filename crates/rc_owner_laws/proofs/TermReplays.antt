@@ -1,6 +1,6 @@
 -- What holds of terms holds of every world that a list of events leads to.
 use Rattle.std.proofs.Common.{◌≡◌, List, [], ◌∷◌, ◌++◌, Option, Some, None, refl, sym, subst}
-use Rattle.rc_model.specs.Model.{Setup, Event, Work, outside_sends, coordinator_step, host_step, World, opening, NodeName, TheOutside}
+use Rattle.rc_model.specs.Model.{Setup, Event, NodeWork, outside_sends, coordinator_step, host_step, World, opening, NodeName, TheOutside}
 use Rattle.rc_model.specs.Model.{TheCoordinator, TheHost, Job, work_of, is_possible, node_done, job_done, step, replay_from, replay}
 use Rattle.rc_log_laws.proofs.Replays.{GoodWorld, IsGiven, work_of-given, taken-at, good-world}
 use Rattle.rc_owner_laws.proofs.OwnerReplays.{OfWorld, grants-world, later-coordinator}
@@ -13,7 +13,7 @@ use Rattle.rc_step_laws.proofs.LogMoves.{more-left}
 abbrev pub TermsOf : World → Type 0
 TermsOf world = GoodTerms world.sent world.coordinator
 
-terms-node : (world : World) (one : Event) (node : NodeName) (work : Work) → GoodWorld world → OfWorld world →
+terms-node : (world : World) (one : Event) (node : NodeName) (work : NodeWork) → GoodWorld world → OfWorld world →
     TermsOf world → IsGiven world.sent node work → TermsOf (node_done world one node work)
 terms-node world one TheOutside work good grants terms given = terms-more world.sent (world.sent ++ outside_sends work)
     world.coordinator (more-left world.sent (outside_sends work)) terms

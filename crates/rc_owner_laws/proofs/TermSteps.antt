@@ -11,7 +11,7 @@ use Rattle.rc_model.specs.Model.{attempt_at, with_attempt}
 use Rattle.rc_model.specs.Model.{with_answer, decision_of}
 use Rattle.rc_model.specs.Model.{decides_on, range_of, grant_of, grant_to}
 use Rattle.rc_model.specs.Model.{first_grant}
-use Rattle.rc_model.specs.Model.{Work, Take, coordinator_step, in_range, In}
+use Rattle.rc_model.specs.Model.{NodeWork, Deliver, coordinator_step, in_range, In}
 use Rattle.rc_types.specs.declared.ids.Addr.TheVariants.{Coordinator as AtCoordinator}
 use Rattle.rc_model.specs.Coordinator.{Coordinator}
 use Rattle.rc_model.proofs.CoordinatorWalk.{Moves, any-stays, walked-step}
@@ -168,8 +168,8 @@ module _ (sent : List Message) (c : Coordinator) (grants : GoodGrants c) (good :
         (same-tablets c c.servers c.ready (split_at table at c.tablets) c.least (owner_at-split table at c.tablets));
   }
 
-  pub keeps-work : (work : Work) →
-      ((message : Message) → work ≡ Take message →
+  pub keeps-work : (work : NodeWork) →
+      ((message : Message) → work ≡ Deliver message →
       In (record { from = message.from; to = AtCoordinator; body = message.body }) sent) →
       Keeps (coordinator_step c work)
   keeps-work work at = walked-step c Hears Same Keeps (any-stays c Hears Keeps (λ messages later. good)) moves work at

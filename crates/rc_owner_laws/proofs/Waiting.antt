@@ -14,7 +14,7 @@ use Rattle.rc_model.specs.Model.{with_attempt, up_of_host, with_crashed}
 use Rattle.rc_model.specs.Model.{with_answer, decision_of, decides_on}
 use Rattle.rc_model.specs.Model.{own_body, range_of, grant_of, grant_to}
 use Rattle.rc_model.specs.Model.{first_grant, creates_table}
-use Rattle.rc_model.specs.Model.{Work, coordinator_step, In}
+use Rattle.rc_model.specs.Model.{NodeWork, coordinator_step, In}
 use Rattle.rc_types.specs.declared.rows.Plan.{Plan}
 use Rattle.rc_model.specs.Coordinator.{Coordinator}
 use Rattle.rc_model.proofs.Sending.{each-none, each-one, each-both}
@@ -340,7 +340,7 @@ module _ (sent : List Message) (c : Coordinator) (base : GoodCoordinator sent c)
     };
   }
 
-  pub tablets-moved : (work : Work) → TabletsMoved (coordinator_step c work)
+  pub tablets-moved : (work : NodeWork) → TabletsMoved (coordinator_step c work)
   tablets-moved work = walked-step c Hears After After stays moves work (λ _ _. tt)
 
 -- The beginning

@@ -3,7 +3,7 @@ use Rattle.std.specs.Prelude.{◌≡◌, ◌⊎◌, ℕ, ◌<◌, true, List, []
 use Rattle.rc_types.specs.declared.messages.Message.{Message}
 use Rattle.rc_model.specs.Coordinator.{Coordinator, new_coordinator}
 use Rattle.rc_model.specs.Headline.{In}
-use Rattle.rc_model.specs.Nodes.{Work, coordinator_step}
+use Rattle.rc_model.specs.Nodes.{NodeWork, coordinator_step}
 use Rattle.rc_step_laws.specs.Facts.{GoodCoordinator}
 use Rattle.rc_step_laws.specs.Moves.{CoordinatorLater}
 use Rattle.rc_model.specs.Owners.{Granted, IsGranted, covers, IsEarlier}
@@ -11,7 +11,7 @@ use Rattle.rc_owner_laws.specs.Grants.{own_said, GoodGrants, GrantsMoved, Grants
 
 -- each step keeps them
 abbrev pub StepsKeepGrants : Type 0
-StepsKeepGrants = (sent : List Message) (c : Coordinator) → GoodCoordinator sent c → GoodGrants c → (work : Work) →
+StepsKeepGrants = (sent : List Message) (c : Coordinator) → GoodCoordinator sent c → GoodGrants c → (work : NodeWork) →
     GrantsMoved c (coordinator_step c work)
 
 -- and before the first step they hold

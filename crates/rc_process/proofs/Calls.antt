@@ -12,13 +12,12 @@ use Rattle.rc_types.specs.declared.events.NodeWork.TheVariants as work
 use Rattle.rc_types.specs.declared.messages.Body.{Body}
 use Rattle.rc_types.specs.declared.messages.Message.{Message}
 use Rattle.rc_model.specs.Headline.{In}
-use Rattle.rc_model.specs.Nodes.{Work, Ask, outside_sends}
+use Rattle.rc_model.specs.Nodes.{Ask, outside_sends}
 use Rattle.rc_model.specs.World.{NodeName, TheOutside, TheCoordinator, TheHost}
-use Rattle.rc_model.proofs.Tests.{true_false}
 use Rattle.rc_model.proofs.Members.{In-left, In-right}
 use Rattle.rc_history.specs.Nodes.{Node, new_node, name_of, node_can, node_step}
 use Rattle.rc_history.specs.Nodes as node
-use Rattle.rc_world.specs.NodeView.{node_seen, work_at, may_take}
+use Rattle.rc_world.specs.NodeView.{node_seen}
 use Rattle.rc_lives.specs.Lives.{Life, new_life, keeps, life_next, rests_on, node_after, SameNode}
 use Rattle.rc_lives.specs.Processes.{Deed, Process, Processes, Takes, Syncs, Leaves, deed_of, after, with_process, IsAddressed, IsBrought}
 use Rattle.rc_lives.specs.Processes.{MayTake, safe_at}
@@ -41,45 +40,36 @@ use Rattle.rc_process.proofs.Giving.{given-runs, next_with}
 
 -- A work
 
-addressed : (n : Node) (name : NodeName) (machine : Machine) (given : NodeWork) → name_of n ≡ name → may_take n given ≡ true →
-    MayBring machine name given → IsAddressed name (work_at n given)
-addressed n name machine (work.Deliver message) is can brought = brought.1
-addressed node.TheOutside name machine work.Tick is can brought = is
-addressed (node.TheCoordinator c) name machine work.Tick is can brought = is
-addressed (node.TheHost host) name machine work.Tick is can brought = is
-addressed node.TheOutside name machine work.Stop is can brought = true_false (sym can)
-addressed (node.TheCoordinator c) name machine work.Stop is can brought = true_false (sym can)
-addressed (node.TheHost host) name machine work.Stop is can brought = is
-addressed n name machine _ is can brought = tt
+addressed : (name : NodeName) (machine : Machine) (given : NodeWork) → MayBring machine name given → IsAddressed name given
+addressed name machine (work.Deliver message) brought = brought.1
+addressed name machine _ brought = tt
 
-brought-before : (left : List Message) (n : Node) (name : NodeName) (machine : Machine) (given : NodeWork) → left ≡ machine.left →
-    MayBring machine name given → IsBrought left (work_at n given)
-brought-before left n name machine (work.Deliver message) e brought = subst (In message) (sym e) brought.0
-brought-before left n name machine _ e brought = tt
+brought-before : (left : List Message) (name : NodeName) (machine : Machine) (given : NodeWork) → left ≡ machine.left →
+    MayBring machine name given → IsBrought left given
+brought-before left name machine (work.Deliver message) e brought = subst (In message) (sym e) brought.0
+brought-before left name machine _ e brought = tt
 
 pub gives-simulated : (setup : Setup) (old new : Machine) (name : NodeName) (given : NodeWork) → HasJournal name →
     IsGiven old name given new → Simulated setup old → Simulated setup new
 gives-simulated setup old new name given has is sim =
     let r : Running = old.at name in
     let p : Process = sim.all.at name in
-    let w : Work = work_at r.process.node given in
     let goes : Goes setup sim.all = goes-reached setup sim.all sim.reached in
     let runs : IsRunning setup name r p sim.all.done = sim.running name has in
-    let named : name_of r.process.node ≡ name = ap name_of runs.node ∙ runs.named in
-    let may : MayTake sim.all name w = record {
-      can = subst (λ (n : Node). node_can n w ≡ true) runs.node is.can;
-      addressed = addressed r.process.node name old given named is.can is.brought;
-      brought = brought-before sim.all.left r.process.node name old given sim.left is.brought;
+    let may : MayTake sim.all name given = record {
+      can = subst (λ (n : Node). node_can n given ≡ true) runs.node is.can;
+      addressed = addressed name old given is.brought;
+      brought = brought-before sim.all.left name old given sim.left is.brought;
     } in
     subst (Simulated setup) (sym is.is) (record {
-      all = after setup sim.all (Takes name w);
-      reached = reach setup sim.all (Takes name w) sim.reached may;
+      all = after setup sim.all (Takes name given);
+      reached = reach setup sim.all (Takes name given) sim.reached may;
       left = sim.left;
       running =
           put-one setup old.at sim.all name (next_with r given (written_down r.process.node given))
-          (record { life = life_next name p.life w; safe = p.safe }) (sim.all.done ++ deed_of name p.life w ∷ []) sim.all.left
+          (record { life = life_next name p.life given; safe = p.safe }) (sim.all.done ++ deed_of name p.life given ∷ []) sim.all.left
           (given-runs setup name r p sim.all.done given runs (goes.well name).safe (journals-make setup sim.all goes name) is.can)
-          (λ other differ deed its at. In-left deed sim.all.done (deed_of name p.life w ∷ []) at) sim.running;
+          (λ other differ deed its at. In-left deed sim.all.done (deed_of name p.life given ∷ []) at) sim.running;
     })
 
 -- A sync
@@ -363,7 +353,7 @@ moved-simulated setup old new name has is sim =
 
 -- A client asks
 
-none-kept : (works : List Work) → filter (keeps TheOutside) works ≡ []
+none-kept : (works : List NodeWork) → filter (keeps TheOutside) works ≡ []
 none-kept [] = refl
 none-kept (w ∷ works) = none-kept works
 
@@ -376,10 +366,10 @@ pub asks-simulated : (setup : Setup) (old new : Machine) (to : ServerId) (body :
     Simulated setup old → Simulated setup new
 asks-simulated setup old new to body is sim =
     let p : Process = sim.all.at TheOutside in
-    let w : Work = Ask to body in
+    let w : NodeWork = Ask to body in
     let goes : Goes setup sim.all = goes-reached setup sim.all sim.reached in
     let well : Well setup TheOutside p (own TheOutside sim.all.done) = goes.well TheOutside in
-    let works : List Work = works_of (own TheOutside sim.all.done) in
+    let works : List NodeWork = works_of (own TheOutside sim.all.done) in
     let outside : p.life.node ≡ node.TheOutside =
     is-outside p.life.node (ap (λ (l : Life). name_of l.node) well.life ∙ name-life TheOutside (new_life setup TheOutside) works) in
     let empty : p.life.journal ≡ [] =

@@ -6,16 +6,15 @@ use Rattle.std.proofs.lemmas.List.{take-append-le, take-append-drop}
 use Rattle.std.proofs.lemmas.Bool.{le-leb, lt-leb}
 use Rattle.rc_types.specs.declared.events.Setup.{Setup}
 use Rattle.rc_types.specs.declared.events.NodeWork.{NodeWork}
-use Rattle.rc_model.specs.Nodes.{Work}
+use Rattle.rc_model.specs.Nodes.{NodeWork}
 use Rattle.rc_model.specs.World.{NodeName}
-use Rattle.rc_history.specs.Nodes.{Node, new_node}
-use Rattle.rc_world.specs.NodeView.{after_work}
+use Rattle.rc_history.specs.Nodes.{Node, new_node, node_step}
 use Rattle.rc_keeping.specs.Spelling.{record_of, journal_of}
 use Rattle.rc_keeping.proofs.JournalLaws.{journal-push}
 use Rattle.rc_lives.specs.Lives.{node_after}
 use Rattle.rc_keeping.specs.Saved.{Saved, save_of}
 use Rattle.rc_files.specs.Files.{file_of}
-use Rattle.rc_files.specs.Standing.{StandsFor, works_at}
+use Rattle.rc_files.specs.Standing.{StandsFor}
 use Rattle.rc_files.proofs.Back.{journal-append, le_or_lt}
 use Rattle.rc_process.specs.declared.saving.Saving.{Saving}
 use Rattle.rc_process.specs.View.{moved_place}
@@ -100,12 +99,7 @@ place-moved before all saved save earlier later saving sum cut size count mark e
         length-append (save_of save) (journal_of (take (count - all) later)) in
         omega arith
 
-length-works : (n : Node) (works : List NodeWork) → length (works_at n works) ≡ length works
-length-works n [] = refl
-length-works n (w ∷ works) = ap suc (length-works (after_work n w).0 works)
-
-pub journal-size : (setup : Setup) (name : NodeName) (saved : Saved) (before : List Work) (works : List NodeWork) (journal : List Work) →
+pub journal-size : (setup : Setup) (name : NodeName) (saved : Saved) (before works journal : List NodeWork) →
     StandsFor setup name saved before works journal → length journal ≡ length before + length works
 journal-size setup name saved before works journal stands =
-    ap length stands.same ∙ (length-append before (works_at (node_after (new_node setup name) before) works)
-    ∙ ap (λ n. length before + n) (length-works (node_after (new_node setup name) before) works))
+    ap length stands.same ∙ length-append before works

@@ -7,7 +7,7 @@ use Rattle.std.proofs.lemmas.List.{append-nil, take_at, length-take-le, take-app
 use Rattle.rc_types.specs.declared.events.Setup.{Setup}
 use Rattle.rc_types.specs.declared.events.NodeWork.{NodeWork}
 use Rattle.rc_types.specs.declared.events.NodeWork.TheVariants as work
-use Rattle.rc_model.specs.Nodes.{Work, Stop, HostNode, runs, server_of, host_can}
+use Rattle.rc_model.specs.Nodes.{HostNode, runs}
 use Rattle.rc_model.specs.World.{NodeName, TheOutside, same_node}
 use Rattle.rc_model.proofs.Tests.{true_false}
 use Rattle.rc_model.proofs.Ids.{same_node-true, same_node-refl}
@@ -18,8 +18,6 @@ use Rattle.rc_history.specs.Remade.{SameButMaster}
 use Rattle.rc_world.specs.NodeView.{node_seen}
 use Rattle.rc_lives.specs.Lives.{Life, life_next, life_after, node_after, stops, remade, SameNode}
 use Rattle.rc_lives.specs.Processes.{Deed, deed_of, Process, Processes, Falls, MayBeLeft, after, fallen, stop_deeds, is_left}
-use Rattle.rc_lives.proofs.Own.{IsLived}
-use Rattle.rc_lives.proofs.Remaking.{stop-lived}
 use Rattle.rc_lives.proofs.Global.{Goes}
 use Rattle.rc_keeping.specs.Saved.{Saved, node_from}
 use Rattle.rc_files.specs.Files.{file_of, IsLeft, GivesBack}
@@ -39,10 +37,10 @@ bare n written = record { node = n; written = written; started = 0; safe = 0; he
 abbrev bare_at : Node → ℕ → List ℕ → ℕ → Running
 bare_at n written file safe = record { process = bare n written; file = file; second = []; safe = safe }
 
-abbrev bare_life : Node → List Work → ℕ → Process
+abbrev bare_life : Node → List NodeWork → ℕ → Process
 bare_life n journal safe = record { life = record { node = n; journal = journal; started = 0 }; safe = safe }
 
-bare-runs : (setup : Setup) (name : NodeName) (n : Node) (saved : Saved) (before journal : List Work) (works : List NodeWork)
+bare-runs : (setup : Setup) (name : NodeName) (n : Node) (saved : Saved) (before journal : List NodeWork) (works : List NodeWork)
     (file : List ℕ) (written safe known : ℕ) (done : List Deed) → name_of n ≡ name → StandsFor setup name saved before works journal →
     file ≡ file_of saved works → written ≡ length file → place (length before) saved works known ≤ safe →
     IsRunning setup name (bare_at n written file safe) (bare_life n journal known) done
@@ -87,20 +85,13 @@ any-second setup name process file one other safe p done none is = record {
 
 -- A host
 
-stop-can : (name : NodeName) (host : HostNode) (journal : List Work) → runs host ≡ true → host_can host (Stop (server_of host)) ≡ true
-stop-can name host journal e =
-    let life : Life = record { node = node.TheHost host; journal = journal; started = 0 } in
-    let lived : IsLived name life (stop_deeds name life (Stop (server_of host) ∷ [])) =
-    subst (λ b. IsLived name life (stop_deeds name life (cond b (Stop (server_of host) ∷ []) []))) e (stop-lived name life) in
-    lived.0.can
-
 idle-same : (one other : HostNode) → SameButMaster one other → runs one ≡ false → node.TheHost one ≡ node.TheHost other
 idle-same one other same e =
-    sym (ap (λ b. node_after (node.TheHost one) (cond b (Stop (server_of one) ∷ []) [])) e)
+    sym (ap (λ b. node_after (node.TheHost one) (cond b (work.Stop ∷ []) [])) e)
     ∙ (stops-make-equal (node.TheHost one) (node.TheHost other) same
-    ∙ ap (λ b. node_after (node.TheHost other) (cond b (Stop (server_of other) ∷ []) [])) (sym same.runs ∙ e))
+    ∙ ap (λ b. node_after (node.TheHost other) (cond b (work.Stop ∷ []) [])) (sym same.runs ∙ e))
 
-abbrev HostEnds : Setup → NodeName → HostNode → HostNode → List Work → List ℕ → ℕ → ℕ → ℕ → List Deed → Bool → Bool → Type 0
+abbrev HostEnds : Setup → NodeName → HostNode → HostNode → List NodeWork → List ℕ → ℕ → ℕ → ℕ → List Deed → Bool → Bool → Type 0
 HostEnds setup name one other journal file written safe known done b c =
     let life : Life = record { node = node.TheHost other; journal = journal; started = 0 } in
     IsRunning setup name (record {
@@ -108,8 +99,8 @@ HostEnds setup name one other journal file written safe known done b c =
       file = file ++ cond b (written_down (node.TheHost one) work.Stop) [];
       second = [];
       safe = safe;
-    }) (record { life = life_after name life (cond c (Stop (server_of other) ∷ []) []); safe = known })
-    (done ++ stop_deeds name life (cond c (Stop (server_of other) ∷ []) []))
+    }) (record { life = life_after name life (cond c (work.Stop ∷ []) []); safe = known })
+    (done ++ stop_deeds name life (cond c (work.Stop ∷ []) []))
 
 -- after a stop it is the same which of two hosts was given it
 stop-given : (one other : HostNode) (written : ℕ) → SameButMaster one other →
@@ -123,7 +114,7 @@ stop-given one other written same = ap (λ (h : HostNode). record {
   saving = None;
 }) (sym same.rest)
 
-host-ends : (setup : Setup) (name : NodeName) (one other : HostNode) (saved : Saved) (before journal : List Work) (works : List NodeWork)
+host-ends : (setup : Setup) (name : NodeName) (one other : HostNode) (saved : Saved) (before journal works : List NodeWork)
     (file : List ℕ) (written safe known : ℕ) (done : List Deed) → SameButMaster one other → name_of (node.TheHost other) ≡ name →
     StandsFor setup name saved before works journal → SameNode (node_after (new_node setup name) journal) (node.TheHost other) →
     file ≡ file_of saved works → written ≡ length file → place (length before) saved works known ≤ safe → known ≤ length journal →
@@ -137,15 +128,15 @@ host-ends setup name one other saved before journal works file written safe know
       file = file ++ written_down (node.TheHost one) work.Stop;
       second = [];
       safe = safe;
-    }) (record { life = life_next name (bare_life (node.TheHost other) journal known).life (Stop (server_of other)); safe = known })
-    (done ++ deed_of name (bare_life (node.TheHost other) journal known).life (Stop (server_of other)) ∷ []))
+    }) (record { life = life_next name (bare_life (node.TheHost other) journal known).life work.Stop; safe = known })
+    (done ++ deed_of name (bare_life (node.TheHost other) journal known).life work.Stop ∷ []))
     (stop-given one other written same)
     (any-second setup name (given (bare (node.TheHost other) written) work.Stop) (file ++ written_down (node.TheHost other) work.Stop)
     ([] ++ written_down (node.TheHost other) work.Stop) [] safe
-    (record { life = life_next name (bare_life (node.TheHost other) journal known).life (Stop (server_of other)); safe = known })
-    (done ++ deed_of name (bare_life (node.TheHost other) journal known).life (Stop (server_of other)) ∷ []) refl
+    (record { life = life_next name (bare_life (node.TheHost other) journal known).life work.Stop; safe = known })
+    (done ++ deed_of name (bare_life (node.TheHost other) journal known).life work.Stop ∷ []) refl
     (given-runs setup name (bare_at (node.TheHost other) written file safe) (bare_life (node.TheHost other) journal known) done work.Stop
-    base within made (stop-can name other journal (sym same.runs ∙ e))))
+    base within made (sym same.runs ∙ e)))
 host-ends setup name one other saved before journal works file written safe known done same named stands made bytes long early within
     false e =
     subst (λ (n : Node). IsRunning setup name (bare_at n written (file ++ []) safe) (bare_life (node.TheHost other) journal known)
@@ -160,7 +151,7 @@ host-ends setup name one other saved before journal works file written safe know
 
 -- Each node
 
-abbrev Ends : Setup → NodeName → Node → Node → List Work → List ℕ → ℕ → ℕ → ℕ → List Deed → Type 0
+abbrev Ends : Setup → NodeName → Node → Node → List NodeWork → List ℕ → ℕ → ℕ → ℕ → List Deed → Type 0
 Ends setup name one other journal file written safe known done =
     let life : Life = record { node = other; journal = journal; started = 0 } in
     IsRunning setup name (record {
@@ -170,7 +161,7 @@ Ends setup name one other journal file written safe known done =
       safe = safe;
     }) (record { life = life_after name life (stops other); safe = known }) (done ++ stop_deeds name life (stops other))
 
-ends : (setup : Setup) (name : NodeName) (one other : Node) (saved : Saved) (before journal : List Work) (works : List NodeWork)
+ends : (setup : Setup) (name : NodeName) (one other : Node) (saved : Saved) (before journal : List NodeWork) (works : List NodeWork)
     (file : List ℕ) (written safe known : ℕ) (done : List Deed) → HasJournal name → SameNode one other → name_of other ≡ name →
     StandsFor setup name saved before works journal → SameNode (node_after (new_node setup name) journal) other →
     file ≡ file_of saved works → written ≡ length file → place (length before) saved works known ≤ safe → known ≤ length journal →
@@ -231,7 +222,7 @@ safe-kept before saved works known safe count within early less = by (le_or_lt k
         let l : known - before ≤ count = less (known - before) (omega arith) (omega arith) in
         omega arith
 
-returns-from : (setup : Setup) (name : NodeName) (all : Processes) (saved : Saved) (before : List Work) (works : List NodeWork)
+returns-from : (setup : Setup) (name : NodeName) (all : Processes) (saved : Saved) (before : List NodeWork) (works : List NodeWork)
     (safe known : ℕ) (left out : List ℕ) (process : ProcessView) (is : IsLeft saved works safe left)
     (back : IsBack left known process out) →
     Goes setup all → HasJournal name → StandsFor setup name saved before works (all.at name).life.journal →
@@ -244,11 +235,11 @@ returns-from : (setup : Setup) (name : NodeName) (all : Processes) (saved : Save
     })
 returns-from setup name all saved before works safe known left out process is back goes has stands early =
     let p : Process = all.at name in
-    let journal : List Work = p.life.journal in
+    let journal : List NodeWork = p.life.journal in
     let replay : IsReplayed left back.again = back.replayed in
     let kept_works : List NodeWork = take is.count works in
     let count : ℕ = length before + is.count in
-    let kept : List Work = take count journal in
+    let kept : List NodeWork = take count journal in
     let size : length journal ≡ length before + length works = journal-size setup name saved before works journal stands in
     let gives : GivesBack saved kept_works replay.loaded replay.count replay.read replay.good =
     what-is-left saved works safe left is replay.loaded replay.count replay.read replay.good replay.begins replay.behind in

@@ -5,7 +5,6 @@ use Rattle.rc_types.specs.declared.events.Setup.{Setup}
 use Rattle.rc_types.specs.declared.events.NodeWork.{NodeWork}
 use Rattle.rc_types.specs.declared.messages.Message.{Message}
 use Rattle.rc_model.specs.Headline.{In}
-use Rattle.rc_model.specs.Nodes.{Work}
 use Rattle.rc_model.specs.World.{NodeName, same_node}
 use Rattle.rc_model.proofs.Ids.{same_node-true}
 use Rattle.rc_history.specs.Nodes.{name_of}
@@ -20,7 +19,7 @@ use Rattle.rc_process.specs.Running.{Running, Machine, with_running, HasJournal}
 use Rattle.rc_process.proofs.Places.{place}
 
 -- what is held back was sent by something that was done, and waits for no less than that rests on
-pub record Waits (name : NodeName) (before : ℕ) (saved : Saved) (works : List NodeWork) (journal : List Work) (done : List Deed)
+pub record Waits (name : NodeName) (before : ℕ) (saved : Saved) (works : List NodeWork) (journal : List NodeWork) (done : List Deed)
     (held : Held) : Type 0 where
   pub deed : Deed
   pub among : In deed done
@@ -30,10 +29,10 @@ pub record Waits (name : NodeName) (before : ℕ) (saved : Saved) (works : List 
   pub within : deed.rests ≤ length journal
 
 -- the second file stands for the same journal, of which its save stands for the works up to the cut
-pub record HasSecond (setup : Setup) (name : NodeName) (second : List ℕ) (journal : List Work) (saved : Saved) (before : ℕ)
+pub record HasSecond (setup : Setup) (name : NodeName) (second : List ℕ) (journal : List NodeWork) (saved : Saved) (before : ℕ)
     (works : List NodeWork) (saving : Saving) : Type 0 where
   pub save : Saved
-  pub all : List Work
+  pub all : List NodeWork
   pub earlier : List NodeWork
   pub later : List NodeWork
   pub stands : StandsFor setup name save all later journal
@@ -45,7 +44,7 @@ pub record HasSecond (setup : Setup) (name : NodeName) (second : List ℕ) (jour
 
 pub record IsRunning (setup : Setup) (name : NodeName) (running : Running) (p : Process) (done : List Deed) : Type 0 where
   pub saved : Saved
-  pub before : List Work
+  pub before : List NodeWork
   pub works : List NodeWork
   pub stands : StandsFor setup name saved before works p.life.journal
   pub bytes : running.file ≡ file_of saved works
@@ -64,7 +63,7 @@ pub record IsRunning (setup : Setup) (name : NodeName) (running : Running) (p : 
 abbrev pub Stay : NodeName → List Deed → List Deed → Type 0
 Stay name done more = (deed : Deed) → deed.node ≡ name → In deed done → In deed more
 
-waits-more : (name : NodeName) (before : ℕ) (saved : Saved) (works : List NodeWork) (journal : List Work) (done more : List Deed)
+waits-more : (name : NodeName) (before : ℕ) (saved : Saved) (works : List NodeWork) (journal : List NodeWork) (done more : List Deed)
     (held : Held) → Stay name done more → Waits name before saved works journal done held →
     Waits name before saved works journal more held
 waits-more name before saved works journal done more held stay w = record {

@@ -7,8 +7,8 @@ use Rattle.std.proofs.lemmas.Bool.{leb-true, leb-false, le-leb, lt-leb, ltb-true
 use Rattle.rc_types.specs.declared.events.NodeWork.{NodeWork}
 use Rattle.rc_types.specs.declared.events.NodeWork.TheVariants as work
 use Rattle.rc_types.specs.declared.messages.Message.{Message}
-use Rattle.rc_history.specs.Nodes.{Node}
-use Rattle.rc_world.specs.NodeView.{NodeData, after_work}
+use Rattle.rc_history.specs.Nodes.{Node, node_step}
+use Rattle.rc_world.specs.NodeView.{NodeData}
 use Rattle.rc_process.specs.declared.saving.Saving.{Saving}
 use Rattle.rc_process.specs.View.{Held, ProcessView, AllAbove, past_one, first_ready, LARGEST, moved_place, move_mark, move_held}
 use Rattle.rc_process.specs.View.{moved_held, Leaves, started_next, ProcessData, process_seen, moved}
@@ -707,13 +707,13 @@ started_between process _ started written starts is e h = (omega arith, omega ar
 
 -- what a process is after a work, part by part
 pub is_given : (old : ProcessView) (work : NodeWork) (node : Node) (written started : ℕ) (held : List Held) →
-    node ≡ (after_work old.node work).0 → written ≡ written_next old work → started ≡ started_next old work written →
-    held ≡ old.held ++ (rests_on old work, (after_work old.node work).1) ∷ [] →
+    node ≡ (node_step old.node work).0 → written ≡ written_next old work → started ≡ started_next old work written →
+    held ≡ old.held ++ (rests_on old work, (node_step old.node work).1) ∷ [] →
     record { node = node; written = written; started = started; safe = old.safe; held = held; saving = old.saving } ≡ given old work
 is_given old work node written started held one two three four =
     ap (λ (n : Node). record { node = n; written = written; started = started; safe = old.safe; held = held; saving = old.saving }) one
     ∙ (ap (λ (s : ℕ). record {
-      node = (after_work old.node work).0;
+      node = (node_step old.node work).0;
       written = written;
       started = s;
       safe = old.safe;
@@ -721,7 +721,7 @@ is_given old work node written started held one two three four =
       saving = old.saving;
     }) three
     ∙ (ap (λ (w : ℕ). record {
-      node = (after_work old.node work).0;
+      node = (node_step old.node work).0;
       written = w;
       started = started_next old work w;
       safe = old.safe;
@@ -729,7 +729,7 @@ is_given old work node written started held one two three four =
       saving = old.saving;
     }) two
     ∙ ap (λ (h : List Held). record {
-      node = (after_work old.node work).0;
+      node = (node_step old.node work).0;
       written = written_next old work;
       started = started_next old work (written_next old work);
       safe = old.safe;

@@ -10,8 +10,8 @@ use Rattle.rc_types.specs.declared.messages.Message.{Message}
 use Rattle.rc_model.specs.Headline.{In}
 use Rattle.rc_model.specs.Nodes.{Ask, outside_can, outside_sends}
 use Rattle.rc_model.specs.World.{NodeName, TheOutside, same_node, node_of}
-use Rattle.rc_history.specs.Nodes.{new_node}
-use Rattle.rc_world.specs.NodeView.{NodeData, node_seen, may_take}
+use Rattle.rc_history.specs.Nodes.{new_node, node_can}
+use Rattle.rc_world.specs.NodeView.{NodeData, node_seen}
 use Rattle.rc_keeping.specs.SaveClaims.{IsSaved}
 use Rattle.rc_keeping.specs.Saved.{Saved}
 use Rattle.rc_lives.specs.Processes.{Happening, new_processes, MayAll, after_all}
@@ -87,7 +87,7 @@ MayBring machine name (work.Deliver message) = In message machine.left × (node_
 MayBring machine name _ = Unit {0}
 
 pub record IsGiven (old : Machine) (name : NodeName) (work : NodeWork) (new : Machine) : Type 0 where
-  pub can : may_take (old.at name).process.node work ≡ true
+  pub can : node_can (old.at name).process.node work ≡ true
   pub brought : MayBring old name work
   pub is : new ≡ put_at old name (record {
     process = given (old.at name).process work;

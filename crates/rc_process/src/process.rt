@@ -4,8 +4,8 @@ ghost use Rattle.std.specs.Prelude.{[], ◌≡◌, ◌≤◌, ◌↔◌, ◌⊎�
 ghost use Rattle.std.specs.Prelude.{Err, Some, None, OnOk, OnErr, IfOk, IfErr, IfSome, IfNone};
 ghost use Rattle.rc_types.specs.declared.faults.Fault.TheVariants.{OutOfMemory, BadEvent};
 ghost use Rattle.rc_world.specs.declared.work.StepFault.TheVariants.{NoRoom, Refused};
-ghost use Rattle.rc_history.specs.Nodes.{name_of};
-ghost use Rattle.rc_world.specs.NodeView.{work_at, node_seen, may_take, NodeHasRoom};
+ghost use Rattle.rc_history.specs.Nodes.{name_of, node_can};
+ghost use Rattle.rc_world.specs.NodeView.{node_seen, NodeHasRoom};
 ghost use Rattle.rc_lives.specs.Lives.{keeps, is_masters};
 ghost use Rattle.rc_keeping.specs.SaveClaims.{IsSaved};
 ghost use Rattle.rc_keeping.specs.Saved.{saved_of};
@@ -129,9 +129,9 @@ impl<A: Allocator + Clone> Process<A> {
         ensures taken { OnOk result (process_seen self.new ≡ given (process_seen self.old) work.now) }
         ensures written { OnOk result (
             out.new.items ≡ out.old.items ++ written_down (node_seen self.old.node) work.now) }
-        ensures possible { OnOk result (may_take (node_seen self.old.node) work.now ≡ true) }
+        ensures possible { OnOk result (node_can (node_seen self.old.node) work.now ≡ true) }
         ensures full { (result ≡ Err NoRoom) ↔ (NodeHasRoom (node_seen self.old.node) → ⊥) }
-        ensures bad { result ≡ Err (Refused BadEvent) → may_take (node_seen self.old.node) work.now ≡ false }
+        ensures bad { result ≡ Err (Refused BadEvent) → node_can (node_seen self.old.node) work.now ≡ false }
         ensures fault { IfErr result (λ fault.
             (fault ≡ NoRoom) ⊎ (fault ≡ Refused OutOfMemory) ⊎ (fault ≡ Refused BadEvent)) }
         ensures err { OnErr result (process_seen self.new ≡ process_seen self.old) }
@@ -168,7 +168,7 @@ impl<A: Allocator + Clone> Process<A> {
 
     /// Whether the node keeps the work.
     pub(crate) fn keeps(&self, work: &NodeWork) -> bool
-        ensures { result ≡ keeps (name_of (node_seen self.now.node)) (work_at (node_seen self.now.node) work.now) }
+        ensures { result ≡ keeps (name_of (node_seen self.now.node)) work.now }
     {
         keeps(self.node.name(), work)
     }
@@ -178,8 +178,8 @@ impl<A: Allocator + Clone> Process<A> {
         requires room { NodeHasRoom (node_seen self.old.node) }
         requires down { more ≡ length (written_down (node_seen self.old.node) work.now) }
         ensures taken { OnOk result (process_seen self.new ≡ given (process_seen self.old) work.now) }
-        ensures possible { OnOk result (may_take (node_seen self.old.node) work.now ≡ true) }
-        ensures bad { result ≡ Err BadEvent → may_take (node_seen self.old.node) work.now ≡ false }
+        ensures possible { OnOk result (node_can (node_seen self.old.node) work.now ≡ true) }
+        ensures bad { result ≡ Err BadEvent → node_can (node_seen self.old.node) work.now ≡ false }
         ensures fault { IfErr result (λ fault. (fault ≡ OutOfMemory) ⊎ (fault ≡ BadEvent)) }
         ensures err { OnErr result (process_seen self.new ≡ process_seen self.old) }
     {
@@ -217,7 +217,7 @@ impl<A: Allocator + Clone> Process<A> {
 
     /// Whether the work is one for the master that runs, and for nothing else of the node.
     fn is_masters(&self, work: &NodeWork) -> bool
-        ensures { result ≡ is_masters (node_seen self.now.node) (work_at (node_seen self.now.node) work.now) }
+        ensures { result ≡ is_masters (node_seen self.now.node) work.now }
     {
         match work {
             NodeWork::Tick => self.node.runs(),

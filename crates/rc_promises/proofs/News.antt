@@ -3,7 +3,7 @@ use Rattle.std.proofs.Common.{◌≡◌, ◌⊎◌, ℕ, false, List, [], ◌∷
 use Rattle.std.proofs.lemmas.List.{append-nil, append_assoc}
 use Rattle.rc_model.specs.Model.{ServerId, Addr, Server, Outside, Setup, Event, Message, Body, Write, Read, ReadOk, Enlist, put}
 use Rattle.rc_model.specs.Model.{to_coordinator, to_outside, Found, read_of, Backup, backup_takes, term_of, Master, durable_entries}
-use Rattle.rc_model.specs.Model.{then_does, goes_on, master_takes_first, deposed_takes, master_takes, master_ticks, Work}
+use Rattle.rc_model.specs.Model.{then_does, goes_on, master_takes_first, deposed_takes, master_takes, master_ticks, NodeWork}
 use Rattle.rc_model.specs.Model.{HostNode, outside_sends, coordinator_step, server_of, host_step, starts_host, next_server, World, opening}
 use Rattle.rc_model.specs.Model.{NodeName, TheOutside, TheCoordinator, TheHost, Job, work_of, is_possible, node_done, job_done, step}
 use Rattle.rc_model.specs.Model.{replay, In, reads_under, refused, NotOwner}
@@ -179,7 +179,7 @@ news-quiet world messages asked quiet = record {
 news-none : (world : World) → IsNews world []
 news-none world = news-quiet world [] (λ message at. absurd at) (λ message at. absurd at)
 
-news-outside : (world : World) (work : Work) → IsNews world (outside_sends work)
+news-outside : (world : World) (work : NodeWork) → IsNews world (outside_sends work)
 news-outside world (Ask to body) = news-quiet world (outside_sends (Ask to body)) (λ message at table key value says. from message at)
     (λ message at m server. not_server m (sym (from message at) ∙ server))
   where
@@ -263,7 +263,7 @@ module _ (world : World) (one : Event) (i : ℕ) (good : GoodWorld world) where
       quiet message (inl same) m from = ap (λ (it : Message). is_read_ok it.body) same
       quiet message (inr never) m from = absurd never
 
-  news-host : (work : Work) → IsGiven world.sent (TheHost i) work → News (host_step (world.hosts i) work)
+  news-host : (work : NodeWork) → IsGiven world.sent (TheHost i) work → News (host_step (world.hosts i) work)
   news-host work given = walked-host world one i good News (record {
     still = news-none world;
     backs = λ master e from says at moved. news-backup (backup_takes (world.hosts i).backup from says) moved;
@@ -282,7 +282,7 @@ pub record Adds (world after : World) : Type 0 where
   pub grows : after.sent ≡ world.sent ++ messages
   pub news : IsNews world messages
 
-adds-node : (world : World) (one : Event) (node : NodeName) (work : Work) → GoodWorld world → IsGiven world.sent node work →
+adds-node : (world : World) (one : Event) (node : NodeName) (work : NodeWork) → GoodWorld world → IsGiven world.sent node work →
     Adds world (node_done world one node work)
 adds-node world one TheOutside work good given = record { messages = outside_sends work; grows = refl; news = news-outside world work }
 adds-node world one TheCoordinator work good given = record {

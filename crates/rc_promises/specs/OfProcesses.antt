@@ -7,7 +7,7 @@ use Rattle.rc_types.specs.declared.ids.Addr.TheVariants.{Server, Outside}
 use Rattle.rc_types.specs.declared.events.Setup.{Setup}
 use Rattle.rc_types.specs.declared.messages.Message.{Message}
 use Rattle.rc_types.specs.declared.messages.Body.TheVariants.{Write, ReadOk}
-use Rattle.rc_model.specs.Nodes.{Work}
+use Rattle.rc_model.specs.Nodes.{NodeWork}
 use Rattle.rc_model.specs.World.{NodeName}
 use Rattle.rc_model.specs.Breach.{breach}
 use Rattle.rc_model.specs.Recovered.{Ack, Accepted}
@@ -89,5 +89,5 @@ pub record IsTrueThen (setup : Setup) (all : Processes) (m : ServerId) (answer :
 abbrev pub ReadsWhenMade : Type 0
 ReadsWhenMade = (setup : Setup) (happenings : List Happening) → MayAll setup (new_processes setup) happenings →
     let all = after_all setup (new_processes setup) happenings in
-    (name : NodeName) (work : Work) → MayTake all name work → (m : ServerId) (answer : Answer) →
+    (name : NodeName) (work : NodeWork) → MayTake all name work → (m : ServerId) (answer : Answer) →
     HasAnswered (deed_of name (all.at name).life work).sent m answer → IsTrueThen setup all m answer

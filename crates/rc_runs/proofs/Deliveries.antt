@@ -3,7 +3,8 @@ use Rattle.std.proofs.Common.{◌≡◌, ◌<◌, ℕ, zero, suc, Bool, true, fa
 use Rattle.std.proofs.Common.{Some, None, slice_get, slice_set, refl, sym, ap, ◌∙◌, arith, true≢false, length-append}
 use Rattle.std.specs.List.{list_any}
 use Rattle.std.proofs.lemmas.List.Folds.{list_any-append}
-use Rattle.rc_model.specs.Model.{Event, Deliver, Message}
+use Rattle.rc_types.specs.declared.events.Event.TheVariants as event
+use Rattle.rc_model.specs.Model.{Event, Message}
 use Rattle.rc_runs.specs.declared.passing.Passing.{Passing}
 use Rattle.rc_runs.specs.Delivered.{is_delivered, delivers}
 use Rattle.rc_runs.specs.Lanes.{Lane, marked}
@@ -50,9 +51,9 @@ fits_after events sent more one delivered marks waiting fits same says = record 
 pub fits_delivered : (events : List Event) (sent more : List Message) (number : ℕ) (delivered marks : List Bool)
     (waiting numbers : List Lane) → Fits events sent delivered waiting
     → number < length delivered → marks ≡ slice_set delivered number true → numbers ≡ waiting →
-    Fits (events ++ Deliver number ∷ []) (sent ++ more) marks numbers
+    Fits (events ++ event.Deliver number ∷ []) (sent ++ more) marks numbers
 fits_delivered events sent more number delivered marks waiting numbers fits within set same =
-    rw (set, same) (fits_after events sent more (Deliver number) delivered (slice_set delivered number true) waiting fits
+    rw (set, same) (fits_after events sent more (event.Deliver number) delivered (slice_set delivered number true) waiting fits
     (mark_length delivered number) (λ n. mark_at delivered n number within))
 
 -- after an event that delivers nothing

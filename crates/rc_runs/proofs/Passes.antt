@@ -3,7 +3,8 @@ use Rattle.std.proofs.Common.{◌≡◌, ◌⊎◌, inl, inr, ◌≤◌, ◌<◌
 use Rattle.std.proofs.Common.{List, [], ◌∷◌, length, Some, None, Ok, Err, refl, sym, ap, ◌∙◌, arith, true≢false}
 use Rattle.std.proofs.Common.{length-append, drop, is_some, slice_get, drop_of_length-le, unwrap_or, if◌then◌else◌}
 use Rattle.std.proofs.lemmas.List.{length-drop}
-use Rattle.rc_model.specs.Model.{Event, Deliver, Fault, MAX_EVENTS, Message, World, delivery, is_possible_job, step, is_possible, Addr}
+use Rattle.rc_types.specs.declared.events.Event.TheVariants as event
+use Rattle.rc_model.specs.Model.{Event, Fault, MAX_EVENTS, Message, World, delivery, is_possible_job, step, is_possible, Addr}
 use Rattle.rc_model.specs.Model.{Server, Outside}
 use Rattle.rc_types.specs.declared.faults.Fault.TheVariants.{OutOfMemory, BadEvent}
 use Rattle.rc_types.specs.declared.ids.Addr.TheVariants.{Coordinator}
@@ -26,7 +27,7 @@ no_room passing world n number due = rw due refl
 
 -- and else it is delivered
 one_due : (passing : Passing) (left : ℕ) (world : World) (n number : ℕ) → due_from passing world.events world.sent n ≡ Some number
-    → pass passing (suc left) world n ≡ pass passing left (step world (Deliver number)) (number + 1)
+    → pass passing (suc left) world n ≡ pass passing left (step world (event.Deliver number)) (number + 1)
 one_due passing left world n number due = rw due refl
 
 -- a message that is due was sent
@@ -54,7 +55,7 @@ can_take world message Coordinator to = rw to refl
 can_take world message (Server id) to = rw to refl
 
 due_possible : (passing : Passing) (world : World) (n number : ℕ) →
-    due_from passing world.events world.sent n ≡ Some number → is_possible world (Deliver number) ≡ true
+    due_from passing world.events world.sent n ≡ Some number → is_possible world (event.Deliver number) ≡ true
 due_possible passing world n number due =
     let within = due_within passing world.events n number (drop n world.sent) due in
     let long = length-drop n world.sent in
@@ -75,23 +76,24 @@ longer world after one made = ap (λ w. length w.events) made ∙ length-append 
 -- one turn of a pass
 pub turn_taken : (passing : Passing) (most from number : ℕ) (world after : Happened) → (replayed world).events ≡ world.events
     → due_from passing (replayed world).events (replayed world).sent from ≡ Some number →
-    after ≡ with_events world (Deliver number ∷ []) → can_happen world (Deliver number) ≡ true →
+    after ≡ with_events world (event.Deliver number ∷ []) → can_happen world (event.Deliver number) ≡ true →
     length after.events ≤ most
     → pass passing (events_left most (replayed world)) (replayed world) from ≡ pass passing
     (events_left most (replayed after)) (replayed after) (number + 1)
 turn_taken passing most from number world after taken due made can room =
-    let more = longer world after (Deliver number) made in
-    let taken_after = taken_then world after (Deliver number) taken made can in
+    let more = longer world after (event.Deliver number) made in
+    let taken_after = taken_then world after (event.Deliver number) taken made can in
     let left : events_left most (replayed world) ≡ suc (events_left most (replayed after)) =
     omega (arith, ap length taken, ap length taken_after, more, room) in
-    let stepped : replayed after ≡ step (replayed world) (Deliver number) = ap replayed made ∙ replayed_more world (Deliver number) in
+    let stepped : replayed after ≡ step (replayed world) (event.Deliver number) =
+    ap replayed made ∙ replayed_more world (event.Deliver number) in
     rw left (one_due passing (events_left most (replayed after)) (replayed world) from number due
     ∙ ap (λ w. pass passing (events_left most (replayed after)) w (number + 1)) (sym stepped))
 
 -- a turn that fails
 no_room_for : (passing : Passing) (fault : Fault) (from number : ℕ) (world : Happened) → (replayed world).events ≡ world.events
     → due_from passing (replayed world).events (replayed world).sent from ≡ Some number →
-    (fault ≡ OutOfMemory) ⊎ (fault ≡ BadEvent) → (fault ≡ BadEvent → can_happen world (Deliver number) ≡ false)
+    (fault ≡ OutOfMemory) ⊎ (fault ≡ BadEvent) → (fault ≡ BadEvent → can_happen world (event.Deliver number) ≡ false)
     → events_left (room_at fault world) (replayed world) ≡ 0
 no_room_for passing fault from number world taken due (inl same) bad = rw same (omega (arith, ap length taken))
 no_room_for passing fault from number world taken due (inr same) bad =
@@ -105,7 +107,7 @@ no_room_for passing fault from number world taken due (inr same) bad =
 
 pub turn_stops : (passing : Passing) (fault : Fault) (from number : ℕ) (world : Happened) → (replayed world).events ≡ world.events
     → due_from passing (replayed world).events (replayed world).sent from ≡ Some number →
-    (fault ≡ OutOfMemory) ⊎ (fault ≡ BadEvent) → (fault ≡ BadEvent → can_happen world (Deliver number) ≡ false)
+    (fault ≡ OutOfMemory) ⊎ (fault ≡ BadEvent) → (fault ≡ BadEvent → can_happen world (event.Deliver number) ≡ false)
     → pass passing (events_left (room_at fault world) (replayed world)) (replayed world) from ≡ Err (replayed world)
 turn_stops passing fault from number world taken due which bad =
     rw (no_room_for passing fault from number world taken due which bad) (no_room passing (replayed world) from number due)

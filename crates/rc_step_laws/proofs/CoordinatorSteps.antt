@@ -14,7 +14,7 @@ use Rattle.rc_model.proofs.Members.{In-left, In-append}
 use Rattle.rc_model.proofs.Sending.{Each, each-none, each-one, each-both}
 use Rattle.rc_model.proofs.CoordinatorWalk.{Stays, Moves, each-to, each-plans, each-ticks, walked-suspects, walked-decides}
 use Rattle.rc_model.proofs.CoordinatorWalk.{walked-creates, walked-splits, walked-takes, walked-step}
-use Rattle.rc_model.specs.Model.{Work, Take, coordinator_step}
+use Rattle.rc_model.specs.Model.{NodeWork, Deliver, coordinator_step}
 use Rattle.rc_step_laws.specs.All.{OnDifferentHosts, IsNumbered, IsPlan, GoodAttempt, GoodCoordinator, CoordinatorMoved}
 use Rattle.rc_step_laws.specs.All.{CoordinatorMayHear, coordinator_body_said}
 use Rattle.rc_step_laws.proofs.Servers.{crashed-not-up, crashed-stays-crashed, crashed-stays-enlisted, apart-crashed, apart-enlisted}
@@ -267,6 +267,6 @@ module _ (sent : List Message) (c : Coordinator) (good : GoodCoordinator sent c)
       CoordinatorMoved sent c (coordinator_takes c from body)
   moved-takes from body hear = walked-takes c Hears Came Moved stays moves from body hear
 
-  pub moved-step : (work : Work) → ((message : Message) → work ≡ Take message → CoordinatorMayHear sent message.from message.body) →
+  pub moved-step : (work : NodeWork) → ((message : Message) → work ≡ Deliver message → CoordinatorMayHear sent message.from message.body) →
       CoordinatorMoved sent c (coordinator_step c work)
   moved-step work hear = walked-step c Hears Came Moved stays moves work hear

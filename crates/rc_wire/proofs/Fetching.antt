@@ -9,7 +9,8 @@ use Rattle.rc_wire.specs.declared.steps.Step.{Step}
 use Rattle.rc_wire.specs.declared.steps.Step.TheVariants.{Do, Settle}
 use Rattle.rc_wire.specs.Runs.{none_fetched}
 use Rattle.rc_wire.specs.Ends.{IsIdle}
-use Rattle.rc_wire.specs.Seats.{seat_named, new_seats}
+use Rattle.rc_wire.specs.Views.{name_at}
+use Rattle.rc_wire.specs.Seats.{new_seats}
 use Rattle.rc_wire.specs.Workload.{push, owner, starts, created, write_of, asks, workload}
 
 and-more : (a b : Bool) → a ≡ true → b ≡ true → (a && b) ≡ true
@@ -56,7 +57,7 @@ none-workload hosts writes =
     (none-push (push asked suspect) Settle
     (none-push asked suspect (none-push (asks hosts writes) Settle (none-asks hosts writes) refl) refl) refl) refl) refl
 
-new-idle : (numbers : List ℕ) → All IsIdle (map (λ number. new_seat (seat_named number)) numbers)
+new-idle : (numbers : List ℕ) → All IsIdle (map (λ number. new_seat (name_at number)) numbers)
 new-idle [] k d lt = absurd (omega (arith, lt))
 new-idle (n ∷ numbers) zero d lt = refl
 new-idle (n ∷ numbers) (suc k) d lt = new-idle numbers k d (omega (arith, lt))

@@ -3,9 +3,9 @@ use Rattle.std.proofs.Common.{◌≡◌, ℕ, Bool, true, false, ◌||◌, nat_e
 use Rattle.std.specs.List.{list_any}
 use Rattle.std.proofs.lemmas.List.{append-nil}
 use Rattle.std.proofs.lemmas.List.Folds.{list_any-append}
-use Rattle.rc_model.specs.Model.{Event, Deliver}
-use Rattle.rc_history.specs.Nodes.{Node}
-use Rattle.rc_world.specs.NodeView.{event_of}
+use Rattle.rc_types.specs.declared.events.Event.TheVariants.{Deliver}
+use Rattle.rc_model.specs.Model.{Event}
+use Rattle.rc_history.specs.Nodes.{Node, event_of}
 use Rattle.rc_types.specs.declared.events.NodeWork.{NodeWork}
 use Rattle.rc_types.specs.declared.events.NodeWork.TheVariants as work
 use Rattle.rc_wire.specs.Given.{is_delivery}

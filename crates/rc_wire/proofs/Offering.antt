@@ -1,14 +1,13 @@
 -- A step that a node has taken is an event of the world that its seat has seen.
 use Rattle.std.proofs.Common.{◌≡◌, ℕ, Bool, true, ◌&&◌, List, ◌++◌, Some, refl, sym, ap, ◌∙◌}
-use Rattle.rc_model.specs.Model.{Message, World, NodeName, Job, work_of, is_possible}
-use Rattle.rc_history.specs.Nodes.{Node, name_of, node_in}
+use Rattle.rc_model.specs.Model.{Event, Message, World, NodeName, Job, work_of, is_possible}
+use Rattle.rc_history.specs.Nodes.{Node, name_of, node_in, can_take, node_can}
 use Rattle.rc_history.specs.Events.{is_for}
 use Rattle.rc_history.specs.Claims.{NodeTakes}
 use Rattle.rc_history.proofs.Steps.{node_takes}
 use Rattle.rc_wire.proofs.Named.{same_node-same}
-use Rattle.rc_world.specs.NodeView.{work_at, may_take}
-use Rattle.rc_world.specs.NodeCalls.{WasSent}
-use Rattle.rc_world.proofs.NodeCalls.{given-job}
+use Rattle.rc_history.specs.Apart.{WasSent}
+use Rattle.rc_history.proofs.Own.{given-job, takes-own}
 use Rattle.rc_types.specs.declared.events.NodeWork.{NodeWork}
 use Rattle.rc_wire.specs.declared.offer.Offer.{Offer}
 use Rattle.rc_wire.specs.SeatView.{Offered}
@@ -21,13 +20,13 @@ seen_of offer = record { event = offer.event; messages = offer.messages.items }
 
 -- what a node has done is a step of it
 pub does-step : (sent : List Message) (name : NodeName) (before : Node) (number : ℕ) (given : NodeWork) (offer : Offer) (after : Node) →
-    name_of before ≡ name → WasSent sent before number given → may_take before given ≡ true → Does before number given offer after →
+    name_of before ≡ name → WasSent sent before number given → node_can before given ≡ true → Does before number given offer after →
     IsStep sent name before (seen_of offer) after
 does-step sent name before number given offer after named was can d = record {
-  work = work_at before given;
+  work = given;
   given = ap (work_of sent) d.event ∙ (given-job sent before number given was can
-      ∙ ap (λ (n : NodeName). Some (let job : Job = record { node = n; work = work_at before given } in job)) named);
-  can = can;
+      ∙ ap (λ (n : NodeName). Some (let job : Job = record { node = n; work = given } in job)) named);
+  can = ap (λ (e : Event). can_take before e given) d.event ∙ takes-own before number given can;
   state = d.state;
   sends = d.sends;
 }

@@ -6,12 +6,12 @@ use Rattle.std.specs.Option.{IfSome}
 use Rattle.rc_model.specs.Model.{Fault, Setup, Event, Message, NodeName, same_node, node_of}
 use Rattle.rc_types.specs.declared.faults.Fault.TheVariants.{BadEvent}
 use Rattle.rc_model.proofs.Ids.{same_node-true}
-use Rattle.rc_history.specs.Nodes.{Node, TheOutside, TheCoordinator, TheHost, name_of}
+use Rattle.rc_history.specs.Nodes.{Node, TheOutside, TheCoordinator, TheHost, name_of, event_of, node_can}
 use Rattle.rc_history.specs.Events.{takes}
 use Rattle.rc_history.proofs.Names.{names-kept}
 use Rattle.rc_wire.specs.declared.view.Place.{Place}
-use Rattle.rc_world.specs.NodeView.{event_of, may_take, NodeHasRoom}
-use Rattle.rc_world.specs.NodeCalls.{WasSent}
+use Rattle.rc_world.specs.NodeView.{NodeHasRoom}
+use Rattle.rc_history.specs.Apart.{WasSent}
 use Rattle.rc_world.proofs.Rooms.{histories-leave-room}
 use Rattle.rc_types.specs.declared.events.NodeWork.{NodeWork}
 use Rattle.rc_types.specs.declared.events.NodeWork.TheVariants as work
@@ -53,17 +53,17 @@ idle-noted setup seat number node numbers s idle n =
 
 pub give-takes : (setup : Setup) (seat : SeatData) (number : ℕ) (node : Node) (numbers : List ℕ) (given : NodeWork) →
     SeatSound setup seat number node numbers → seat.pending ≡ None → is_delivery given ≡ false →
-    takes seat.name (world_at setup seat) (event_of (node_at setup seat) 0 given) ≡ may_take node given
+    takes seat.name (world_at setup seat) (event_of (node_at setup seat) 0 given) ≡ node_can node given
 give-takes setup seat number node numbers given s idle none =
     takes-given (world_at setup seat) seat.name 0 given (names-kept setup seat.seen seat.name) none
-    ∙ ap (λ (n : Node). may_take n given) (sym (idle-node setup seat number node numbers s idle))
+    ∙ ap (λ (n : Node). node_can n given) (sym (idle-node setup seat number node numbers s idle))
 
 nothing-sent : (sent : List Message) (node : Node) (given : NodeWork) → is_delivery given ≡ false → WasSent sent node 0 given
 nothing-sent sent node (work.Deliver message) is = let no : true ≡ false = is in absurd (true≢false no)
 nothing-sent sent node _ is = tt
 
 pub given-step : (setup : Setup) (seat : SeatData) (number : ℕ) (node after : Node) (numbers : List ℕ) (given : NodeWork) (offer : Offer) →
-    SeatSound setup seat number node numbers → seat.pending ≡ None → is_delivery given ≡ false → may_take node given ≡ true →
+    SeatSound setup seat number node numbers → seat.pending ≡ None → is_delivery given ≡ false → node_can node given ≡ true →
     Does node 0 given offer after → IsStep (world_at setup seat).sent seat.name (node_at setup seat) (seen_of offer) after
 given-step setup seat number node after numbers given offer s idle none can d =
     let sent : List Message = (world_at setup seat).sent in
@@ -73,7 +73,7 @@ given-step setup seat number node after numbers given offer s idle none can d =
 
 -- The message that is held
 
-takes-messages : (node : Node) (message : Message) → may_take node (work.Deliver message) ≡ true
+takes-messages : (node : Node) (message : Message) → node_can node (work.Deliver message) ≡ true
 takes-messages TheOutside message = refl
 takes-messages (TheCoordinator c) message = refl
 takes-messages (TheHost host) message = refl
@@ -126,7 +126,7 @@ sound-offered setup seat number node after numbers noted offer held s step holds
 }
 
 pub sound-given : (setup : Setup) (seat : SeatData) (number : ℕ) (node after : Node) (numbers : List ℕ) (given : NodeWork) (offer : Offer) →
-    SeatSound setup seat number node numbers → seat.pending ≡ None → is_delivery given ≡ false → may_take node given ≡ true →
+    SeatSound setup seat number node numbers → seat.pending ≡ None → is_delivery given ≡ false → node_can node given ≡ true →
     Does node 0 given offer after → SeatSound setup (record seat { pending = Some (seen_of offer) }) number after numbers
 sound-given setup seat number node after numbers given offer s idle none can d =
     sound-offered setup seat number node after numbers numbers offer seat.held s

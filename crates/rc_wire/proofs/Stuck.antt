@@ -4,7 +4,7 @@ use Rattle.std.proofs.Common.{slice_get, refl, sym, ap, ◌∙◌, subst, arith}
 use Rattle.std.specs.Prelude.{Result, Ok, Err, IfErr, option_to_list, if◌then◌else◌}
 use Rattle.rc_types.specs.declared.limits.TheConstants.{MAX_EVENTS}
 use Rattle.rc_types.specs.declared.faults.Fault.TheVariants.{OutOfMemory, BadEvent}
-use Rattle.rc_model.specs.Model.{Setup, Message, Fault, World, Take, NodeName, TheOutside, TheCoordinator, TheHost, node_of, same_node}
+use Rattle.rc_model.specs.Model.{Setup, Message, Fault, World, Deliver, NodeName, TheOutside, TheCoordinator, TheHost, node_of, same_node}
 use Rattle.rc_model.specs.World.{node_can, is_possible_job, delivery}
 use Rattle.rc_history.specs.Events.{is_for}
 use Rattle.rc_history.proofs.Longer.{longer-sent}
@@ -22,7 +22,7 @@ use Rattle.rc_wire.proofs.Turning.{starts-back}
 
 -- A message that is held can be taken
 
-takes-can : (world : World) (name : NodeName) (message : Message) → node_can world name (Take message) ≡ true
+takes-can : (world : World) (name : NodeName) (message : Message) → node_can world name (Deliver message) ≡ true
 takes-can world TheOutside message = refl
 takes-can world TheCoordinator message = refl
 takes-can world (TheHost index) message = refl
@@ -49,7 +49,7 @@ can-deliver setup old found from number least f =
     ap (λ (h : Option (ℕ × Message)). takes_if name world (event_for (node_at setup found) h work.Fetched))
     (ap (λ (s : SeatData). s.held) f.after)
     ∙ (ap (λ (o : Option Message). is_possible_job world (delivery o) && is_for name (delivery o)) f.found
-    ∙ both-true (node_can world (node_of f.message.to) (Take f.message)) (same_node (node_of f.message.to) name)
+    ∙ both-true (node_can world (node_of f.message.to) (Deliver f.message)) (same_node (node_of f.message.to) name)
     (takes-can world (node_of f.message.to) f.message) mine)
 
 -- What is said of F18

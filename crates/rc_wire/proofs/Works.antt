@@ -6,7 +6,8 @@ use Rattle.rc_history.specs.Events.{events_of}
 use Rattle.rc_types.specs.declared.ids.NodeName.{NodeName}
 use Rattle.rc_wire.specs.SeatView.{SeatData, new_seat}
 use Rattle.rc_wire.specs.SeatCalls.{Covers}
-use Rattle.rc_wire.specs.Seats.{seat_named, new_seats}
+use Rattle.rc_wire.specs.Views.{name_at}
+use Rattle.rc_wire.specs.Seats.{new_seats}
 use Rattle.rc_wire.specs.declared.steps.Step.{Step}
 use Rattle.rc_wire.specs.Runs.{Runs, works_in, works_for}
 use Rattle.rc_wire.specs.Ends.{RunAll}
@@ -33,7 +34,7 @@ all-worked setup events steps (o ∷ olds) (n ∷ news) fresh ran covers (suc k)
     all-worked setup events steps olds news (λ j e l. fresh (suc j) e (omega (arith, l))) ran.1
     (λ j e l. covers (suc j) e (omega (arith, l))) k d (omega (arith, lt))
 
-new-fresh : (numbers : List ℕ) → All IsFresh (map (λ number. new_seat (seat_named number)) numbers)
+new-fresh : (numbers : List ℕ) → All IsFresh (map (λ number. new_seat (name_at number)) numbers)
 new-fresh [] k d lt = absurd (omega (arith, lt))
 new-fresh (n ∷ numbers) zero d lt = refl
 new-fresh (n ∷ numbers) (suc k) d lt = new-fresh numbers k d (omega (arith, lt))

@@ -2,8 +2,7 @@
 use Rattle.std.specs.Prelude.{◌≡◌, ℕ, Bool, true, false, if◌then◌else◌, Option, Some, None}
 use Rattle.rc_types.specs.declared.messages.Message.{Message}
 use Rattle.rc_model.specs.World.{NodeName, same_node, node_of}
-use Rattle.rc_history.specs.Nodes.{Node}
-use Rattle.rc_world.specs.NodeView.{event_of, after_work}
+use Rattle.rc_history.specs.Nodes.{Node, event_of, node_step}
 use Rattle.rc_types.specs.declared.events.NodeWork.{NodeWork}
 use Rattle.rc_types.specs.declared.events.NodeWork.TheVariants as given
 use Rattle.rc_wire.specs.declared.offer.Offer.{Offer}
@@ -20,5 +19,5 @@ own_number name (Some held) = if same_node (node_of held.1.to) name then Some he
 -- the node has done this, which is offered; a message has this number
 pub record Does (before : Node) (number : ℕ) (work : NodeWork) (offer : Offer) (after : Node) : Type 0 where
   pub event : offer.event ≡ event_of before number work
-  pub state : after ≡ (after_work before work).0
-  pub sends : offer.messages.items ≡ (after_work before work).1
+  pub state : after ≡ (node_step before work).0
+  pub sends : offer.messages.items ≡ (node_step before work).1

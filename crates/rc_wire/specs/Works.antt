@@ -1,6 +1,7 @@
 -- What a work is as an event of a seat's node, and to the node.
 use Rattle.std.specs.Prelude.{◌≡◌, ℕ, Bool, true, false, nat_eq, List, ◌++◌, Option, Some, None, option_map}
 use Rattle.std.specs.List.{list_any}
+use Rattle.std.specs.Option.{option_map_or}
 use Rattle.rc_types.specs.declared.events.Setup.{Setup}
 use Rattle.rc_types.specs.declared.events.Event.{Event}
 use Rattle.rc_types.specs.declared.events.Event.TheVariants as event
@@ -8,37 +9,11 @@ use Rattle.rc_types.specs.declared.events.NodeWork.{NodeWork}
 use Rattle.rc_types.specs.declared.events.NodeWork.TheVariants as given
 use Rattle.rc_types.specs.declared.messages.Message.{Message}
 use Rattle.rc_model.specs.World.{World, NodeName, step}
-use Rattle.rc_history.specs.Nodes.{Node}
+use Rattle.rc_history.specs.Nodes.{Node, event_of}
 use Rattle.rc_history.specs.Events.{takes}
-use Rattle.rc_world.specs.NodeView.{own_addr, own_server}
 use Rattle.rc_wire.specs.declared.work.Work.{Work}
 use Rattle.rc_wire.specs.declared.work.Work.TheVariants as work
 use Rattle.rc_wire.specs.SeatView.{SeatData, Offered, world_at, node_at}
-
--- A timer, a stop and a start are those of the node's own server; a message that is held goes by its number. Where none
--- is held, Fetched is no event.
-abbrev pub event_for : Node → Option (ℕ × Message) → Work → Option Event
-event_for node held work.Fetched = option_map (λ h. event.Deliver h.0) held
-event_for node held (work.Ask to body) = Some (event.Ask to body)
-event_for node held work.Tick = Some (event.Tick (own_addr node))
-event_for node held work.Stop = Some (event.Stop (own_server node))
-event_for node held (work.Start kept) = Some (event.Start (own_server node).index kept)
-event_for node held (work.Suspect id) = Some (event.Suspect id)
-event_for node held (work.Decide id) = Some (event.Decide id)
-event_for node held (work.Create table owner) = Some (event.Create table owner)
-event_for node held (work.Split table at) = Some (event.Split table at)
-
--- the work that an event is, where it is no delivery
-abbrev pub work_in : Event → Option Work
-work_in (event.Ask to body) = Some (work.Ask to body)
-work_in (event.Deliver number) = None
-work_in (event.Tick addr) = Some work.Tick
-work_in (event.Stop id) = Some work.Stop
-work_in (event.Start host kept) = Some (work.Start kept)
-work_in (event.Suspect id) = Some (work.Suspect id)
-work_in (event.Decide id) = Some (work.Decide id)
-work_in (event.Create table owner) = Some (work.Create table owner)
-work_in (event.Split table at) = Some (work.Split table at)
 
 -- what the node is given by a work; nothing by Fetched, whose message the seat holds
 abbrev pub given_of : Work → Option NodeWork
@@ -52,10 +27,26 @@ given_of (work.Decide id) = Some (given.Decide id)
 given_of (work.Create table owner) = Some (given.Create table owner)
 given_of (work.Split table at) = Some (given.Split table at)
 
+-- the event of a work; where it is Fetched, that of the message that is held, if there is one
+abbrev pub event_for : Node → Option (ℕ × Message) → Work → Option Event
+event_for node held given =
+    option_map_or (λ one. Some (event_of node 0 one)) (given_of given) (option_map (λ h. event.Deliver h.0) held)
+
+-- the work that an event is, where it is no delivery
+abbrev pub work_in : Event → Option Work
+work_in (event.Ask to body) = Some (work.Ask to body)
+work_in (event.Deliver number) = None
+work_in (event.Tick addr) = Some work.Tick
+work_in (event.Stop id) = Some work.Stop
+work_in (event.Start host kept) = Some (work.Start kept)
+work_in (event.Suspect id) = Some (work.Suspect id)
+work_in (event.Decide id) = Some (work.Decide id)
+work_in (event.Create table owner) = Some (work.Create table owner)
+work_in (event.Split table at) = Some (work.Split table at)
+
 -- whether there is an event, it is possible, and it is this node's
 abbrev pub takes_if : NodeName → World → Option Event → Bool
-takes_if name world None = false
-takes_if name world (Some event) = takes name world event
+takes_if name world found = option_map_or (takes name world) found false
 
 -- whether this is an event that the seat's node takes after what the seat has seen
 abbrev pub is_offered : Setup → SeatData → Option Event → Bool

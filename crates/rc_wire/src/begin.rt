@@ -3,7 +3,8 @@
 ghost use Rattle.std.specs.Prelude.{◌≡◌, ◌<◌, ◌≤◌, IfOk};
 ghost use Rattle.rc_world.specs.HostView.{IsWithinLimits};
 ghost use Rattle.rc_wire.specs.JournalCalls.{new_places};
-ghost use Rattle.rc_wire.specs.Seats.{seat_named, new_seats};
+ghost use Rattle.rc_wire.specs.Views.{name_at};
+ghost use Rattle.rc_wire.specs.Seats.{new_seats};
 
 use crate::names::Naming;
 use crate::seat::Seat;
@@ -28,15 +29,15 @@ pub(crate) fn seats_of<N: Naming>(
     let mut seats = Vec::with_capacity(alloc, nodes)?;
     for number in 0..nodes {
         let token = tokens.remove(0);
-        seats.push(Seat::new(alloc, seat_named(number), setup, token))?;
+        seats.push(Seat::new(alloc, name_at(number), setup, token))?;
     }
     Ok(seats)
 }
 
 /// Whose seat has this number.
-fn seat_named(number: usize) -> NodeName
+fn name_at(number: usize) -> NodeName
     requires { number < 258 }
-    ensures { result ≡ seat_named number }
+    ensures { result ≡ name_at number }
 {
     match number {
         0 => NodeName::Outside,

@@ -3,9 +3,9 @@
 ghost use Rattle.std.specs.Prelude.{◌≡◌, ◌⊎◌, ◌↔◌, true, false, is_some, option_map, OnErr, IfOk, IfErr};
 ghost use Rattle.std.specs.Option.{IfSome};
 ghost use Rattle.rc_types.specs.declared.faults.Fault.TheVariants.{OutOfMemory, BadEvent};
-ghost use Rattle.rc_history.specs.Nodes.{Node, new_node, name_of};
+ghost use Rattle.rc_history.specs.Nodes.{Node, new_node, name_of, event_of, node_can, own_addr, own_server};
 ghost use Rattle.rc_world.specs.HostView.{IsWithinLimits};
-ghost use Rattle.rc_world.specs.NodeView.{event_of, node_seen, own_server, own_addr, may_take, NodeHasRoom};
+ghost use Rattle.rc_world.specs.NodeView.{node_seen, NodeHasRoom};
 ghost use Rattle.rc_types.specs.declared.events.NodeWork.TheVariants.{Deliver};
 ghost use Rattle.rc_wire.specs.Works.{given_of};
 ghost use Rattle.rc_wire.specs.Given.{is_delivery, own_number, Does};
@@ -55,7 +55,7 @@ pub(crate) fn give(
     requires name { name_of (node_seen state.old) ≡ name }
     requires given { is_delivery given ≡ false }
     ensures does { IfOk result (λ offer. Does (node_seen state.old) 0 given offer (node_seen state.new)) }
-    ensures bad { (result ≡ Err BadEvent) ↔ (may_take (node_seen state.old) given ≡ false) }
+    ensures bad { (result ≡ Err BadEvent) ↔ (node_can (node_seen state.old) given ≡ false) }
     ensures fault { IfErr result (λ fault. (fault ≡ OutOfMemory) ⊎ (fault ≡ BadEvent)) }
     ensures err { OnErr result (node_seen state.new ≡ node_seen state.old) }
 {

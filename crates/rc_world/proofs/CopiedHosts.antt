@@ -9,7 +9,8 @@ use Rattle.std.specs.Map.{keys_of, lookup}
 use Rattle.indexmap.specs.IndexMap.{insert_entry}
 use Rattle.rc_model.specs.Model.{Setup}
 use Rattle.rc_world.specs.HostView.{HostData, host_of}
-use Rattle.rc_world.specs.Stops.{stopped, all_stopped, halted, halted_entry, IsBelow}
+use Rattle.rc_history.specs.Remade.{stopped}
+use Rattle.rc_world.specs.Stops.{all_stopped, halted, halted_entry, IsBelow}
 use Rattle.rc_world.specs.WorldView.{Hosts, host_at, hosts_of}
 
 abbrev pub Entries : Type 0

@@ -10,8 +10,7 @@ use Rattle.rc_numbers.proofs.Coordinators.{After, within-more, coordinator-withi
 use Rattle.rc_numbers.proofs.Worlds.{HostDone, WorkWithin, host-more, host-within, new-host}
 use Rattle.rc_numbers.proofs.Rooms.{room-of, versions-of}
 use Rattle.rc_world.specs.HostView.{HostHasRoom}
-use Rattle.rc_history.specs.Nodes.{Node, TheOutside, TheCoordinator, TheHost}
-use Rattle.rc_world.specs.NodeView.{work_at, after_work}
+use Rattle.rc_history.specs.Nodes.{Node, TheOutside, TheCoordinator, TheHost, node_step}
 use Rattle.rc_world.specs.NodeNumbers.{GivenWithin, StepWithin, NewNodesAreWithin, StepsStayWithin, MoreWorksAllowMore, NodesHaveRoom}
 use Rattle.rc_types.specs.declared.events.NodeWork.{NodeWork}
 use Rattle.rc_types.specs.declared.events.NodeWork.TheVariants as work
@@ -31,7 +30,7 @@ more-allow-more n m (TheHost host) more h = host-more n m more host h
 
 -- The outside
 
-outside-steps : (n : ℕ) (given : NodeWork) → GivenWithin n given → StepWithin (n + 1) (after_work TheOutside given)
+outside-steps : (n : ℕ) (given : NodeWork) → GivenWithin n given → StepWithin (n + 1) (node_step TheOutside given)
 outside-steps n (work.Ask to body) p =
     record {
       node = tt;
@@ -42,25 +41,25 @@ outside-steps n _ p = record { node = tt; sent = none-within (n + 1) }
 
 -- The coordinator
 
-coordinator-steps : (n : ℕ) (c : Coordinator) (given : NodeWork) → After n (coordinator_step c (work_at (TheCoordinator c) given)) →
-    StepWithin (n + 1) (after_work (TheCoordinator c) given)
+coordinator-steps : (n : ℕ) (c : Coordinator) (given : NodeWork) → After n (coordinator_step c given) →
+    StepWithin (n + 1) (node_step (TheCoordinator c) given)
 coordinator-steps n c given h = record { node = h.numbers; sent = h.messages }
 
 -- A host
 
-given-within : (n : ℕ) (node : Node) (given : NodeWork) → GivenWithin n given → WorkWithin n (work_at node given)
+given-within : (n : ℕ) (node : Node) (given : NodeWork) → GivenWithin n given → WorkWithin n given
 given-within n node (work.Deliver message) p = p
 given-within n node _ p = tt
 
-host-steps : (n : ℕ) (host : HostNode) (given : NodeWork) → HostDone (n + 1) (host_step host (work_at (TheHost host) given)) →
-    StepWithin (n + 1) (after_work (TheHost host) given)
+host-steps : (n : ℕ) (host : HostNode) (given : NodeWork) → HostDone (n + 1) (host_step host given) →
+    StepWithin (n + 1) (node_step (TheHost host) given)
 host-steps n host given h = record { node = h.host; sent = h.messages }
 
 pub steps-stay-within : StepsStayWithin
 steps-stay-within n TheOutside given h p = outside-steps n given p
-steps-stay-within n (TheCoordinator c) given h p = coordinator-steps n c given (coordinator-within c (work_at (TheCoordinator c) given) n h)
+steps-stay-within n (TheCoordinator c) given h p = coordinator-steps n c given (coordinator-within c given n h)
 steps-stay-within n (TheHost host) given h p =
-    host-steps n host given (host-within n host (work_at (TheHost host) given) h (given-within n (TheHost host) given p))
+    host-steps n host given (host-within n host given h (given-within n (TheHost host) given p))
 
 -- Room
 

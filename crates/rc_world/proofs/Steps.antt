@@ -1,13 +1,15 @@
 -- A step depends on the nodes and on what was sent, and on nothing else of a world.
-use Rattle.std.proofs.Common.{◌≡◌, ℕ, true, List, [], ◌∷◌, ◌++◌, Option, Some, None, refl, sym, ap, subst, ◌∙◌}
-use Rattle.rc_model.specs.Model.{Setup, Event, Message, put, HostNode, Work, outside_sends, coordinator_step, host_can, host_step, World}
+use Rattle.std.specs.Option.{option_map_or}
+use Rattle.std.proofs.Common.{◌≡◌, ℕ, true, ◌&&◌, List, [], ◌∷◌, ◌++◌, Option, Some, None, refl, sym, ap, subst, ◌∙◌}
+use Rattle.rc_model.specs.Model.{Setup, Event, Message, put, HostNode, NodeWork, outside_sends, coordinator_step, host_can, host_step}
+use Rattle.rc_model.specs.Model.{World}
 use Rattle.rc_model.specs.Model.{NodeName, TheOutside, TheCoordinator, TheHost, Job, work_of, node_can, is_possible, is_possible_job}
-use Rattle.rc_model.specs.Model.{node_done, job_done, step, replay, opening}
+use Rattle.rc_model.specs.Model.{node_done, job_done, step, replay, opening, is_running_at, runs_as_named, server_named, ServerId, Server}
 use Rattle.rc_model.specs.Coordinator.{Coordinator}
 use Rattle.rc_model.proofs.Replays.{replay_from-push}
 use Rattle.rc_world.specs.WorldView.{IsSame}
 
-can-same : (one other : World) → IsSame one other → (node : NodeName) (work : Work) → node_can one node work ≡ node_can other node work
+can-same : (one other : World) → IsSame one other → (node : NodeName) (work : NodeWork) → node_can one node work ≡ node_can other node work
 can-same one other same TheOutside work = refl
 can-same one other same TheCoordinator work = refl
 can-same one other same (TheHost index) work = ap (λ (hosts : ℕ → HostNode). host_can (hosts index) work) same.hosts
@@ -19,20 +21,23 @@ job-same one other same (Some job) = can-same one other same job.node job.work
 -- the same is possible
 pub possible-same : (one other : World) (event : Event) → IsSame one other → is_possible one event ≡ is_possible other event
 possible-same one other event same =
-    job-same one other same (work_of one.sent event) ∙ ap (λ (sent : List Message). is_possible_job other (work_of sent event)) same.sent
+    ap (λ (hosts : ℕ → HostNode). option_map_or (λ (id : ServerId). is_running_at (hosts id.index) (Server id)) (server_named event) true
+    && is_possible_job one (work_of one.sent event)) same.hosts
+    ∙ ap (λ b. runs_as_named other event && b) (job-same one other same (work_of one.sent event)
+    ∙ ap (λ (sent : List Message). is_possible_job other (work_of sent event)) same.sent)
 
-coordinator-sent : (a b : List Message) (c d : Coordinator) (work : Work) → a ≡ b → c ≡ d →
+coordinator-sent : (a b : List Message) (c d : Coordinator) (work : NodeWork) → a ≡ b → c ≡ d →
     a ++ (coordinator_step c work).1 ≡ b ++ (coordinator_step d work).1
 coordinator-sent a b c d work e f =
     ap (λ (sent : List Message). sent ++ (coordinator_step c work).1) e ∙ ap (λ (now : Coordinator). b ++ (coordinator_step now work).1) f
 
-host-sent : (a b : List Message) (index : ℕ) (g h : ℕ → HostNode) (work : Work) → a ≡ b → g ≡ h →
+host-sent : (a b : List Message) (index : ℕ) (g h : ℕ → HostNode) (work : NodeWork) → a ≡ b → g ≡ h →
     a ++ (host_step (g index) work).1 ≡ b ++ (host_step (h index) work).1
 host-sent a b index g h work e f =
     ap (λ (sent : List Message). sent ++ (host_step (g index) work).1) e ∙
     ap (λ (hosts : ℕ → HostNode). b ++ (host_step (hosts index) work).1) f
 
-node-same : (one other : World) (event : Event) → IsSame one other → (node : NodeName) (work : Work) →
+node-same : (one other : World) (event : Event) → IsSame one other → (node : NodeName) (work : NodeWork) →
     IsSame (node_done one event node work) (node_done other event node work)
 node-same one other event same TheOutside work = record {
   sent = ap (λ (sent : List Message). sent ++ outside_sends work) same.sent;

@@ -11,8 +11,11 @@ use Rattle.rc_types.specs.declared.events.Event.TheVariants.{Stop}
 use Rattle.rc_model.specs.Model.{MAX_EVENTS, Setup, Event, Message, HostNode, Master, World, is_possible, job_done, work_of, replay, put}
 use Rattle.rc_model.specs.Ids.{is_server}
 use Rattle.rc_model.specs.Nodes.{runs, server_of, is_running_at}
+use Rattle.rc_types.specs.declared.ids.ServerId.{ServerId}
+use Rattle.std.proofs.lemmas.Bool.{and_parts}
+use Rattle.rc_history.specs.Remade.{stopped}
 use Rattle.rc_world.specs.Happened.{opened, with_events, AllHappen}
-use Rattle.rc_world.specs.Stops.{newest_at, runs_at, stop_at, stops_below, stopped, all_stopped, IsBelow}
+use Rattle.rc_world.specs.Stops.{newest_at, runs_at, stop_at, stops_below, all_stopped, IsBelow}
 use Rattle.rc_world.specs.HostView.{IsWithinLimits}
 use Rattle.rc_world.specs.WorldHolds.{WorldHolds}
 use Rattle.rc_world.specs.WorldView.{hosts_in, coordinator_in, world_of, IsSame}
@@ -122,8 +125,12 @@ pub record HaveStopped (setup : Setup) (events : List Event) (world : World) (n 
 
 stop_is_possible : (world : World) (n : ℕ) → runs_at world.hosts n ≡ true →
     is_possible (record world { hosts = stopped_below world.hosts n }) (Stop (newest_at world.hosts n)) ≡ true
-stop_is_possible world n runs =
-    subst (λ host. is_running_at host (Server (newest_at world.hosts n)) ≡ true) (sym (stopped_below-own world.hosts n)) runs
+stop_is_possible world n running =
+    let id : ServerId = newest_at world.hosts n in
+    let up : runs (world.hosts n) ≡ true =
+    (and_parts (runs (world.hosts n)) (is_server (server_of (world.hosts n)) (Server id)) running).0 in
+    subst (λ host. (is_running_at host (Server id) && runs host) ≡ true)
+    (sym (stopped_below-own world.hosts n)) (ap (λ b. b && runs (world.hosts n)) running ∙ up)
 
 has_stopped : (world : World) (n : ℕ) → runs_at world.hosts n ≡ true →
     IsSame (record world { hosts = stopped_below world.hosts (suc n) })

@@ -1,13 +1,11 @@
 -- What a contract sees of a host: plain data, since a function cannot be the value of a type.
 use Rattle.std.specs.Prelude.{◌≡◌, ℕ, ◌-◌, ◌^◌, ◌<◌, ◌≤◌, nat_lt, if◌then◌else◌, List, Option, Some, None, option_map}
 use Rattle.std.specs.Prelude.{All}
-use Rattle.rc_types.specs.declared.ids.Addr.TheVariants.{Server}
 use Rattle.rc_types.specs.declared.events.Setup.{Setup}
-use Rattle.rc_types.specs.declared.messages.Message.{Message}
 use Rattle.rc_types.specs.declared.limits.TheConstants.{MAX_FACTOR, MAX_SEGMENT}
 use Rattle.rc_model.specs.Backup.{Backup}
 use Rattle.rc_model.specs.Master.{Master, MasterSetup}
-use Rattle.rc_model.specs.Nodes.{HostNode, Tick, host_step, server_of}
+use Rattle.rc_model.specs.Nodes.{HostNode}
 use Rattle.rc_backup.specs.BackupView.{Holdings, backup_of}
 use Rattle.rc_master.specs.Data.{MasterData, master_of}
 use Rattle.rc_master.specs.Numbers.{HasVersions}
@@ -53,7 +51,3 @@ pub record IsWithinLimits (setup : Setup) : Type 0 where
 pub record HostHasRoom (host : HostNode) : Type 0 where
   pub generation : host.generation < 2 ^ 32 - 1
   pub versions : (master : Master) → host.master ≡ Some master → HasVersions master
-
--- the timer of the server that runs on the host goes off
-abbrev pub own_tick : HostNode → HostNode × List Message
-own_tick host = host_step host (Tick (Server (server_of host)))

@@ -8,8 +8,8 @@ use Rattle.rc_model.specs.Coordinator.{new_coordinator}
 use Rattle.rc_model.specs.Nodes.{new_host, master_setup}
 use Rattle.rc_model.specs.World.{NodeName, replay}
 use Rattle.rc_numbers.specs.Numbers.{CoordinatorWithin, HostWithin, MessagesWithin, body_within}
-use Rattle.rc_history.specs.Nodes.{Node, TheOutside, TheCoordinator, TheHost, node_in}
-use Rattle.rc_world.specs.NodeView.{after_work, NodeHasRoom}
+use Rattle.rc_history.specs.Nodes.{Node, TheOutside, TheCoordinator, TheHost, node_in, node_step}
+use Rattle.rc_world.specs.NodeView.{NodeHasRoom}
 use Rattle.rc_types.specs.declared.events.NodeWork.{NodeWork}
 use Rattle.rc_types.specs.declared.events.NodeWork.TheVariants.{Ask, Deliver}
 
@@ -37,7 +37,7 @@ pub record StepWithin (n : ℕ) (after : Node × List Message) : Type 0 where
 
 abbrev pub StepsStayWithin : Type 0
 StepsStayWithin = (n : ℕ) (node : Node) (work : NodeWork) → NodeWithin n node → GivenWithin n work →
-    StepWithin (n + 1) (after_work node work)
+    StepWithin (n + 1) (node_step node work)
 
 abbrev pub MoreWorksAllowMore : Type 0
 MoreWorksAllowMore = (n m : ℕ) (node : Node) → n ≤ m → NodeWithin n node → NodeWithin m node

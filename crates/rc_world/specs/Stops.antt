@@ -5,6 +5,7 @@ use Rattle.rc_types.specs.declared.ids.Addr.TheVariants.{Server}
 use Rattle.rc_types.specs.declared.events.Event.{Event}
 use Rattle.rc_types.specs.declared.events.Event.TheVariants.{Stop}
 use Rattle.rc_model.specs.Nodes.{HostNode, runs, is_running_at}
+use Rattle.rc_history.specs.Remade.{stopped}
 use Rattle.rc_world.specs.HostView.{HostData}
 
 -- the newest server of the host
@@ -24,11 +25,7 @@ unfoldable pub stops_below : (ℕ → HostNode) → ℕ → List Event
 stops_below hosts zero = []
 stops_below hosts (suc host) = stops_below hosts host ++ stop_at hosts host
 
--- a host whose server has stopped
-abbrev pub stopped : HostNode → HostNode
-stopped host = record host { master = None }
-
--- all of them
+-- all hosts without their masters
 abbrev pub all_stopped : (ℕ → HostNode) → ℕ → HostNode
 all_stopped hosts host = stopped (hosts host)
 

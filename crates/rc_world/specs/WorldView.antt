@@ -8,7 +8,7 @@ use Rattle.rc_types.specs.declared.events.Event.{Event}
 use Rattle.rc_types.specs.declared.messages.Message.{Message}
 use Rattle.rc_model.specs.Coordinator.{Coordinator}
 use Rattle.rc_model.specs.CoordinatorStep.{coordinator_takes}
-use Rattle.rc_model.specs.Nodes.{HostNode, Work, new_host, master_setup, host_step}
+use Rattle.rc_model.specs.Nodes.{HostNode, NodeWork, new_host, master_setup, host_step}
 use Rattle.rc_model.specs.World.{World, opening, work_of, job_done}
 use Rattle.rc_coordinator.specs.Book.{coordinator_of}
 use Rattle.rc_coordinator.specs.Steps.{HasNumbers}
@@ -42,7 +42,7 @@ abbrev pub coordinator_in : {A : _} → Nodes A → Coordinator
 coordinator_in nodes = coordinator_of nodes.coordinator
 
 -- what a host of these nodes does with this work
-abbrev pub host_does : {A : _} → Nodes A → ℕ → Work → HostNode × List Message
+abbrev pub host_does : {A : _} → Nodes A → ℕ → NodeWork → HostNode × List Message
 host_does nodes index work = host_step (hosts_in nodes index) work
 
 -- what the coordinator does with this message

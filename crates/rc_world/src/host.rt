@@ -6,11 +6,11 @@ ghost use Rattle.rc_types.specs.declared.messages.Body.TheVariants.{Enlist};
 ghost use Rattle.rc_model.specs.Messages.{to_coordinator};
 ghost use Rattle.rc_model.specs.Ids.{is_server};
 ghost use Rattle.rc_model.specs.Backup.{open_names};
-ghost use Rattle.rc_model.specs.Nodes.{new_host, master_setup, factor_of, Take, Start, host_can, host_step};
+ghost use Rattle.rc_model.specs.Nodes.{new_host, master_setup, factor_of, Deliver, Tick, Start, host_can, host_step};
 ghost use Rattle.rc_model.specs.Nodes.{server_of, runs, is_running_at, is_for_backup};
 ghost use Rattle.rc_backup.specs.BackupView.{backup_of};
 ghost use Rattle.rc_master.specs.Data.{master_of};
-ghost use Rattle.rc_world.specs.HostView.{host_of, IsMasterSetup, IsWithinLimits, IsFactor, HostHasRoom, own_tick};
+ghost use Rattle.rc_world.specs.HostView.{host_of, IsMasterSetup, IsWithinLimits, IsFactor, HostHasRoom};
 ghost use Rattle.rc_world.specs.Stops.{IsBelow, halted};
 ghost use Rattle.rc_world.specs.HostParts.{setup_of, head_of, begun_master, host_with};
 
@@ -227,9 +227,9 @@ impl Host {
         sent: &mut Vec<Message>,
     ) -> Result<(), AllocError>
         requires { HostHasRoom (host_of self.old) }
-        ensures state { OnOk result (host_of self.new ≡ (host_step (host_of self.old) (Take message.now)).0) }
+        ensures state { OnOk result (host_of self.new ≡ (host_step (host_of self.old) (Deliver message.now)).0) }
         ensures sends { OnOk result (sent.new.items ≡
-            sent.old.items ++ (host_step (host_of self.old) (Take message.now)).1) }
+            sent.old.items ++ (host_step (host_of self.old) (Deliver message.now)).1) }
         ensures err { OnErr result (host_of self.new ≡ host_of self.old) }
         ensures unsent { OnErr result (sent.new.items ≡ sent.old.items) }
     {
@@ -248,8 +248,8 @@ impl Host {
 
     /// The timer of the server that runs on the host goes off.
     pub(crate) fn tick(&mut self, sent: &mut Vec<Message>) -> Result<(), AllocError>
-        ensures state { OnOk result (host_of self.new ≡ (own_tick (host_of self.old)).0) }
-        ensures sends { OnOk result (sent.new.items ≡ sent.old.items ++ (own_tick (host_of self.old)).1) }
+        ensures state { OnOk result (host_of self.new ≡ (host_step (host_of self.old) Tick).0) }
+        ensures sends { OnOk result (sent.new.items ≡ sent.old.items ++ (host_step (host_of self.old) Tick).1) }
         ensures err { OnErr result (host_of self.new ≡ host_of self.old) }
         ensures unsent { OnErr result (sent.new.items ≡ sent.old.items) }
     {

@@ -4,6 +4,8 @@ ghost use Rattle.std.specs.Prelude.{◌≡◌, ◌⊎◌, ◌↔◌, ◌++◌, t
 ghost use Rattle.std.specs.Prelude.{OnOk, OnErr, IfOk, IfErr, IfSome};
 ghost use Rattle.std.specs.Option.{option_copied};
 ghost use Rattle.rc_types.specs.declared.faults.Fault.TheVariants.{OutOfMemory, BadEvent};
+ghost use Rattle.rc_model.specs.Nodes.{coordinator_can, coordinator_step, host_can, host_step};
+ghost use Rattle.rc_history.specs.Nodes.{node_can, node_step, own_server};
 ghost use Rattle.rc_model.specs.Nodes.{outside_can, outside_sends, new_host, master_setup};
 ghost use Rattle.rc_model.specs.Coordinator.{new_coordinator};
 ghost use Rattle.rc_coordinator.specs.Book.{coordinator_of};
@@ -11,10 +13,8 @@ ghost use Rattle.rc_coordinator.specs.Steps.{HasNumbers};
 ghost use Rattle.rc_world.specs.HostView.{host_of, HostHasRoom, IsMasterSetup, IsWithinLimits};
 ghost use Rattle.rc_world.specs.HostParts.{setup_of, host_parts_in, host_from};
 ghost use Rattle.rc_history.specs.Nodes.{TheOutside, TheCoordinator, TheHost, name_of};
-ghost use Rattle.rc_world.specs.NodeView.{CoordinatorData, node_seen, book_in, own_server, work_at, NodeHasRoom};
+ghost use Rattle.rc_world.specs.NodeView.{CoordinatorData, node_seen, book_in, NodeHasRoom};
 ghost use Rattle.rc_world.specs.NodeView.{node_runs, master_in, backup_in};
-ghost use Rattle.rc_world.specs.NodeView.{may_take, after_work, coordinator_may, coordinator_after_work};
-ghost use Rattle.rc_world.specs.NodeView.{host_may, host_after_work};
 ghost use Rattle.rc_types.specs.declared.events.NodeWork.TheVariants.{Deliver};
 ghost use Rattle.rc_world.specs.declared.work.StepFault.TheVariants.{NoRoom, Refused};
 
@@ -225,17 +225,17 @@ impl<A: Allocator + Clone> NodeState<A> {
     /// After either the node and what was sent are as before.
     pub fn step_into(&mut self, work: &NodeWork, sent: &mut Vec<Message>) -> Result<(), Fault>
         requires { NodeHasRoom (node_seen self.old) }
-        ensures state { OnOk result (node_seen self.new ≡ (after_work (node_seen self.old) work.now).0) }
-        ensures sends { OnOk result (sent.new.items ≡ sent.old.items ++ (after_work (node_seen self.old) work.now).1) }
-        ensures bad { (result ≡ Err BadEvent) ↔ (may_take (node_seen self.old) work.now ≡ false) }
+        ensures state { OnOk result (node_seen self.new ≡ (node_step (node_seen self.old) work.now).0) }
+        ensures sends { OnOk result (sent.new.items ≡ sent.old.items ++ (node_step (node_seen self.old) work.now).1) }
+        ensures bad { (result ≡ Err BadEvent) ↔ (node_can (node_seen self.old) work.now ≡ false) }
         ensures fault { IfErr result (λ fault. (fault ≡ OutOfMemory) ⊎ (fault ≡ BadEvent)) }
         ensures err { OnErr result (node_seen self.new ≡ node_seen self.old) }
         ensures unsent { OnErr result (sent.new.items ≡ sent.old.items) }
     {
         match &mut self.node {
-            Node::Outside => outside_step(self.alloc, work, sent),
-            Node::Coordinator(coordinator) => { coordinator_step(coordinator, work, sent) }
-            Node::Host(host) => host_step(host, work, sent),
+            Node::Outside => step_outside(self.alloc, work, sent),
+            Node::Coordinator(coordinator) => { step_coordinator(coordinator, work, sent) }
+            Node::Host(host) => step_host(host, work, sent),
         }
     }
 
@@ -247,9 +247,9 @@ impl<A: Allocator + Clone> NodeState<A> {
     /// `OutOfMemory` (F1): memory was refused. The node and what was sent are as before.
     pub fn take(&mut self, message: &Message, sent: &mut Vec<Message>) -> Result<(), AllocError>
         requires { NodeHasRoom (node_seen self.old) }
-        ensures state { OnOk result (node_seen self.new ≡ (after_work (node_seen self.old) (Deliver message.now)).0) }
+        ensures state { OnOk result (node_seen self.new ≡ (node_step (node_seen self.old) (Deliver message.now)).0) }
         ensures sends { OnOk result (sent.new.items ≡
-            sent.old.items ++ (after_work (node_seen self.old) (Deliver message.now)).1) }
+            sent.old.items ++ (node_step (node_seen self.old) (Deliver message.now)).1) }
         ensures err { OnErr result (node_seen self.new ≡ node_seen self.old) }
         ensures unsent { OnErr result (sent.new.items ≡ sent.old.items) }
     {
@@ -271,11 +271,11 @@ impl<A: Allocator + Clone> NodeState<A> {
         work: &NodeWork,
         sent: &mut Vec<Message>,
     ) -> Result<(), StepFault>
-        ensures state { OnOk result (node_seen self.new ≡ (after_work (node_seen self.old) work.now).0) }
-        ensures sends { OnOk result (sent.new.items ≡ sent.old.items ++ (after_work (node_seen self.old) work.now).1) }
+        ensures state { OnOk result (node_seen self.new ≡ (node_step (node_seen self.old) work.now).0) }
+        ensures sends { OnOk result (sent.new.items ≡ sent.old.items ++ (node_step (node_seen self.old) work.now).1) }
         ensures full { (result ≡ Err NoRoom) ↔ (NodeHasRoom (node_seen self.old) → ⊥) }
         ensures bad { NodeHasRoom (node_seen self.old) →
-            ((result ≡ Err (Refused BadEvent)) ↔ (may_take (node_seen self.old) work.now ≡ false)) }
+            ((result ≡ Err (Refused BadEvent)) ↔ (node_can (node_seen self.old) work.now ≡ false)) }
         ensures fault { IfErr result (λ fault.
             (fault ≡ NoRoom) ⊎ (fault ≡ Refused OutOfMemory) ⊎ (fault ≡ Refused BadEvent)) }
         ensures err { OnErr result (node_seen self.new ≡ node_seen self.old) }
@@ -298,9 +298,9 @@ impl<A: Allocator + Clone> NodeState<A> {
     /// After either the node is as before.
     pub fn step(&mut self, work: &NodeWork) -> Result<Vec<Message>, Fault>
         requires { NodeHasRoom (node_seen self.old) }
-        ensures state { OnOk result (node_seen self.new ≡ (after_work (node_seen self.old) work.now).0) }
-        ensures sends { IfOk result (λ sent. sent.items ≡ (after_work (node_seen self.old) work.now).1) }
-        ensures bad { (result ≡ Err BadEvent) ↔ (may_take (node_seen self.old) work.now ≡ false) }
+        ensures state { OnOk result (node_seen self.new ≡ (node_step (node_seen self.old) work.now).0) }
+        ensures sends { IfOk result (λ sent. sent.items ≡ (node_step (node_seen self.old) work.now).1) }
+        ensures bad { (result ≡ Err BadEvent) ↔ (node_can (node_seen self.old) work.now ≡ false) }
         ensures fault { IfErr result (λ fault. (fault ≡ OutOfMemory) ⊎ (fault ≡ BadEvent)) }
         ensures err { OnErr result (node_seen self.new ≡ node_seen self.old) }
     {
@@ -321,9 +321,9 @@ fn no_server() -> ServerId
 }
 
 /// The outside's step.
-fn outside_step(alloc: Global, work: &NodeWork, sent: &mut Vec<Message>) -> Result<(), Fault>
-    ensures sends { OnOk result (sent.new.items ≡ sent.old.items ++ outside_sends (work_at TheOutside work.now)) }
-    ensures bad { (result ≡ Err BadEvent) ↔ (outside_can (work_at TheOutside work.now) ≡ false) }
+fn step_outside(alloc: Global, work: &NodeWork, sent: &mut Vec<Message>) -> Result<(), Fault>
+    ensures sends { OnOk result (sent.new.items ≡ sent.old.items ++ outside_sends work.now) }
+    ensures bad { (result ≡ Err BadEvent) ↔ (outside_can work.now ≡ false) }
     ensures fault { IfErr result (λ fault. (fault ≡ OutOfMemory) ⊎ (fault ≡ BadEvent)) }
     ensures unsent { OnErr result (sent.new.items ≡ sent.old.items) }
 {
@@ -335,17 +335,17 @@ fn outside_step(alloc: Global, work: &NodeWork, sent: &mut Vec<Message>) -> Resu
 }
 
 /// The coordinator's step.
-fn coordinator_step<A: Allocator + Clone>(
+fn step_coordinator<A: Allocator + Clone>(
     coordinator: &mut Coordinator<A>,
     work: &NodeWork,
     sent: &mut Vec<Message>,
 ) -> Result<(), Fault>
     requires { HasNumbers (coordinator_of coordinator.old) }
     ensures state { OnOk result (coordinator_of coordinator.new ≡
-        (coordinator_after_work (coordinator_of coordinator.old) work.now).0) }
+        (coordinator_step (coordinator_of coordinator.old) work.now).0) }
     ensures sends { OnOk result (sent.new.items ≡
-        sent.old.items ++ (coordinator_after_work (coordinator_of coordinator.old) work.now).1) }
-    ensures bad { (result ≡ Err BadEvent) ↔ (coordinator_may (coordinator_of coordinator.old) work.now ≡ false) }
+        sent.old.items ++ (coordinator_step (coordinator_of coordinator.old) work.now).1) }
+    ensures bad { (result ≡ Err BadEvent) ↔ (coordinator_can work.now ≡ false) }
     ensures fault { IfErr result (λ fault. (fault ≡ OutOfMemory) ⊎ (fault ≡ BadEvent)) }
     ensures err { OnErr result (coordinator.new ≡ coordinator.old) }
     ensures unsent { OnErr result (sent.new.items ≡ sent.old.items) }
@@ -358,11 +358,11 @@ fn coordinator_step<A: Allocator + Clone>(
 }
 
 /// A host's step.
-fn host_step(host: &mut Host, work: &NodeWork, sent: &mut Vec<Message>) -> Result<(), Fault>
+fn step_host(host: &mut Host, work: &NodeWork, sent: &mut Vec<Message>) -> Result<(), Fault>
     requires { HostHasRoom (host_of host.old) }
-    ensures state { OnOk result (host_of host.new ≡ (host_after_work (host_of host.old) work.now).0) }
-    ensures sends { OnOk result (sent.new.items ≡ sent.old.items ++ (host_after_work (host_of host.old) work.now).1) }
-    ensures bad { (result ≡ Err BadEvent) ↔ (host_may (host_of host.old) work.now ≡ false) }
+    ensures state { OnOk result (host_of host.new ≡ (host_step (host_of host.old) work.now).0) }
+    ensures sends { OnOk result (sent.new.items ≡ sent.old.items ++ (host_step (host_of host.old) work.now).1) }
+    ensures bad { (result ≡ Err BadEvent) ↔ (host_can (host_of host.old) work.now ≡ false) }
     ensures fault { IfErr result (λ fault. (fault ≡ OutOfMemory) ⊎ (fault ≡ BadEvent)) }
     ensures err { OnErr result (host_of host.new ≡ host_of host.old) }
     ensures unsent { OnErr result (sent.new.items ≡ sent.old.items) }
@@ -384,7 +384,7 @@ fn host_step(host: &mut Host, work: &NodeWork, sent: &mut Vec<Message>) -> Resul
 
 /// Whether the host can be given this.
 fn can_take(host: &Host, work: &NodeWork) -> bool
-    ensures { result ≡ host_may (host_of host.now) work.now }
+    ensures { result ≡ host_can (host_of host.now) work.now }
 {
     match work {
         NodeWork::Deliver(_) => true,

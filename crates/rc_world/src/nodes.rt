@@ -4,12 +4,12 @@ ghost use Rattle.std.specs.Prelude.{◌≡◌, ◌++◌, ◌<◌, [], true, is_s
 ghost use Rattle.std.specs.Prelude.{OnOk, OnErr, IfOk};
 ghost use Rattle.indexmap.specs.IndexMap.{get};
 ghost use Rattle.rc_types.specs.declared.ids.Addr.TheVariants.{Server};
-ghost use Rattle.rc_types.specs.declared.events.Event.TheVariants.{Deliver};
+ghost use Rattle.rc_types.specs.declared.events.Event.TheVariants as event;
 ghost use Rattle.rc_model.specs.Tables.{put};
 ghost use Rattle.rc_model.specs.Backup.{open_names};
-ghost use Rattle.rc_model.specs.Nodes.{Take, Tick, Stop, Start, host_can, is_running_at};
+ghost use Rattle.rc_model.specs.Nodes.{Deliver, Tick, Stop, Start, host_can, is_running_at, coordinator_step};
 ghost use Rattle.rc_model.specs.World.{opening, is_possible};
-ghost use Rattle.rc_coordinator.specs.Steps.{steps, HasNumbers};
+ghost use Rattle.rc_coordinator.specs.Steps.{HasNumbers};
 ghost use Rattle.rc_backup.specs.BackupView.{backup_of};
 ghost use Rattle.rc_master.specs.Data.{master_of};
 ghost use Rattle.rc_world.specs.HostView.{HostHasRoom, IsWithinLimits, backup_once_started};
@@ -134,8 +134,10 @@ impl<A: Allocator + Clone> Nodes<A> {
         sent: &mut Vec<Message>,
     ) -> Result<(), AllocError>
         requires { HasNumbers (coordinator_in self.old) }
-        ensures coordinator { OnOk result (coordinator_in self.new ≡ (steps (coordinator_in self.old) work.now).0) }
-        ensures sends { OnOk result (sent.new.items ≡ sent.old.items ++ (steps (coordinator_in self.old) work.now).1) }
+        ensures coordinator { OnOk result (coordinator_in self.new ≡
+            (coordinator_step (coordinator_in self.old) work.now).0) }
+        ensures sends { OnOk result (sent.new.items ≡
+            sent.old.items ++ (coordinator_step (coordinator_in self.old) work.now).1) }
         ensures hosts { self.new.hosts ≡ self.old.hosts }
         ensures setup { self.new.setup ≡ self.old.setup }
         ensures err { OnErr result (coordinator_in self.new ≡ coordinator_in self.old) }
@@ -147,9 +149,9 @@ impl<A: Allocator + Clone> Nodes<A> {
     /// The timer of a server that runs goes off.
     fn tick(&mut self, id: ServerId, sent: &mut Vec<Message>) -> Result<(), AllocError>
         ensures hosts { OnOk result (hosts_in self.new ≡
-            put (hosts_in self.old) id.index (host_does self.old id.index (Tick (Server id))).0) }
+            put (hosts_in self.old) id.index (host_does self.old id.index Tick).0) }
         ensures sends { OnOk result (sent.new.items ≡
-            sent.old.items ++ (host_does self.old id.index (Tick (Server id))).1) }
+            sent.old.items ++ (host_does self.old id.index Tick).1) }
         ensures coordinator { self.new.coordinator ≡ self.old.coordinator }
         ensures setup { self.new.setup ≡ self.old.setup }
         ensures err { OnErr result (hosts_in self.new ≡ hosts_in self.old) }
@@ -163,7 +165,7 @@ impl<A: Allocator + Clone> Nodes<A> {
 
     /// A server that runs stops.
     fn stop(&mut self, id: ServerId)
-        ensures hosts { hosts_in self.new ≡ put (hosts_in self.old) id.index (host_does self.old id.index (Stop id)).0 }
+        ensures hosts { hosts_in self.new ≡ put (hosts_in self.old) id.index (host_does self.old id.index Stop).0 }
         ensures coordinator { self.new.coordinator ≡ self.old.coordinator }
         ensures setup { self.new.setup ≡ self.old.setup }
     {
@@ -181,9 +183,9 @@ impl<A: Allocator + Clone> Nodes<A> {
     ) -> Result<(), AllocError>
         requires { HostHasRoom (hosts_in self.old id.index) }
         ensures hosts { OnOk result (hosts_in self.new ≡
-            put (hosts_in self.old) id.index (host_does self.old id.index (Take message.now)).0) }
+            put (hosts_in self.old) id.index (host_does self.old id.index (Deliver message.now)).0) }
         ensures sends { OnOk result (sent.new.items ≡
-            sent.old.items ++ (host_does self.old id.index (Take message.now)).1) }
+            sent.old.items ++ (host_does self.old id.index (Deliver message.now)).1) }
         ensures coordinator { self.new.coordinator ≡ self.old.coordinator }
         ensures setup { self.new.setup ≡ self.old.setup }
         ensures err { OnErr result (hosts_in self.new ≡ hosts_in self.old) }
@@ -268,9 +270,9 @@ impl<A: Allocator + Clone> Nodes<A> {
         requires room { HostHasRoom (hosts_in self.old id.index) }
         ensures hosts { OnOk result (hosts_in self.new ≡
             put (hosts_in self.old) id.index (host_does self.old id.index
-            (Take (message_at sent.old.items number))).0) }
+            (Deliver (message_at sent.old.items number))).0) }
         ensures sends { OnOk result (sent.new.items ≡
-            sent.old.items ++ (host_does self.old id.index (Take (message_at sent.old.items number))).1) }
+            sent.old.items ++ (host_does self.old id.index (Deliver (message_at sent.old.items number))).1) }
         ensures coordinator { self.new.coordinator ≡ self.old.coordinator }
         ensures setup { self.new.setup ≡ self.old.setup }
         ensures err { OnErr result (hosts_in self.new ≡ hosts_in self.old) }
@@ -286,10 +288,12 @@ impl<A: Allocator + Clone> Nodes<A> {
     fn deliver(&mut self, number: usize, sent: &mut Vec<Message>) -> Result<(), AllocError>
         requires number { number < length sent.old.items }
         requires room { WorldHasRoom (world_of self.old sent.old.items) }
-        ensures hosts { OnOk result (hosts_in self.new ≡ (after_event self.old sent.old.items (Deliver number)).hosts) }
+        ensures hosts { OnOk result (hosts_in self.new ≡
+            (after_event self.old sent.old.items (event.Deliver number)).hosts) }
         ensures coordinator { OnOk result (coordinator_in self.new ≡
-            (after_event self.old sent.old.items (Deliver number)).coordinator) }
-        ensures sends { OnOk result (sent.new.items ≡ (after_event self.old sent.old.items (Deliver number)).sent) }
+            (after_event self.old sent.old.items (event.Deliver number)).coordinator) }
+        ensures sends { OnOk result (sent.new.items ≡
+            (after_event self.old sent.old.items (event.Deliver number)).sent) }
         ensures setup { self.new.setup ≡ self.old.setup }
         ensures err_hosts { OnErr result (hosts_in self.new ≡ hosts_in self.old) }
         ensures err_coordinator { OnErr result (coordinator_in self.new ≡ coordinator_in self.old) }

@@ -2,7 +2,8 @@
 use Rattle.std.proofs.Common.{◌≡◌, ◌⊎◌, ℕ, ◌<◌, ◌≤◌, true, false, List, [], ◌∷◌, ◌++◌, Option, Some}
 use Rattle.std.proofs.Common.{None, refl, sym, ap, subst, inl, inr, arith}
 use Rattle.std.proofs.lemmas.Bool.Decides.{nat_tests}
-use Rattle.rc_model.specs.Model.{ServerId, Pair, Setup, Event, Message, Commit, CommitOk, to_coordinator, from_coordinator, is_below, Work}
+use Rattle.rc_model.specs.Model.{ServerId, Pair, Setup, Event, Message, Commit, CommitOk, to_coordinator, from_coordinator, is_below}
+use Rattle.rc_model.specs.Model.{NodeWork}
 use Rattle.rc_model.specs.Model.{coordinator_step, World, opening, NodeName, TheOutside, TheCoordinator, TheHost, Job, work_of, is_possible}
 use Rattle.rc_model.specs.Model.{node_done, job_done, step, replay_from, replay, In}
 use Rattle.rc_types.specs.declared.ids.Addr.TheVariants.{Coordinator as AtCoordinator}
@@ -19,7 +20,7 @@ use Rattle.rc_model.proofs.Tests.{either}
 abbrev pub Asked : List Message → Coordinator → ServerId → Pair → Type 0
 Asked sent c m pair = (pair ≡ c.least m) ⊎ In (to_coordinator m (Commit pair.seg pair.epoch)) sent
 
-asked-step : (sent : List Message) (c : Coordinator) (work : Work) → IsGiven sent TheCoordinator work → (m : ServerId) →
+asked-step : (sent : List Message) (c : Coordinator) (work : NodeWork) → IsGiven sent TheCoordinator work → (m : ServerId) →
     Asked sent c m ((coordinator_step c work).0.least m)
 asked-step sent c work given m =
     by (told-step c (λ from body. In (record { from = from; to = AtCoordinator; body = body }) sent) work (taken-at sent work given) m)
@@ -32,7 +33,7 @@ asked-step sent c work given m =
 
 -- A world
 
-asked-node : (world : World) (one : Event) (node : NodeName) (work : Work) → IsGiven world.sent node work →
+asked-node : (world : World) (one : Event) (node : NodeName) (work : NodeWork) → IsGiven world.sent node work →
     (m : ServerId) → Asked world.sent world.coordinator m ((node_done world one node work).coordinator.least m)
 asked-node world one TheOutside work given m = inl refl
 asked-node world one TheCoordinator work given m = asked-step world.sent world.coordinator work given m

@@ -1,7 +1,8 @@
 -- What a backup has told, its master has sent it: each place below the length of a Stored is made.
 use Rattle.std.proofs.Common.{◌≡◌, ◌⊎◌, ℕ, ◌<◌, Bool, List, [], ◌∷◌, ◌++◌, Option, Some, None, refl, ap, inl, inr, arith}
 use Rattle.rc_model.specs.Model.{ServerId, Addr, Server, Outside, Entry, Setup, Event, Message, Stored, Enlist, put, between}
-use Rattle.rc_model.specs.Model.{to_coordinator, Backup, Master, Work, HostNode, outside_sends, coordinator_step, server_of, next_server}
+use Rattle.rc_model.specs.Model.{to_coordinator, Backup, Master, NodeWork, HostNode, outside_sends, coordinator_step, server_of}
+use Rattle.rc_model.specs.Model.{next_server}
 use Rattle.rc_model.specs.Model.{host_step, World, opening, NodeName, TheOutside, TheCoordinator, TheHost, Job, is_possible, work_of}
 use Rattle.rc_model.specs.Model.{node_done, job_done, step, replay_from, replay, In, HasMade}
 use Rattle.rc_types.specs.declared.ids.Addr.TheVariants.{Coordinator as AtCoordinator}
@@ -58,7 +59,7 @@ by-outside messages sent from x m s e len closed at o less = absurd (never (from
     never : ◌≡◌ {A = Addr} (Server x) Outside → ⊥
     never e = cc
 
-of-outside : (work : Work) → AllFrom Outside (outside_sends work)
+of-outside : (work : NodeWork) → AllFrom Outside (outside_sends work)
 of-outside (Ask to asked) message (inl same) = ap (λ (one : Message). one.from) same
 of-outside (Ask to asked) message (inr never) = absurd never
 of-outside _ message at = absurd at
@@ -90,7 +91,7 @@ starts-tells world own x m s e len closed (inl same) o less =
     let bodies : Stored s e len closed ≡ Enlist = ap (λ (message : Message). message.body) same in cc
 starts-tells world own x m s e len closed (inr never) o less = absurd never
 
-host-tells : (world : World) (one : Event) (i : ℕ) → GoodWorld world → (work : Work) → IsGiven world.sent (TheHost i) work →
+host-tells : (world : World) (one : Event) (i : ℕ) → GoodWorld world → (work : NodeWork) → IsGiven world.sent (TheHost i) work →
     NodeTells world (host_step (world.hosts i) work).1
 host-tells world one i good work given = said-host world one i good (NodeTells world) (record {
   none = none-tells world;
@@ -99,7 +100,7 @@ host-tells world one i good work given = said-host world one i good (NodeTells w
   starts = starts-tells world (next_server (world.hosts i));
 }) work given
 
-coordinator-tells : (world : World) (work : Work) → GoodWorld world → IsGiven world.sent TheCoordinator work →
+coordinator-tells : (world : World) (work : NodeWork) → GoodWorld world → IsGiven world.sent TheCoordinator work →
     NodeTells world (coordinator_step world.coordinator work).1
 coordinator-tells world work good given = by-coordinator (coordinator_step world.coordinator work).1
     (world.sent ++ (coordinator_step world.coordinator work).1) (coordinator-moved world work good given).from
@@ -109,7 +110,7 @@ coordinator-tells world work good given = by-coordinator (coordinator_step world
 abbrev AllTold : World → Type 0
 AllTold world = TellsSent world.sent world.sent
 
-node-told : (world : World) (one : Event) (node : NodeName) (work : Work) → GoodWorld world →
+node-told : (world : World) (one : Event) (node : NodeName) (work : NodeWork) → GoodWorld world →
     IsGiven world.sent node work → AllTold world → AllTold (node_done world one node work)
 node-told world one TheOutside work good given told = joined world.sent (outside_sends work) told
     (by-outside (outside_sends work) (world.sent ++ outside_sends work) (of-outside work))

@@ -6,7 +6,7 @@ use Rattle.rc_wire.specs.Views.{new_place}
 use Rattle.rc_types.specs.Names.{number_of}
 use Rattle.rc_wire.specs.SeatView.{new_seat}
 use Rattle.rc_wire.specs.Seats.{new_seats}
-use Rattle.rc_wire.proofs.NewSeats.{seat_named-number, places_from, places-first, seats-push}
+use Rattle.rc_wire.proofs.NewSeats.{name_at-number, places_from, places-first, seats-push}
 use Rattle.rc_wire.proofs.begin.seats_of.Goals as goal
 
 pub loop-number-init : goal.loop-number-init
@@ -27,8 +27,8 @@ remove-token-requires g c =
     ap length (c.loop-number.invariant.left ∙ places-first number nodes c.loop-number-test.true) in
     omega (arith, some, c.loop-number.tokens.ok.0)
 
-pub seat_named-requires : goal.seat_named-requires
-seat_named-requires g c =
+pub name_at-requires : goal.name_at-requires
+name_at-requires g c =
     let all : length c.args.tokens.items ≡ g.N.Naming.wire.nodes =
     ap length c.requires.tokens ∙ length-map-range_with_len new_place 0 g.N.Naming.wire.nodes in
     omega (arith, all, c.len-nodes.ensures, c.args.tokens.ok.0, c.requires.few, c.loop-number-test.true)
@@ -39,7 +39,7 @@ new-requires-clause-token g c =
     let nodes = c.len-nodes.result in
     c.remove-token.ensures.value
     ∙ (ap (λ l. slice_index_or l 0 c.remove-token.result) (c.loop-number.invariant.left ∙ places-first number nodes c.loop-number-test.true)
-    ∙ ap new_place (sym (ap number_of c.seat_named.ensures ∙ seat_named-number number)))
+    ∙ ap new_place (sym (ap number_of c.name_at.ensures ∙ name_at-number number)))
 
 pub loop-number-preserved : goal.loop-number-preserved
 loop-number-preserved g c =
@@ -52,7 +52,7 @@ loop-number-preserved g c =
       made =
           c.in_ok-push.ensures.items
           ∙ (ap (λ l. l ++ c.new.result ∷ []) c.loop-number.invariant.made
-          ∙ (ap (λ s. new_seats number ++ s ∷ []) (c.new.ensures ∙ ap new_seat c.seat_named.ensures) ∙ sym (seats-push number)));
+          ∙ (ap (λ s. new_seats number ++ s ∷ []) (c.new.ensures ∙ ap new_seat c.name_at.ensures) ∙ sym (seats-push number)));
     }
 
 pub returns : goal.returns

@@ -1,6 +1,6 @@
 use Rattle.std.proofs.Common.{◌≡◌, ◌+◌, ◌≤◌, ℕ, true, false, length, ap, sym, ◌∙◌, refl, subst, arith}
 use Rattle.rc_lives.specs.Lives.{is_masters}
-use Rattle.rc_world.specs.NodeView.{node_seen, work_at}
+use Rattle.rc_world.specs.NodeView.{node_seen}
 use Rattle.rc_process.specs.View.{ProcessData, process_seen, written_down}
 use Rattle.rc_process.proofs.Waiting.{masters_pushed, others_pushed, masters_held, others_held, started_between, is_given}
 use Rattle.rc_process.proofs.process.Process.step.Goals as goal
@@ -30,7 +30,7 @@ returns-then-is_masters-clause-taken g c =
     let down : c.args.more ≡ length (written_down (node_seen c.self.inside.node) c.args.work.now) =
     subst (λ (v : ProcessData). c.args.more ≡ length (written_down (node_seen v.node) c.args.work.now)) (sym c.self.view_is)
     c.requires.down in
-    let its : is_masters (node_seen c.self.inside.node) (work_at (node_seen c.self.inside.node) c.args.work.now) ≡ true =
+    let its : is_masters (node_seen c.self.inside.node) c.args.work.now ≡ true =
     sym c.is_masters-is_masters.ensures ∙ c.if-is_masters.true in
     rw (← c.self.view_is)
     (is_given _ c.args.work.now _ _ _ _ c.in_default-step_into.ensures.state
@@ -45,7 +45,7 @@ returns-else-is_masters-clause-taken g c =
     let down : c.args.more ≡ length (written_down (node_seen c.self.inside.node) c.args.work.now) =
     subst (λ (v : ProcessData). c.args.more ≡ length (written_down (node_seen v.node) c.args.work.now)) (sym c.self.view_is)
     c.requires.down in
-    let its : is_masters (node_seen c.self.inside.node) (work_at (node_seen c.self.inside.node) c.args.work.now) ≡ false =
+    let its : is_masters (node_seen c.self.inside.node) c.args.work.now ≡ false =
     sym c.is_masters-is_masters.ensures ∙ c.if-is_masters.false in
     let written : c.in-Some.written
     ≡ c.self.inside.written + length (written_down (node_seen c.self.inside.node) c.args.work.now) =
