@@ -12,8 +12,8 @@ use Rattle.rc_keeping.specs.Spelling.{coded_work}
 use Rattle.rc_process.specs.View.{ProcessView, given, written_down}
 use Rattle.rc_session.specs.declared.faults.SessionFault.{SessionFault}
 use Rattle.rc_session.specs.View.{SessionView, takes}
-use Rattle.rc_session.specs.Claims.{TakesWork, CanTake, TakesMessage}
-use Rattle.rc_history.specs.Nodes.{node_can}
+use Rattle.rc_session.specs.Claims.{TakesWork, TakesMessage}
+use Rattle.rc_history.specs.Nodes.{Node, node_can}
 use Rattle.rc_codec.specs.Claims.{IsFront, DecodesFront, BeginsWithNone}
 use Rattle.rc_codec.specs.declared.faults.DecodeFault.{DecodeFault}
 use Rattle.rc_codec.specs.declared.faults.DecodeFault.TheVariants.{OutOfMemory}
@@ -68,11 +68,11 @@ takes_work (Ok x) one bytes old new taken same = λ work is. taken ∙ ap (takes
 takes_work (Err fault) one bytes old new taken same = tt
 
 -- and it can be given that
-pub can_take : {A : Type 0} (answer : Result A SessionFault) (one : NodeWork) (bytes : List ℕ) (old : SessionView) →
-    OnOk answer (node_can old.process.node one ≡ true) → ((work : NodeWork) → bytes ≡ coded_work work → one ≡ work) →
-    OnOk answer (CanTake bytes old)
-can_take (Ok x) one bytes old can same = λ work is. subst (λ w. node_can old.process.node w ≡ true) (same work is) can
-can_take (Err fault) one bytes old can same = tt
+pub can_take : {A : Type 0} (answer : Result A SessionFault) (one : NodeWork) (bytes : List ℕ) (node : Node) →
+    OnOk answer (node_can node one ≡ true) → ((work : NodeWork) → bytes ≡ coded_work work → one ≡ work) →
+    OnOk answer ((work : NodeWork) → bytes ≡ coded_work work → node_can node work ≡ true)
+can_take (Ok x) one bytes node can same = λ work is. subst (λ w. node_can node w ≡ true) (same work is) can
+can_take (Err fault) one bytes node can same = tt
 
 -- what becomes of a session whose process takes a work
 pub took : (old : SessionView) (process : ProcessView) (journal : List ℕ) (work : NodeWork) →
