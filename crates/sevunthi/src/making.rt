@@ -5,7 +5,7 @@ ghost use Rattle.rc_model.specs.Coordinator.{new_coordinator};
 ghost use Rattle.rc_model.specs.Nodes.{new_host};
 ghost use Rattle.rc_history.specs.Nodes.{TheCoordinator, TheHost};
 ghost use Rattle.rc_keeping.specs.SaveClaims.{BeginsWithNoSave};
-ghost use Rattle.rc_process.specs.View.{IsBack, IsTooShort, process_seen};
+ghost use Rattle.rc_process.specs.View.{IsBack, IsTooShort, RunsOut, process_seen};
 ghost use Rattle.rc_session.specs.Claims.{IsFirst, AreWithin, setup_for};
 
 use crate::handle::SevunthiNode;
@@ -19,6 +19,7 @@ fn put_in(alloc: Global, node: &mut SevunthiNode, session: Session) -> u32
     ensures full { result ≡ 0 → node.new.full ≡ true }
     ensures same { (result ≡ 0 → ⊥) → node.new ≡ node.old }
     ensures number { result ≡ 2 → ⊥ }
+    ensures used_up { result ≡ 5 → ⊥ }
     ensures range { result ≡ 7 → ⊥ }
     ensures save { result ≡ 9 → ⊥ }
     ensures short { result ≡ 10 → ⊥ }
@@ -96,6 +97,7 @@ pub extern "C" fn sevunthi_come_back(
         (node.new.cell.session.second ≡ []) × (node.new.cell.session.hand ≡ None) }
     ensures full { result ≡ 0 → node.new.full ≡ true }
     ensures misused { (result ≡ 2) ↔ (node.old.full ≡ true) }
+    ensures used_up { result ≡ 5 → RunsOut file.now }
     ensures save { result ≡ 9 → BeginsWithNoSave file.now }
     ensures short { result ≡ 10 → IsTooShort file.now known }
     ensures same { (result ≡ 0 → ⊥) → node.new ≡ node.old }
