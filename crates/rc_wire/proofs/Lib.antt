@@ -18,6 +18,7 @@ pub mod Replaying
 pub mod Found
 pub mod Turning
 pub mod Seating
+pub mod Seeing
 pub mod Crossing
 pub mod Fetching
 pub mod Listing

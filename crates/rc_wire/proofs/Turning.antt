@@ -19,7 +19,7 @@ use Rattle.rc_wire.specs.Numbers.{least_to}
 use Rattle.rc_wire.specs.declared.work.Work.{Work}
 use Rattle.rc_wire.specs.declared.work.Work.TheVariants as work
 use Rattle.rc_wire.specs.SeatView.{SeatData, Offered, offered_events, world_at, node_at}
-use Rattle.rc_wire.specs.SeatCalls.{Later, Finds, Misses, Fetches, Commits}
+use Rattle.rc_wire.specs.SeatCalls.{Later, Finds, Commits}
 use Rattle.rc_wire.specs.Works.{event_for, work_in, Prepares, is_delivery_of, was_delivered}
 use Rattle.rc_wire.specs.declared.steps.Step.{Step}
 use Rattle.rc_wire.specs.declared.steps.Step.TheVariants.{Do, Settle}
@@ -149,9 +149,6 @@ grows-through one two three a b = record {
 
 pub grows-same : (seat : SeatData) → Grows seat seat
 grows-same seat = record { name = refl; seen = starts-same seat.seen; mine = starts-same seat.mine }
-
-pub grows-equal : (old new : SeatData) → new ≡ old → Grows old new
-grows-equal old new is = subst (λ (s : SeatData). Grows old s) (sym is) (grows-same old)
 
 starts-equal : {A : Type 0} (xs ys : List A) → xs ≡ ys → StartsWith xs ys
 starts-equal xs ys is = record { rest = []; same = is ∙ sym (append-nil ys) }
@@ -436,14 +433,6 @@ pub had-idle : (mine : List Event) (pending : Option Offered) (number : ℕ) (b 
 had-idle mine pending number b had idle is same =
     ap (λ l. was_delivered l number) (sym (append-nil mine))
     ∙ (ap (λ (p : Option Offered). was_delivered (mine ++ offered_events p) number) (sym idle) ∙ (sym is ∙ same))
-
-pub finds-of : (setup : Setup) (old : SeatData) (number : ℕ) (found : Bool) (new : SeatData) → found ≡ true →
-    Fetches setup old number found new → Finds setup old number new
-finds-of setup old number found new is f = subst (λ (b : Bool). Fetches setup old number b new) is f
-
-pub misses-of : (setup : Setup) (old : SeatData) (number : ℕ) (found : Bool) (new : SeatData) → found ≡ false →
-    Fetches setup old number found new → Misses setup old number new
-misses-of setup old number found new is f = subst (λ (b : Bool). Fetches setup old number b new) is f
 
 -- A step
 

@@ -1,5 +1,5 @@
 -- What the calls of a seat tell.
-use Rattle.std.specs.Prelude.{◌≡◌, ℕ, ◌≤◌, Bool, true, false, List, [], ◌∷◌, ◌++◌, length, Some, None, slice_get}
+use Rattle.std.specs.Prelude.{◌≡◌, ◌⊎◌, ℕ, ◌≤◌, Bool, true, false, List, [], ◌∷◌, ◌++◌, length, Some, None, slice_get}
 use Rattle.std.specs.Option.{IfSome}
 use Rattle.rc_types.specs.declared.limits.TheConstants.{MAX_EVENTS}
 use Rattle.rc_types.specs.declared.events.Setup.{Setup}
@@ -9,7 +9,8 @@ use Rattle.rc_model.specs.World.{replay}
 use Rattle.rc_history.specs.Events.{events_of, StartsWith}
 use Rattle.rc_wire.specs.SeatView.{SeatData, Offered, world_at}
 use Rattle.rc_wire.specs.Steps.{HoldsItsMessage}
-use Rattle.rc_wire.specs.Works.{IsOffer}
+use Rattle.rc_wire.specs.Numbers.{least_to}
+use Rattle.rc_wire.specs.Works.{IsOffer, was_delivered}
 
 -- what is true of each seat
 pub record IsSeat (setup : Setup) (seat : SeatData) : Type 0 where
@@ -50,6 +51,19 @@ pub record Misses (setup : Setup) (old : SeatData) (number : ℕ) (new : SeatDat
 abbrev pub Fetches : Setup → SeatData → ℕ → Bool → SeatData → Type 0
 Fetches setup old number true new = Finds setup old number new
 Fetches setup old number false new = Misses setup old number new
+
+-- there is no message to the seat's node from this number on
+pub record SeesNone (setup : Setup) (old : SeatData) (from : ℕ) (new : SeatData) : Type 0 where
+  pub later : Later old new
+  pub none : least_to new.name from (world_at setup new).sent ≡ None
+
+-- the first message to the seat's node from a number on has this one; it was delivered before, or is held now
+pub record SeesNext (setup : Setup) (old : SeatData) (from number : ℕ) (new : SeatData) : Type 0 where
+  pub looked : SeatData
+  pub later : Later old looked
+  pub first : least_to looked.name from (world_at setup looked).sent ≡ Some number
+  pub held : ((was_delivered looked.mine number ≡ true) × (new ≡ looked)) ⊎
+      ((was_delivered looked.mine number ≡ false) × Finds setup looked number new)
 
 -- the pending step stands at the end of a history that begins with what was seen; its event has this number, and in
 -- the world before it sends exactly its messages

@@ -25,9 +25,9 @@
 //! nothing of it. `Seat::commit_into` adds it to the journal, as one event at the end of the history. Whatever else the
 //! history has come to by then, the step is one that is possible there, since no other event is the node's own.
 //!
-//! The wire's lock is held to look for a message, to copy one, and to add a step with its messages; so one commit is
+//! The wire's lock is held to look for a message and to copy it, and to add a step with its messages; so one commit is
 //! one event of the core, at the moment at which it is added, and the history is one that a single thread could have
-//! made.
+//! made. A delivery takes it twice: between look and commit the node takes its step, while others are at the wire.
 //!
 //! `Wire::close` ends it: the history is replayed, as one world of `rc_world`, in which each seat's events stand in
 //! order. So the headline holds of what the threads did, and of what they had done at each moment.

@@ -104,18 +104,14 @@ pub(crate) fn deliver_next<N: Naming, R: Wait, A: Around>(
     ensures fault { IfErr result (λ fault. (fault ≡ OutOfMemory) ⊎ (fault ≡ BadEvent)) }
     ensures bad { IfErr result (λ fault. fault ≡ BadEvent → length seat.new.seen ≡ MAX_EVENTS) }
 {
-    let Some(number) = wire.next(rt, seat, from) else {
+    let Some(number) = wire.fetch_next(rt, seat, from)? else {
         return Ok(None);
     };
     if seat.has_delivered(number) {
         return Ok(Some(after(number)));
     }
-    let found = wire.fetch(rt, seat, number)?;
-    if found {
-        take_step(rt, wire, around, seat, Work::Fetched)?;
-        return Ok(Some(after(number)));
-    }
-    Ok(Some(from))
+    take_step(rt, wire, around, seat, Work::Fetched)?;
+    Ok(Some(after(number)))
 }
 
 /// The next number. (There are never so many messages that there is none.)

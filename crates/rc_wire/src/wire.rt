@@ -1,6 +1,7 @@
 //! The wire, and what seats do at it.
 
-ghost use Rattle.std.specs.Prelude.{◌≡◌, ◌⊎◌, ◌+◌, ◌≤◌, true, [], ℕ, is_some, length, All, IfOk, IfErr, OnErr};
+ghost use Rattle.std.specs.Prelude.{◌≡◌, ◌⊎◌, ◌+◌, ◌≤◌, true, [], ℕ, None, is_some, length, All, IfOk, IfErr, OnErr};
+ghost use Rattle.std.specs.Option.{IfSome, IfNone};
 ghost use Rattle.rc_types.specs.declared.faults.Fault.TheVariants.{OutOfMemory, BadEvent};
 ghost use Rattle.rc_types.specs.declared.limits.TheConstants.{MAX_EVENTS, MAX_HOSTS};
 ghost use Rattle.rc_history.specs.Events.{events_of};
@@ -10,7 +11,7 @@ ghost use Rattle.rc_wire.specs.Numbers.{least_to};
 ghost use Rattle.rc_wire.specs.JournalCalls.{new_places};
 ghost use Rattle.rc_wire.specs.Sound.{IsHistory};
 ghost use Rattle.rc_wire.specs.SeatView.{world_at};
-ghost use Rattle.rc_wire.specs.SeatCalls.{Covers, Later, Fetches, Commits};
+ghost use Rattle.rc_wire.specs.SeatCalls.{Covers, Later, Fetches, SeesNone, SeesNext, Commits};
 ghost use Rattle.rc_wire.specs.Seats.{new_seats};
 
 use crate::begin::seats_of;
@@ -79,6 +80,27 @@ impl<N: Naming> Wire<N> {
         seat.hold(&mut self.journal.lock(rt), number)
     }
 
+    /// `next` and `fetch` at once, under one lock: the seat holds the message whose number is the answer, unless it has
+    /// delivered it.
+    ///
+    /// # Errors
+    ///
+    /// `OutOfMemory` (F1): memory was refused. The seat may have seen more.
+    pub fn fetch_next(
+        &self,
+        rt: &impl Wait,
+        seat: &mut Seat<N>,
+        from: usize,
+    ) -> Result<Option<usize>, AllocError>
+        requires { seat.old.pending ≡ None }
+        ensures none { IfOk result (λ found. IfNone found (SeesNone N.wire.setup seat.old from seat.new)) }
+        ensures some { IfOk result (λ found. IfSome found (λ number.
+            SeesNext N.wire.setup seat.old from number seat.new)) }
+        ensures err { OnErr result (Later seat.old seat.new) }
+    {
+        fetch_next_at(&mut self.journal.lock(rt), seat, from)
+    }
+
     /// The seat's pending step becomes the last event of the history, and the answer is the event's
     /// number.
     ///
@@ -138,4 +160,26 @@ fn next_at<N: Naming>(journal: &mut Journal<N>, seat: &mut Seat<N>, from: usize)
 {
     seat.see(journal);
     journal.next_to(seat.name(), from)
+}
+
+/// What `Wire::fetch_next` does while nobody else is at the journal.
+fn fetch_next_at<N: Naming>(
+    journal: &mut Journal<N>,
+    seat: &mut Seat<N>,
+    from: usize,
+) -> Result<Option<usize>, AllocError>
+    requires { seat.old.pending ≡ None }
+    ensures none { IfOk result (λ found. IfNone found (SeesNone N.wire.setup seat.old from seat.new)) }
+    ensures some { IfOk result (λ found. IfSome found (λ number.
+        SeesNext N.wire.setup seat.old from number seat.new)) }
+    ensures err { OnErr result (Later seat.old seat.new) }
+{
+    let Some(number) = next_at(journal, seat, from) else {
+        return Ok(None);
+    };
+    if seat.has_delivered(number) {
+        return Ok(Some(number));
+    }
+    seat.hold(journal, number)?;
+    Ok(Some(number))
 }
