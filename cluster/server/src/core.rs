@@ -91,6 +91,8 @@ pub struct Core {
     pub waits: Waits,
     /// How much was taken when the last sync began.
     synced_at: u64,
+    /// When an entry of another came last.
+    kept: Option<Duration>,
 }
 
 /// What was counted.
@@ -109,6 +111,9 @@ pub struct Counts {
     /// Nanoseconds in syncs.
     pub syncing: u64,
 }
+
+/// For so long after the last entry of another came a host is one that keeps others' entries.
+const LATELY: Duration = Duration::from_millis(50);
 
 /// How often a server says that it lives, and what a node shows is made anew.
 pub const BEAT: Duration = Duration::from_millis(100);
@@ -156,6 +161,7 @@ impl Core {
             awake: Awake::new(),
             waits: Waits::default(),
             synced_at: 0,
+            kept: None,
             config,
         };
         core.tick_clock();
@@ -200,8 +206,10 @@ impl Core {
         if place != self.config.place() {
             return None;
         }
-        if let (kind::STORED | kind::DATA, Address::Server(from)) = (envelope.kind, envelope.from) {
-            self.waits.answered(from);
+        match (envelope.kind, envelope.from) {
+            (kind::STORED | kind::DATA, Address::Server(from)) => self.waits.answered(from),
+            (kind::APPEND, _) => self.kept = Some(self.awake.now()),
+            _ => {}
         }
         self.counts.works += 1;
         match self.node.deliver(message) {
@@ -295,6 +303,11 @@ impl Core {
         }
         let next = Vec::with_capacity(self.ready.journal.len());
         std::mem::replace(&mut self.ready.journal, next)
+    }
+
+    /// Whether entries of others have come lately.
+    pub fn keeps_others(&self) -> bool {
+        self.kept.is_some_and(|kept| self.awake.now() < kept + LATELY)
     }
 
     /// How much was taken since the last sync began.

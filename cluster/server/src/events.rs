@@ -2,6 +2,8 @@
 //! that peers say, and that before what clients ask: where there is much to do clients wait, and not the protocol.
 
 use crate::net::Writer;
+use std::sync::Arc;
+use std::sync::atomic::{AtomicBool, Ordering};
 use std::sync::mpsc::{self, Receiver, Sender};
 use std::time::{Duration, Instant};
 
@@ -31,9 +33,10 @@ pub const TURN: Duration = Duration::from_millis(20);
 pub const LEAST_PART: usize = 32;
 const MOST_PART: usize = 64;
 
-/// How many of so many requests are a part.
-pub fn part_of(count: usize) -> usize {
-    count.div_ceil(2).clamp(LEAST_PART, MOST_PART)
+/// How many of so many requests are a part. A host that keeps others' entries too has work while its own are on their
+/// way, and each part costs it a batch to each backup: there parts are as large as they may be.
+pub fn part_of(count: usize, keeps_others: bool) -> usize {
+    if keeps_others { MOST_PART } else { count.div_ceil(2).clamp(LEAST_PART, MOST_PART) }
 }
 
 /// Hands events over.
@@ -43,6 +46,7 @@ pub struct EventSender {
     /// None says that there is one in another queue.
     peers: Sender<Option<Event>>,
     clients: Sender<Event>,
+    keeps_others: Arc<AtomicBool>,
 }
 
 /// Takes events.
@@ -50,6 +54,7 @@ pub struct EventReceiver {
     urgent: Receiver<Event>,
     peers: Receiver<Option<Event>>,
     clients: Receiver<Event>,
+    keeps_others: Arc<AtomicBool>,
 }
 
 /// The two ends of what comes to a node's thread.
@@ -57,11 +62,17 @@ pub fn channel() -> (EventSender, EventReceiver) {
     let (urgent, from_urgent) = mpsc::channel();
     let (peers, from_peers) = mpsc::channel();
     let (clients, from_clients) = mpsc::channel();
-    let receiver = EventReceiver { urgent: from_urgent, peers: from_peers, clients: from_clients };
-    (EventSender { urgent, peers, clients }, receiver)
+    let keeps_others = Arc::new(AtomicBool::new(false));
+    let sender = EventSender { urgent, peers, clients, keeps_others: Arc::clone(&keeps_others) };
+    (sender, EventReceiver { urgent: from_urgent, peers: from_peers, clients: from_clients, keeps_others })
 }
 
 impl EventSender {
+    /// Whether the node keeps others' entries just now, as it has said.
+    pub fn keeps_others(&self) -> bool {
+        self.keeps_others.load(Ordering::Relaxed)
+    }
+
     /// Hands an event over. Says whether somebody is there to take it.
     pub fn send(&self, event: Event) -> bool {
         match event {
@@ -74,6 +85,11 @@ impl EventSender {
 }
 
 impl EventReceiver {
+    /// Says to those who hand over whether the node keeps others' entries just now.
+    pub fn say_keeps_others(&self, keeps: bool) {
+        self.keeps_others.store(keeps, Ordering::Relaxed);
+    }
+
     /// The next event, if one is there: of clients only where nothing else is.
     fn next(&self) -> Option<Event> {
         let urgent = || self.urgent.try_recv().ok();
@@ -111,6 +127,17 @@ mod tests {
         let mut taken = Vec::new();
         receiver.take_turn(Duration::from_millis(50), |event| taken.extend(number(event)));
         taken
+    }
+
+    #[test]
+    fn parts_are_halves_but_where_others_entries_are_kept() {
+        let (sender, receiver) = channel();
+        let parts = || [1, 64, 100, 1000].map(|count| part_of(count, sender.keeps_others()));
+        assert_eq!(parts(), [32, 32, 50, 64]);
+        receiver.say_keeps_others(true);
+        assert_eq!(parts(), [64; 4]);
+        receiver.say_keeps_others(false);
+        assert_eq!(parts(), [32, 32, 50, 64]);
     }
 
     #[test]

@@ -128,6 +128,7 @@ impl Host {
                 }
             });
             self.core.awake.turn();
+            events.say_keeps_others(self.core.keeps_others());
             if BEAT <= self.beat.elapsed() {
                 self.beat = Instant::now();
                 send_heartbeat(self.server, &mut self.core);
@@ -331,7 +332,7 @@ impl Host {
 
     /// What had to wait for a roll is asked again.
     fn retry(&mut self) {
-        let part = part_of(self.waiting.len());
+        let part = part_of(self.waiting.len(), self.core.keeps_others());
         for number in 1.. {
             let Some(asked) = self.waiting.pop_front() else { return };
             if !self.give(asked) {

@@ -296,7 +296,7 @@ fn give(events: &EventSender, number: u64, frames: &[u8]) -> bool {
 
 /// Hands a client's requests over, in parts. Says whether somebody is there to take them.
 fn give_parts(events: &EventSender, number: u64, requests: &[u8]) -> bool {
-    let part = part_of(framed(requests).count());
+    let part = part_of(framed(requests).count(), events.keeps_others());
     let mut rest = requests;
     while !rest.is_empty() {
         let length: usize = framed(rest).take(part).map(|request| 4 + request.len()).sum();
