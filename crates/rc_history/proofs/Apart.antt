@@ -5,7 +5,7 @@ use Rattle.std.proofs.lemmas.Bool.{and_parts}
 use Rattle.std.proofs.lemmas.List.{append-nil, map-append}
 use Rattle.std.proofs.lemmas.List.Elements.{filter-append}
 use Rattle.std.proofs.lemmas.Grind.{flat_map-append}
-use Rattle.rc_model.specs.Model.{Event, Setup, World, NodeName, Job, opening, same_node, work_of, is_possible, is_possible_job}
+use Rattle.rc_model.specs.Model.{Event, Setup, World, NodeName, Job, opening, same_node, job_of, is_possible, is_possible_job}
 use Rattle.rc_model.specs.Model.{runs_as_named, replay}
 use Rattle.rc_model.specs.World as world
 use Rattle.rc_model.proofs.Tests.{true_false}
@@ -71,8 +71,8 @@ after-push : (setup : Setup) (steps : List Step) (step : Step) →
 after-push setup steps step = ap (replay setup) (events_by-push steps step) ∙ replay_from-push (opening setup) (events_by steps) step.event
 
 given-here : (setup : Setup) (steps : List Step) (step : Step) → IsHistory setup steps → Follows setup steps step →
-    work_of (replay setup (events_by steps)).sent step.event ≡ Some (record { node = step.node; work = step.work })
-given-here setup steps step h f = ap (λ l. work_of l step.event) h.sent ∙ f.given
+    job_of (replay setup (events_by steps)).sent step.event ≡ Some (record { node = step.node; work = step.work })
+given-here setup steps step h f = ap (λ l. job_of l step.event) h.sent ∙ f.given
 
 stands-here : (setup : Setup) (steps : List Step) (step : Step) → IsHistory setup steps → Follows setup steps step →
     node_in (replay setup (events_by steps)) step.node ≡ step.before
@@ -120,7 +120,7 @@ taken-here : (setup : Setup) (steps : List Step) (step : Step) → IsHistory set
     taken name (replay setup (events_by steps)) step.event ≡ events_by (own_steps name (step ∷ []))
 taken-here setup steps step h f name =
     let w = replay setup (events_by steps) in
-    ap (λ b. cond (b && is_for name (work_of w.sent step.event)) (step.event ∷ []) []) (possible-here setup steps step h f)
+    ap (λ b. cond (b && is_for name (job_of w.sent step.event)) (step.event ∷ []) []) (possible-here setup steps step h f)
     ∙ (ap (λ job. cond (is_for name job) (step.event ∷ []) []) (given-here setup steps step h f) ∙ own-one (same_node step.node name) step)
 
 own-push : (name : NodeName) (steps : List Step) (step : Step) →
@@ -178,11 +178,11 @@ step_of w event job = record {
 }
 
 step-follows : (setup : Setup) (steps : List Step) (event : Event) (job : Job) → IsHistory setup steps →
-    work_of (replay setup (events_by steps)).sent event ≡ Some job → is_possible (replay setup (events_by steps)) event ≡ true →
+    job_of (replay setup (events_by steps)).sent event ≡ Some job → is_possible (replay setup (events_by steps)) event ≡ true →
     Follows setup steps (step_of (replay setup (events_by steps)) event job)
 unfolding step_of
 step-follows setup steps event job h given possible = record {
-  given = ap (λ l. work_of l event) (sym h.sent) ∙ given;
+  given = ap (λ l. job_of l event) (sym h.sent) ∙ given;
   before = h.nodes job.node;
   can = sym (node_takes (replay setup (events_by steps)) event job.node job.work given).possible ∙ possible;
   state = refl;
@@ -204,8 +204,8 @@ comes-from setup steps [] apart legal = record { steps = steps; apart = apart; s
 comes-from setup steps (event ∷ rest) apart legal =
     let w = replay setup (events_by steps) in
     let parts = and_parts (is_possible w event) (is_legal_from (world.step w event) rest) legal in
-    let job = some-job w (work_of w.sent event)
-    (and_parts (runs_as_named w event) (is_possible_job w (work_of w.sent event)) parts.0).1 in
+    let job = some-job w (job_of w.sent event)
+    (and_parts (runs_as_named w event) (is_possible_job w (job_of w.sent event)) parts.0).1 in
     let step = step_of w event job.0 in
     let named : step.event ≡ event = step_of-event w event job.0 in
     let pushed : events_by (steps ++ step ∷ []) ≡ events_by steps ++ event ∷ [] =

@@ -3,7 +3,7 @@ use Rattle.std.proofs.Common.{◌≡◌, ℕ, Bool, true, false, ◌&&◌, cond,
 use Rattle.std.proofs.Common.{refl, sym, ap, ◌∙◌, subst, append_assoc}
 use Rattle.std.proofs.lemmas.Bool.{and_parts}
 use Rattle.std.proofs.lemmas.List.{append-nil, append_cancel_left}
-use Rattle.rc_model.specs.Model.{Event, Setup, Message, World, NodeName, Job, opening, same_node, work_of, is_possible, step, replay_from}
+use Rattle.rc_model.specs.Model.{Event, Setup, Message, World, NodeName, Job, opening, same_node, job_of, is_possible, step, replay_from}
 use Rattle.rc_model.specs.Model.{replay}
 use Rattle.rc_model.proofs.Ids.{same_node-true}
 use Rattle.rc_model.proofs.Replays.{noted, sent_more-step}
@@ -110,22 +110,22 @@ node-stays setup name longer shorter starts same =
 
 -- the node that takes it has taken it too
 pub events_of-own : (setup : Setup) (name : NodeName) (events : List Event) (event : Event) →
-    is_possible (replay setup events) event ≡ true → is_for name (work_of (replay setup events).sent event) ≡ true →
+    is_possible (replay setup events) event ≡ true → is_for name (job_of (replay setup events).sent event) ≡ true →
     events_of setup name (events ++ event ∷ []) ≡ events_of setup name events ++ event ∷ []
 events_of-own setup name events event possible own =
     events_from-append name (opening setup) events (event ∷ [])
-    ∙ (ap (λ b. events_of setup name events ++ (cond (b && is_for name (work_of (replay setup events).sent event)) (event ∷ []) [] ++ []))
+    ∙ (ap (λ b. events_of setup name events ++ (cond (b && is_for name (job_of (replay setup events).sent event)) (event ∷ []) [] ++ []))
     possible
     ∙ ap (λ b. events_of setup name events ++ (cond b (event ∷ []) [] ++ [])) own)
 
 -- and no other node has
 pub events_of-other : (setup : Setup) (name other : NodeName) (events : List Event) (event : Event) →
-    is_for name (work_of (replay setup events).sent event) ≡ true → same_node name other ≡ false →
+    is_for name (job_of (replay setup events).sent event) ≡ true → same_node name other ≡ false →
     events_of setup other (events ++ event ∷ []) ≡ events_of setup other events
 events_of-other setup name other events event own differ =
     events_from-append other (opening setup) events (event ∷ [])
     ∙ (ap (λ b. events_of setup other events ++ (cond (is_possible (replay setup events) event && b) (event ∷ []) [] ++ []))
-    (one-node name other (work_of (replay setup events).sent event) own differ)
+    (one-node name other (job_of (replay setup events).sent event) own differ)
     ∙ (ap (λ l. events_of setup other events ++ l) (nothing (is_possible (replay setup events) event) event)
     ∙ append-nil (events_of setup other events)))
   where

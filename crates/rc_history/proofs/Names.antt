@@ -3,7 +3,7 @@ use Rattle.std.proofs.Common.{◌≡◌, ℕ, List, [], ◌∷◌, Option, Some,
 use Rattle.rc_model.specs.Model.{Event, Setup, Message, is_server, backup_takes, Master, master_takes, NodeWork, Deliver}
 use Rattle.rc_model.specs.Model.{HostNode, host_step, is_for_backup, with_backup, with_master, server_takes, server_of, takes_if_running}
 use Rattle.rc_model.specs.Model.{ticks_if_running, World, NodeName, TheOutside, TheCoordinator, TheHost, Job, node_done, job_done}
-use Rattle.rc_model.specs.Model.{work_of, is_possible, opening, step, replay_from, replay}
+use Rattle.rc_model.specs.Model.{job_of, is_possible, opening, step, replay_from, replay}
 use Rattle.rc_model.specs.Nodes.{Tick}
 use Rattle.rc_model.proofs.Tests.{either}
 use Rattle.rc_model.proofs.Tables.{put_each}
@@ -48,8 +48,8 @@ indices-job w event (Some job) has = indices-node w event job.node job.work has
 
 indices-step : (w : World) (event : Event) → HasIndices w → HasIndices (step w event)
 indices-step w event has =
-    either HasIndices (is_possible w event) (job_done w event (work_of w.sent event)) w
-    (λ _. indices-job w event (work_of w.sent event) has) (λ _. has)
+    either HasIndices (is_possible w event) (job_done w event (job_of w.sent event)) w
+    (λ _. indices-job w event (job_of w.sent event) has) (λ _. has)
 
 indices-replay : (w : World) (events : List Event) → HasIndices w → HasIndices (replay_from w events)
 indices-replay w [] has = has

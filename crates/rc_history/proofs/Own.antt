@@ -3,7 +3,7 @@ use Rattle.std.proofs.Common.{◌≡◌, ℕ, true, ◌&&◌, List, Some, refl, 
 use Rattle.rc_types.specs.declared.messages.Message.{Message}
 use Rattle.rc_model.specs.Ids.{same_id}
 use Rattle.rc_model.specs.Nodes.{NodeWork, Ask, Deliver, Tick, Stop, Start, HostNode, runs, server_of}
-use Rattle.rc_model.specs.World.{NodeName, Job, delivery, work_of}
+use Rattle.rc_model.specs.World.{NodeName, Job, delivery, job_of}
 use Rattle.rc_model.proofs.Ids.{same_id-refl}
 use Rattle.rc_history.specs.Nodes.{Node, TheOutside, TheCoordinator, TheHost, name_of, can_take, node_can, event_of}
 use Rattle.rc_history.specs.Apart.{WasSent}
@@ -11,7 +11,7 @@ use Rattle.rc_history.specs.Apart.{WasSent}
 -- its job is the node's
 pub given-job : (sent : List Message) (node : Node) (number : ℕ) (given : NodeWork) → WasSent sent node number given →
     node_can node given ≡ true →
-    work_of sent (event_of node number given) ≡ Some (record { node = name_of node; work = given })
+    job_of sent (event_of node number given) ≡ Some (record { node = name_of node; work = given })
 given-job sent node number (Deliver message) was can =
     ap delivery was.0 ∙ ap (λ (name : NodeName). Some (let job : Job = record { node = name; work = Deliver message } in job)) was.1
 given-job sent TheOutside number (Ask to body) was can = refl

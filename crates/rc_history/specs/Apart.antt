@@ -5,7 +5,7 @@ use Rattle.rc_types.specs.declared.events.Setup.{Setup}
 use Rattle.rc_types.specs.declared.events.Event.{Event}
 use Rattle.rc_types.specs.declared.messages.Message.{Message}
 use Rattle.rc_model.specs.Nodes.{NodeWork, Deliver}
-use Rattle.rc_model.specs.World.{NodeName, node_of, same_node, work_of}
+use Rattle.rc_model.specs.World.{NodeName, node_of, same_node, job_of}
 use Rattle.rc_history.specs.Nodes.{Node, can_take, node_step, name_of, new_node}
 
 -- one step of one node: the event and the work that it is given by it, where it is before and after, and what it sends
@@ -35,7 +35,7 @@ left_at name node (step ∷ steps) = left_at name (if same_node step.node name t
 -- A step can be taken after these:
 pub record Follows (setup : Setup) (earlier : List Step) (step : Step) : Type 0 where
   -- its event gives its node its work: a delivery, the message of that number that these have sent to this node;
-  pub given : work_of (sent_by earlier) step.event ≡ Some (record { node = step.node; work = step.work })
+  pub given : job_of (sent_by earlier) step.event ≡ Some (record { node = step.node; work = step.work })
   -- the node is where its own steps have left it;
   pub before : step.before ≡ left_at step.node (new_node setup step.node) earlier
   -- it can take this event with this work, and does what its rule says

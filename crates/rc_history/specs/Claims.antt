@@ -4,7 +4,7 @@ use Rattle.rc_types.specs.declared.events.Setup.{Setup}
 use Rattle.rc_types.specs.declared.events.Event.{Event}
 use Rattle.rc_types.specs.declared.messages.Message.{Message}
 use Rattle.rc_model.specs.Nodes.{NodeWork}
-use Rattle.rc_model.specs.World.{World, NodeName, same_node, work_of, is_possible, step, replay_from, replay}
+use Rattle.rc_model.specs.World.{World, NodeName, same_node, job_of, is_possible, step, replay_from, replay}
 use Rattle.rc_history.specs.Nodes.{can_take, node_step, name_of, new_node, node_in}
 use Rattle.rc_history.specs.Events.{is_legal_from, is_legal, events_from, events_of, StartsWith}
 use Rattle.rc_history.specs.Apart.{Step, events_by, sent_by, own_steps, left_at, TakenApart}
@@ -23,7 +23,7 @@ pub record NodeTakes (world : World) (event : Event) (name : NodeName) (work : N
 -- whoever an event is for takes it
 abbrev pub EventsAreStepsOfNodes : Type 0
 EventsAreStepsOfNodes = (world : World) (event : Event) (name : NodeName) (work : NodeWork) →
-    work_of world.sent event ≡ Some (record { node = name; work = work }) → NodeTakes world event name work
+    job_of world.sent event ≡ Some (record { node = name; work = work }) → NodeTakes world event name work
 
 -- the node that stands under a name is of that name, also after any events
 abbrev pub NodesKeepTheirNames : Type 0

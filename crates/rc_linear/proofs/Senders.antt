@@ -4,7 +4,7 @@ use Rattle.std.proofs.Common.{refl, sym, ap, ◌∙◌, subst, inl, inr, arith}
 use Rattle.std.proofs.lemmas.List.{append-nil, append_assoc, take-append-le, take_all}
 use Rattle.rc_model.specs.Model.{ServerId, Addr, Server, Outside, Setup, Event, Message, Enlist, to_coordinator, NodeWork, outside_sends}
 use Rattle.rc_model.specs.Model.{coordinator_step, server_of, host_step, next_server, World, opening, NodeName, TheOutside, TheCoordinator}
-use Rattle.rc_model.specs.Model.{TheHost, Job, work_of, is_possible, node_done, job_done, step, replay, In}
+use Rattle.rc_model.specs.Model.{TheHost, Job, job_of, is_possible, node_done, job_done, step, replay, In}
 use Rattle.rc_types.specs.declared.ids.Addr.TheVariants.{Coordinator as AtCoordinator}
 use Rattle.rc_model.specs.Nodes.{Ask}
 use Rattle.rc_model.proofs.Members.{In-get}
@@ -13,7 +13,7 @@ use Rattle.rc_model.proofs.Tests.{either}
 use Rattle.rc_step_laws.proofs.Lists.{get-within, get-append}
 use Rattle.rc_log_laws.proofs.EachMaster.{coordinator-from}
 use Rattle.rc_log_laws.proofs.NodeWalk.{said-host}
-use Rattle.rc_log_laws.proofs.Replays.{GoodWorld, IsGiven, work_of-given, good-world}
+use Rattle.rc_log_laws.proofs.Replays.{GoodWorld, IsGiven, job_of-given, good-world}
 
 -- the list has one message, or none of the outside
 abbrev IsAlone : List Message → Type 0
@@ -66,15 +66,15 @@ adds-node world one (TheHost i) work good given = record
 adds-none : (world : World) → Adds world world
 adds-none world = record { messages = []; grows = sym (append-nil world.sent); alone = none-alone }
 
-adds-job : (world : World) (one : Event) (found : Option Job) → work_of world.sent one ≡ found → GoodWorld world →
+adds-job : (world : World) (one : Event) (found : Option Job) → job_of world.sent one ≡ found → GoodWorld world →
     Adds world (job_done world one found)
 adds-job world one None is good = adds-none world
-adds-job world one (Some job) is good = adds-node world one job.node job.work good (work_of-given world.sent one job is)
+adds-job world one (Some job) is good = adds-node world one job.node job.work good (job_of-given world.sent one job is)
 
 adds-step : (world : World) (one : Event) → GoodWorld world → Adds world (step world one)
 adds-step world one good =
-    either (Adds world) (is_possible world one) (job_done world one (work_of world.sent one)) world
-    (λ _. adds-job world one (work_of world.sent one) refl good) (λ _. adds-none world)
+    either (Adds world) (is_possible world one) (job_done world one (job_of world.sent one)) world
+    (λ _. adds-job world one (job_of world.sent one) refl good) (λ _. adds-none world)
 
 -- Every list of events
 

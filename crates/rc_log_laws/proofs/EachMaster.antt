@@ -7,13 +7,13 @@ use Rattle.rc_model.specs.Model.{Backup, backup_takes}
 use Rattle.rc_model.specs.Model.{Master, new_master, master_takes, master_ticks, NodeWork}
 use Rattle.rc_model.specs.Model.{HostNode, master_setup, outside_sends, coordinator_step, server_of, host_step}
 use Rattle.rc_model.specs.Model.{with_backup, with_master, starts_host, next_server}
-use Rattle.rc_model.specs.Model.{World, opening, NodeName, TheOutside, TheCoordinator, TheHost, Job, work_of, is_possible, with_last_view}
+use Rattle.rc_model.specs.Model.{World, opening, NodeName, TheOutside, TheCoordinator, TheHost, Job, job_of, is_possible, with_last_view}
 use Rattle.rc_model.specs.Model.{node_done, job_done, step, replay_from, replay, In}
 use Rattle.rc_types.specs.declared.ids.Addr.TheVariants.{Coordinator as AtCoordinator}
 use Rattle.rc_model.specs.Nodes.{Ask}
 use Rattle.rc_step_laws.specs.All.{GoodMaster, GoodHost, MasterMoved}
 use Rattle.rc_log_laws.proofs.NodeWalk.{walked-host}
-use Rattle.rc_log_laws.proofs.Replays.{GoodWorld, IsGiven, is-good, work_of-given}
+use Rattle.rc_log_laws.proofs.Replays.{GoodWorld, IsGiven, is-good, job_of-given}
 use Rattle.rc_log_laws.proofs.Replays.{coordinator-moved, good-step, good-opening}
 use Rattle.rc_model.proofs.Sending.{Each, each-none, each-one}
 use Rattle.rc_model.proofs.Telling.{each-told}
@@ -179,16 +179,16 @@ module _ (P Q : List Message → ServerId → Master → Type 0) (led : IsLed P 
       (λ m message at from. not-server m (sym (coordinator-from world work good given message at) ∙ from))
   led-node world one (TheHost i) work good p given = done-host world one i good p work given
 
-  led-job : (world : World) (one : Event) (found : Option Job) → work_of world.sent one ≡ found → GoodWorld world →
+  led-job : (world : World) (one : Event) (found : Option Job) → job_of world.sent one ≡ found → GoodWorld world →
       Before world → After (job_done world one found)
   led-job world one None is good p = λ m. led.same world.sent m (world.masters m) (p m)
-  led-job world one (Some job) is good p = led-node world one job.node job.work good p (work_of-given world.sent one job is)
+  led-job world one (Some job) is good p = led-node world one job.node job.work good p (job_of-given world.sent one job is)
 
   -- an event
   pub led-by : (world : World) (one : Event) → GoodWorld world → Before world → After (step world one)
   led-by world one good p =
-      either After (is_possible world one) (job_done world one (work_of world.sent one)) world
-      (λ _. led-job world one (work_of world.sent one) refl good p)
+      either After (is_possible world one) (job_done world one (job_of world.sent one)) world
+      (λ _. led-job world one (job_of world.sent one) refl good p)
       (λ _ m. led.same world.sent m (world.masters m) (p m))
 
 module _ (setup : Setup) (P : List Message → ServerId → Master → Type 0) (kept : IsKeptByAll setup P) where

@@ -8,7 +8,7 @@ use Rattle.rc_model.specs.Model.{put_id, same_id, is_server, from_coordinator}
 use Rattle.rc_model.specs.Model.{is_below, greater_pair, begins_attempt}
 use Rattle.rc_model.specs.Model.{NodeWork, Deliver}
 use Rattle.rc_model.specs.Model.{outside_sends, coordinator_step, host_step, World, opening, NodeName, TheOutside, TheCoordinator}
-use Rattle.rc_model.specs.Model.{TheHost, Job, work_of, is_possible, node_done, job_done, step, replay_from, replay, pair_in, least_pair}
+use Rattle.rc_model.specs.Model.{TheHost, Job, job_of, is_possible, node_done, job_done, step, replay_from, replay, pair_in, least_pair}
 use Rattle.rc_model.specs.Model.{In}
 use Rattle.rc_types.specs.declared.ids.Addr.TheVariants.{Coordinator as AtCoordinator}
 use Rattle.rc_types.specs.declared.messages.Body.TheVariants as body
@@ -106,8 +106,8 @@ told-job world one None p = p
 told-job world one (Some job) p = told-node world one job.node job.work p
 
 told-event : (world : World) (one : Event) → LeastTold world → LeastTold (step world one)
-told-event world one p = either LeastTold (is_possible world one) (job_done world one (work_of world.sent one)) world
-    (λ _. told-job world one (work_of world.sent one) p) (λ _. p)
+told-event world one p = either LeastTold (is_possible world one) (job_done world one (job_of world.sent one)) world
+    (λ _. told-job world one (job_of world.sent one) p) (λ _. p)
 
 told-from : (world : World) (events : List Event) → LeastTold world → LeastTold (replay_from world events)
 told-from world [] p = p

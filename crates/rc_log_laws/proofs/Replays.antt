@@ -9,7 +9,7 @@ use Rattle.rc_model.specs.Model.{NodeWork, Deliver, HostNode}
 use Rattle.rc_model.specs.Model.{master_setup, is_for_clients, outside_can, server_of}
 use Rattle.rc_model.specs.Model.{with_backup, with_master, next_server, starts_host}
 use Rattle.rc_model.specs.Model.{coordinator_step, World, opening, NodeName, TheOutside, TheCoordinator}
-use Rattle.rc_model.specs.Model.{TheHost, Job, node_of, delivery, work_of, node_can}
+use Rattle.rc_model.specs.Model.{TheHost, Job, node_of, delivery, job_of, node_can}
 use Rattle.rc_model.specs.Model.{is_possible_job, is_possible, with_last_view, host_done, node_done, job_done, step, replay_from, replay}
 use Rattle.rc_model.specs.Model.{In, NothingIsMissing, NothingIsInvented}
 use Rattle.rc_types.specs.declared.ids.Addr.TheVariants.{Coordinator as AtCoordinator}
@@ -309,10 +309,10 @@ delivery-given sent (Some message) job was e =
 of-job : (sent : List Message) (this job : Job) → IsGiven sent this.node this.work → Some this ≡ Some job → IsGiven sent job.node job.work
 of-job sent this job given e = let same : this ≡ job = cc in subst (λ (some : Job). IsGiven sent some.node some.work) same given
 
-pub work_of-given : (sent : List Message) (one : Event) (job : Job) → work_of sent one ≡ Some job → IsGiven sent job.node job.work
-work_of-given sent (event.Deliver number) job e =
+pub job_of-given : (sent : List Message) (one : Event) (job : Job) → job_of sent one ≡ Some job → IsGiven sent job.node job.work
+job_of-given sent (event.Deliver number) job e =
     delivery-given sent (slice_get sent number) job (λ message at. In-get sent number message at) e
-work_of-given sent _ job e = of-job sent _ job tt e
+job_of-given sent _ job e = of-job sent _ job tt e
 
 good-node : (world : World) (one : Event) (node : NodeName) (work : NodeWork) → GoodWorld world →
     IsGiven world.sent node work → node_can world node work ≡ true → GoodStep world (node_done world one node work)
@@ -320,16 +320,16 @@ good-node world one TheOutside work good given can = good-outside world one work
 good-node world one TheCoordinator work good given can = good-coordinator-node world one work good given
 good-node world one (TheHost i) work good given can = good-host-node world one i good work given
 
-good-job : (world : World) (one : Event) (found : Option Job) → work_of world.sent one ≡ found → GoodWorld world →
+good-job : (world : World) (one : Event) (found : Option Job) → job_of world.sent one ≡ found → GoodWorld world →
     is_possible_job world found ≡ true → GoodStep world (job_done world one found)
 good-job world one None is good can = led-still world good
-good-job world one (Some job) is good can = good-node world one job.node job.work good (work_of-given world.sent one job is) can
+good-job world one (Some job) is good can = good-node world one job.node job.work good (job_of-given world.sent one job is) can
 
 -- each step keeps all facts, and only adds
 pub led-step : (world : World) (one : Event) → GoodWorld world → GoodStep world (step world one)
 led-step world one good =
-    either (GoodStep world) (is_possible world one) (job_done world one (work_of world.sent one)) world
-    (λ can. good-job world one (work_of world.sent one) refl good (possible-job world one can)) (λ _. led-still world good)
+    either (GoodStep world) (is_possible world one) (job_done world one (job_of world.sent one)) world
+    (λ can. good-job world one (job_of world.sent one) refl good (possible-job world one can)) (λ _. led-still world good)
 
 pub good-step : (world : World) (one : Event) → GoodWorld world → GoodWorld (step world one)
 good-step world one good = (led-step world one good).good

@@ -6,7 +6,7 @@ use Rattle.rc_model.specs.Model.{ServerId, Server, Outside, Event, Message, Body
 use Rattle.rc_model.specs.Model.{to_coordinator, Backup, backup_takes, Master, master_takes, master_ticks, NodeWork}
 use Rattle.rc_model.specs.Model.{HostNode, outside_sends, coordinator_step, server_of, host_step, with_backup}
 use Rattle.rc_model.specs.Model.{with_master, next_server, starts_host, World, NodeName}
-use Rattle.rc_model.specs.Model.{TheOutside, TheCoordinator, TheHost, Job, work_of, is_possible, host_done, node_done}
+use Rattle.rc_model.specs.Model.{TheOutside, TheCoordinator, TheHost, Job, job_of, is_possible, host_done, node_done}
 use Rattle.rc_model.specs.Model.{job_done, step, In, is_for_clients, outside_can, node_can, is_possible_job}
 use Rattle.std.proofs.lemmas.Bool.{and_parts}
 use Rattle.rc_model.specs.Nodes.{Ask}
@@ -15,7 +15,7 @@ use Rattle.rc_model.proofs.Tests.{either}
 use Rattle.rc_model.proofs.Tables.{put-same, put_id-same}
 use Rattle.rc_step_laws.specs.Moves.{MasterMoved}
 use Rattle.rc_log_laws.proofs.NodeWalk.{walked-host}
-use Rattle.rc_log_laws.proofs.Replays.{GoodWorld, IsGiven, work_of-given}
+use Rattle.rc_log_laws.proofs.Replays.{GoodWorld, IsGiven, job_of-given}
 
 -- what holds of each message by who sends it, in the world after the event
 pub record EachSender (world : World) (P : World → Message → Type 0) : Type 0 where
@@ -153,13 +153,13 @@ module _ (world : World) (one : Event) (good : GoodWorld world) (P : World → M
   of_node TheCoordinator work given can = of_coordinator work given
   of_node (TheHost i) work given can = of_host i work given
 
-  of_job : (found : Option Job) → work_of world.sent one ≡ found → is_possible_job world found ≡ true →
+  of_job : (found : Option Job) → job_of world.sent one ≡ found → is_possible_job world found ≡ true →
       Since (job_done world one found)
   of_job None is can = none world refl
-  of_job (Some job) is can = of_node job.node job.work (work_of-given world.sent one job is) can
+  of_job (Some job) is can = of_node job.node job.work (job_of-given world.sent one job is) can
 
   -- each message of an event
   pub each-sent : (message : Message) → In message (drop (length world.sent) (step world one).sent) → P (step world one) message
   each-sent =
-      either Since (is_possible world one) (job_done world one (work_of world.sent one)) world
-      (λ can. of_job (work_of world.sent one) refl (possible-job world one can)) (λ _. none world refl)
+      either Since (is_possible world one) (job_done world one (job_of world.sent one)) world
+      (λ can. of_job (job_of world.sent one) refl (possible-job world one can)) (λ _. none world refl)

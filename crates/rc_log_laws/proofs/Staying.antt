@@ -3,7 +3,7 @@ use Rattle.std.proofs.Common.{◌≡◌, ℕ, ◌≤◌, true, List, [], ◌∷�
 use Rattle.rc_model.specs.Model.{ServerId, Event, Message, is_server, Backup, backup_takes, Master, master_takes, master_ticks, NodeWork}
 use Rattle.rc_model.specs.Model.{Deliver, HostNode, server_of, host_step, is_for_backup, with_backup, with_master, server_takes}
 use Rattle.rc_model.specs.Model.{takes_if_running, ticks_if_running, World, opening, NodeName, TheOutside, TheCoordinator, TheHost, Job}
-use Rattle.rc_model.specs.Model.{work_of, is_possible, node_done, job_done, step, replay_from, replay}
+use Rattle.rc_model.specs.Model.{job_of, is_possible, node_done, job_done, step, replay_from, replay}
 use Rattle.rc_model.specs.Nodes.{Tick, Stop, Start}
 use Rattle.rc_model.proofs.Storing.{AllFencedStay, fenced-stay}
 use Rattle.rc_log_laws.proofs.Replays.{good-world}
@@ -94,8 +94,8 @@ stays-job world one (Some job) i = stays-node world one job.node job.work i
 pub stays-step : (world : World) (one : Event) (i : ℕ) → StaysFenced (world.hosts i) ((step world one).hosts i)
 stays-step world one i =
     either (λ (after : World). StaysFenced (world.hosts i) (after.hosts i)) (is_possible world one)
-    (job_done world one (work_of world.sent one)) world
-    (λ _. stays-job world one (work_of world.sent one) i) (λ _. stays-still (world.hosts i))
+    (job_done world one (job_of world.sent one)) world
+    (λ _. stays-job world one (job_of world.sent one) i) (λ _. stays-still (world.hosts i))
 
 stays-from : (world : World) (events : List Event) (i : ℕ) → StaysFenced (world.hosts i) ((replay_from world events).hosts i)
 stays-from world [] i = stays-still (world.hosts i)

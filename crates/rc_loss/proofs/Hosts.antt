@@ -9,7 +9,7 @@ use Rattle.rc_model.specs.Model.{HostNode, server_of, host_step, next_server, st
 use Rattle.rc_model.specs.Model.{server_takes}
 use Rattle.rc_model.specs.Model.{takes_if_running, ticks_if_running, outside_sends, coordinator_step, World, NodeName, TheOutside}
 use Rattle.rc_model.specs.Model.{TheCoordinator}
-use Rattle.rc_model.specs.Model.{TheHost, Job, work_of, delivery, is_possible, node_done, job_done, step, In}
+use Rattle.rc_model.specs.Model.{TheHost, Job, job_of, delivery, is_possible, node_done, job_done, step, In}
 use Rattle.rc_types.specs.declared.ids.Addr.TheVariants.{Coordinator as AtCoordinator}
 use Rattle.rc_types.specs.declared.events.Event.TheVariants as event
 use Rattle.rc_model.specs.Nodes.{Ask, Tick, Start}
@@ -20,7 +20,7 @@ use Rattle.rc_step_laws.specs.All.{body_said, held_at, StillStands, MasterMoved,
 use Rattle.rc_log_laws.proofs.NodeWalk.{walked-host}
 use Rattle.rc_step_laws.proofs.Backups.{moved-backup}
 use Rattle.rc_step_laws.proofs.Copies.{In-either, split}
-use Rattle.rc_log_laws.proofs.Replays.{GoodWorld, IsGiven, work_of-given}
+use Rattle.rc_log_laws.proofs.Replays.{GoodWorld, IsGiven, job_of-given}
 use Rattle.rc_log_laws.proofs.EachMaster.{coordinator-from}
 
 -- A start
@@ -59,7 +59,7 @@ is_start _ = false
 
 -- only a Start gives a host the work to start
 start-work : (sent : List Message) (one : Event) (i : ℕ) (kept : List (ServerId × ℕ)) →
-    work_of sent one ≡ Some (starting i kept) → one ≡ event.Start i kept
+    job_of sent one ≡ Some (starting i kept) → one ≡ event.Start i kept
 start-work sent (event.Deliver number) i kept e = by (slice_get sent number) e
   where
     by : (found : Option Message) → delivery found ≡ Some (starting i kept) → event.Deliver number ≡ event.Start i kept
@@ -96,7 +96,7 @@ module _ (world : World) (one : Event) (i : ℕ) where
   abbrev pub Same : World → Type 0
   Same after = ((after.hosts i).generation ≡ (world.hosts i).generation) ⊎ IsStart world one i after
 
-  started : (index : ℕ) (kept : List (ServerId × ℕ)) → index ≡ i → work_of world.sent one ≡ Some (starting index kept) →
+  started : (index : ℕ) (kept : List (ServerId × ℕ)) → index ≡ i → job_of world.sent one ≡ Some (starting index kept) →
       is_possible world one ≡ true → IsStart world one i (node_done world one (TheHost index) (Start kept))
   started index kept same is possible = record {
     kept = kept;
@@ -110,7 +110,7 @@ module _ (world : World) (one : Event) (i : ℕ) where
       new : HostNode
       new = (starts_host (world.hosts index) (next_server (world.hosts index)) kept).0
 
-  same-host : (index : ℕ) (work : NodeWork) → work_of world.sent one ≡ Some (record { node = TheHost index; work = work }) →
+  same-host : (index : ℕ) (work : NodeWork) → job_of world.sent one ≡ Some (record { node = TheHost index; work = work }) →
       is_possible world one ≡ true → Same (node_done world one (TheHost index) work)
   same-host index work is possible =
       split (nat_eq index i) (λ e. here (eqb-true index i e) (host-work (world.hosts index) work))
@@ -128,20 +128,20 @@ module _ (world : World) (one : Event) (i : ℕ) where
           inr (subst (λ (w : NodeWork). IsStart world one i (node_done world one (TheHost index) w)) (sym starts)
           (started index kept same (is ∙ ap (λ (w : NodeWork). Some (record { node = TheHost index; work = w })) starts) possible))
 
-  same-node_done : (node : NodeName) (work : NodeWork) → work_of world.sent one ≡ Some (record { node = node; work = work }) →
+  same-node_done : (node : NodeName) (work : NodeWork) → job_of world.sent one ≡ Some (record { node = node; work = work }) →
       is_possible world one ≡ true → Same (node_done world one node work)
   same-node_done TheOutside work is possible = inl refl
   same-node_done TheCoordinator work is possible = inl refl
   same-node_done (TheHost index) work is possible = same-host index work is possible
 
-  same-job_done : (found : Option Job) → work_of world.sent one ≡ found → is_possible world one ≡ true → Same (job_done world one found)
+  same-job_done : (found : Option Job) → job_of world.sent one ≡ found → is_possible world one ≡ true → Same (job_done world one found)
   same-job_done None is possible = inl refl
   same-job_done (Some job) is possible = same-node_done job.node job.work is possible
 
   pub same-or-start : Same (step world one)
   same-or-start =
-      either Same (is_possible world one) (job_done world one (work_of world.sent one)) world
-      (λ possible. same-job_done (work_of world.sent one) refl possible) (λ _. inl refl)
+      either Same (is_possible world one) (job_done world one (job_of world.sent one)) world
+      (λ possible. same-job_done (job_of world.sent one) refl possible) (λ _. inl refl)
 
 -- What a backup newly says
 
@@ -228,15 +228,15 @@ module _ (world : World) (one : Event) (good : GoodWorld world) (x : ServerId) (
       (λ at. from-coordinator (coordinator-from world work good given message_said at))
   stands-node (TheHost i) work given = host-stands i work given
 
-  stands-job : (found : Option Job) → work_of world.sent one ≡ found → Stands (job_done world one found)
+  stands-job : (found : Option Job) → job_of world.sent one ≡ found → Stands (job_done world one found)
   stands-job None is = λ at. inl at
-  stands-job (Some job) is = stands-node job.node job.work (work_of-given world.sent one job is)
+  stands-job (Some job) is = stands-node job.node job.work (job_of-given world.sent one job is)
 
   pub said-stands : In (record { from = Server x; to = to; body = says }) (step world one).sent →
       In (record { from = Server x; to = to; body = says }) world.sent ⊎ P ((step world one).hosts x.index).backup
   said-stands =
-      either Stands (is_possible world one) (job_done world one (work_of world.sent one)) world
-      (λ _. stands-job (work_of world.sent one) refl) (λ _ at. inl at)
+      either Stands (is_possible world one) (job_done world one (job_of world.sent one)) world
+      (λ _. stands-job (job_of world.sent one) refl) (λ _ at. inl at)
 
 -- What is newly told
 

@@ -3,14 +3,14 @@ use Rattle.std.proofs.Common.{◌≡◌, ℕ, List, [], Option, Some, None, refl
 use Rattle.rc_model.specs.Model.{ServerId, Event, Message, is_server, Backup, backup_takes, Master, master_takes, NodeWork, Deliver}
 use Rattle.rc_model.specs.Model.{HostNode}
 use Rattle.rc_model.specs.Model.{server_of, host_step, is_for_backup, with_backup, with_master, server_takes, takes_if_running}
-use Rattle.rc_model.specs.Model.{ticks_if_running, World, NodeName, TheOutside, TheCoordinator, TheHost, Job, work_of, is_possible}
+use Rattle.rc_model.specs.Model.{ticks_if_running, World, NodeName, TheOutside, TheCoordinator, TheHost, Job, job_of, is_possible}
 use Rattle.rc_model.specs.Model.{node_done}
 use Rattle.rc_model.specs.Model.{job_done, step, In}
 use Rattle.rc_model.specs.Nodes.{Tick, Start}
 use Rattle.rc_model.proofs.Tests.{either}
 use Rattle.rc_model.proofs.Tables.{put_each}
 use Rattle.rc_step_laws.specs.All.{Ascending}
-use Rattle.rc_log_laws.proofs.Replays.{GoodWorld, IsGiven, work_of-given, led-step}
+use Rattle.rc_log_laws.proofs.Replays.{GoodWorld, IsGiven, job_of-given, led-step}
 use Rattle.rc_loss.proofs.Kept.{AllKept, kept-more, kept-backup, kept-restarted}
 
 module _ (sent : List Message) (host : HostNode) (up : (m : ServerId) → Ascending (host.backup.held m).replicas)
@@ -55,13 +55,13 @@ module _ (world : World) (one : Event) (good : GoodWorld world) (all : AllHosts 
       put_each (λ k (host : HostNode). AllKept world.sent host.backup) world.hosts index (host_step (world.hosts index) work).0
       (kept-host world.sent (world.hosts index) (λ m. ((good.hosts_are index).held m).ascending) (all index) index work given) all
 
-  kept-job : (found : Option Job) → work_of world.sent one ≡ found → AllHosts world.sent (job_done world one found).hosts
+  kept-job : (found : Option Job) → job_of world.sent one ≡ found → AllHosts world.sent (job_done world one found).hosts
   kept-job None is = all
-  kept-job (Some job) is = kept-node job.node job.work (work_of-given world.sent one job is)
+  kept-job (Some job) is = kept-node job.node job.work (job_of-given world.sent one job is)
 
   pub kept-step : AllHosts (step world one).sent (step world one).hosts
   kept-step i m = kept-more world.sent (step world one).sent m (((step world one).hosts i).backup.held m)
       (led-step world one good).onward.more
       (either (λ (after : World). AllHosts world.sent after.hosts) (is_possible world one) (job_done world one
-      (work_of world.sent one)) world
-      (λ _. kept-job (work_of world.sent one) refl) (λ _. all) i m)
+      (job_of world.sent one)) world
+      (λ _. kept-job (job_of world.sent one) refl) (λ _. all) i m)

@@ -6,7 +6,7 @@ use Rattle.rc_model.specs.Model.{ServerId, Addr, Server, Setup, Event, Member, M
 use Rattle.rc_model.specs.Model.{backup_takes, ids_of, Master, master_takes, master_ticks, factor_of, NodeWork, HostNode, server_of}
 use Rattle.rc_model.specs.Model.{host_step}
 use Rattle.rc_model.specs.Model.{next_server, with_backup, with_master, World, opening, NodeName, TheOutside, TheCoordinator, TheHost, Job}
-use Rattle.rc_model.specs.Model.{work_of, is_possible, with_last_view, host_done, node_done, job_done, step, replay, In}
+use Rattle.rc_model.specs.Model.{job_of, is_possible, with_last_view, host_done, node_done, job_done, step, replay, In}
 use Rattle.rc_types.specs.declared.ids.Addr.TheVariants.{Coordinator as AtCoordinator}
 use Rattle.rc_model.specs.Nodes.{Start}
 use Rattle.rc_model.proofs.Replays.{replay_from-push}
@@ -14,7 +14,7 @@ use Rattle.rc_model.proofs.Tests.{true_false, either}
 use Rattle.rc_step_laws.specs.All.{HasToldClosed, IsPlace, IsPlacedAt, IsStored, OnDifferentHosts, LogLater, MasterMoved}
 use Rattle.rc_log_laws.proofs.NodeWalk.{walked-host}
 use Rattle.rc_step_laws.proofs.Copies.{More, In-either, split}
-use Rattle.rc_log_laws.proofs.Replays.{GoodWorld, GoodStep, IsGiven, is-good, work_of-given, put_id-found, led-step, good-world}
+use Rattle.rc_log_laws.proofs.Replays.{GoodWorld, GoodStep, IsGiven, is-good, job_of-given, put_id-found, led-step, good-world}
 use Rattle.rc_loss.proofs.Placings.{WasShut}
 use Rattle.rc_loss.proofs.Worlds.{LossFacts, loss-facts}
 
@@ -71,13 +71,13 @@ module _ (world : World) (one : Event) (good : GoodWorld world) (m : ServerId) w
   either-node TheCoordinator work given = inl refl
   either-node (TheHost i) work given = done-host i work given
 
-  either-job : (found : Option Job) → work_of world.sent one ≡ found → Either (job_done world one found)
+  either-job : (found : Option Job) → job_of world.sent one ≡ found → Either (job_done world one found)
   either-job None is = inl refl
-  either-job (Some job) is = either-node job.node job.work (work_of-given world.sent one job is)
+  either-job (Some job) is = either-node job.node job.work (job_of-given world.sent one job is)
 
   moves-or-tells : Either (step world one)
-  moves-or-tells = either Either (is_possible world one) (job_done world one (work_of world.sent one)) world
-      (λ _. either-job (work_of world.sent one) refl) (λ _. inl refl)
+  moves-or-tells = either Either (is_possible world one) (job_done world one (job_of world.sent one)) world
+      (λ _. either-job (job_of world.sent one) refl) (λ _. inl refl)
 
 -- Who has told closed
 

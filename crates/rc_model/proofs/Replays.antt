@@ -7,7 +7,7 @@ use Rattle.rc_model.specs.Model.{Event, Message, is_server, backup_takes, Master
 use Rattle.rc_model.specs.Model.{host_step, coordinator_step, is_for_backup, with_backup, with_master, server_takes, server_of}
 use Rattle.rc_model.specs.Model.{takes_if_running, ticks_if_running, World, NodeName, TheOutside, TheCoordinator, TheHost, Job, same_node}
 use Rattle.rc_model.specs.Model.{step, is_possible, is_possible_job, runs_as_named, node_done, job_done, replay_from}
-use Rattle.rc_model.specs.Model.{work_of, work_if_for, work_in, works_of, host_after, coordinator_after}
+use Rattle.rc_model.specs.Model.{job_of, work_if_for, work_in, works_of, host_after, coordinator_after}
 use Rattle.rc_model.specs.Coordinator.{Coordinator}
 use Rattle.rc_model.specs.Nodes.{Tick}
 use Rattle.rc_model.proofs.Tests.{either, true_false}
@@ -20,13 +20,13 @@ replay_from-push world (first ∷ events) event = replay_from-push (step world f
 
 -- an event that isn't possible changes nothing
 pub step-impossible : (world : World) (event : Event) → is_possible world event ≡ false → step world event ≡ world
-step-impossible world event not_possible = ap (λ b. cond b (job_done world event (work_of world.sent event)) world) not_possible
+step-impossible world event not_possible = ap (λ b. cond b (job_done world event (job_of world.sent event)) world) not_possible
 
 -- a possible event is a job that its node can be given
 pub possible-job : (world : World) (event : Event) → is_possible world event ≡ true →
-    is_possible_job world (work_of world.sent event) ≡ true
+    is_possible_job world (job_of world.sent event) ≡ true
 possible-job world event possible =
-    (and_parts (runs_as_named world event) (is_possible_job world (work_of world.sent event)) possible).1
+    (and_parts (runs_as_named world event) (is_possible_job world (job_of world.sent event)) possible).1
 
 noted_node : (world : World) (event : Event) (node : NodeName) (work : NodeWork) →
     (node_done world event node work).events ≡ world.events ++ event ∷ []
@@ -47,7 +47,7 @@ noted_if world event job named false possible = refl
 -- an event that is possible is noted, and nothing else is
 pub noted : (world : World) (event : Event) →
     (step world event).events ≡ cond (is_possible world event) (world.events ++ event ∷ []) world.events
-noted world event = noted_if world event (work_of world.sent event) (runs_as_named world event) (is_possible world event) refl
+noted world event = noted_if world event (job_of world.sent event) (runs_as_named world event) (is_possible world event) refl
 
 -- the later world has sent what the earlier one has, and more
 abbrev pub HasSentMore : World → World → Type 0
@@ -68,8 +68,8 @@ sent_more-job world event (Some job) = sent_more-node world event job.node job.w
 -- what was sent stays sent
 pub sent_more-step : (world : World) (event : Event) → HasSentMore world (step world event)
 sent_more-step world event =
-    either (HasSentMore world) (is_possible world event) (job_done world event (work_of world.sent event)) world
-    (λ _. sent_more-job world event (work_of world.sent event)) (λ _. sent_more-same world)
+    either (HasSentMore world) (is_possible world event) (job_done world event (job_of world.sent event)) world
+    (λ _. sent_more-job world event (job_of world.sent event)) (λ _. sent_more-same world)
 
 -- A node's own works
 
@@ -97,7 +97,7 @@ host_if world event index job false = refl
 -- one event gives a host its own work, if any
 pub host_step-own : (world : World) (event : Event) (index : ℕ) →
     (step world event).hosts index ≡ host_after (world.hosts index) (work_in (TheHost index) world event)
-host_step-own world event index = host_if world event index (work_of world.sent event) (is_possible world event)
+host_step-own world event index = host_if world event index (job_of world.sent event) (is_possible world event)
 
 host_after-append : (host : HostNode) (works others : List NodeWork) →
     host_after host (works ++ others) ≡ host_after (host_after host works) others
@@ -134,7 +134,7 @@ coordinator_if world event job false = refl
 -- one event gives the coordinator its own work, if any
 pub coordinator_step-own : (world : World) (event : Event) →
     (step world event).coordinator ≡ coordinator_after world.coordinator (work_in TheCoordinator world event)
-coordinator_step-own world event = coordinator_if world event (work_of world.sent event) (is_possible world event)
+coordinator_step-own world event = coordinator_if world event (job_of world.sent event) (is_possible world event)
 
 coordinator_after-append : (c : Coordinator) (works others : List NodeWork) →
     coordinator_after c (works ++ others) ≡ coordinator_after (coordinator_after c works) others

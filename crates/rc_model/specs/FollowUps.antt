@@ -1,4 +1,5 @@
--- The rules that a master follows up each input with: the first that applies is made, and the search begins anew.
+-- The rules that a master follows up each input with: the first that applies is made, and the search begins anew. They
+-- are numbered as in docs/PROTOCOL.md, 10.3.
 use Rattle.std.specs.Prelude.{ℕ, ◌+◌, ◌*◌, ◌-◌, Bool, true, false, not, nat_eq, nat_lt, ◌&&◌, if◌then◌else◌, List}
 use Rattle.std.specs.Prelude.{[], ◌∷◌, length, drop, take, find, filter, Option, Some, None, zero, suc, Result}
 use Rattle.std.specs.Prelude.{Ok, Err, option_and_then}
@@ -25,10 +26,12 @@ use Rattle.rc_model.specs.ListRules.{then_does}
 
 -- Starting, closing the old head, writing in the new one
 
+-- rule 1: the first head writes, and Ready goes to the coordinator
 abbrev pub follows_start : Master → Option (Master × List Message)
 follows_start master = when (may_start master.log)
     (with_log master (starts master.log), to_coordinator master.log.own Ready ∷ [])
 
+-- rule 2: the new head is placed on all, and the old one is to be closed
 abbrev pub follows_placed : Master → Option (Master × List Message)
 follows_placed master = when (may_close master.log) (with_log master (closes_old master.log), [])
 
@@ -40,7 +43,8 @@ close_is_due log =
 abbrev pub close_marked : Log → Log
 close_marked log = with_segment (log.head - 1) (with_closes_sent (old_head_of log)) log
 
--- Close goes with the final length to each of these, lost or not: also to one that has since taken a lost one's place
+-- rule 3: Close goes with the final length to each of these, lost or not: also to one that has since taken a lost one's
+-- place
 abbrev pub follows_closing : Master → Option (Master × List Message)
 follows_closing master = when (close_is_due master.log) (
   with_log master (close_marked master.log),
@@ -52,6 +56,7 @@ follows_closing master = when (close_is_due master.log) (
 abbrev pub frees_segments : Log → List ℕ → List Message
 frees_segments log segs = flat_map (λ seg. to_unlost log seg (Free seg)) segs
 
+-- rule 4: the old head is shut and the new one ready, so it writes; and what its digest leaves out is freed
 abbrev pub follows_shut : Master → Option (Master × List Message)
 follows_shut master = when (may_write master.log)
     (with_log master (writes_on master.log), frees_segments master.log (left_out master.log))
@@ -71,7 +76,7 @@ commits master seg =
     let log = with_segment seg (record (master.log.segments seg) { commit_sent = true }) master.log in
     (with_log master log, to_coordinator master.log.own (Commit seg (master.log.segments seg).config.epoch) ∷ [])
 
--- Commit of a segment, where no earlier one is open
+-- rule 5: Commit of a segment, where no earlier one is open
 abbrev pub follows_change : Master → Option (Master × List Message)
 follows_change master =
     option_and_then (λ seg. when (wants_commit (master.log.segments seg)) (commits master seg)) (first_open master.log)
@@ -92,7 +97,7 @@ write_oks own (place ∷ places) =
 abbrev pub new_durable : Log → List LogPlace
 new_durable log = drop log.durable (take (durable_now log) (places_of log))
 
--- they are durable for good, and each client's write among them is acknowledged
+-- rule 6: they are durable for good, and each client's write among them is acknowledged
 abbrev pub follows_stored : Master → Option (Master × List Message)
 follows_stored master = when (nat_lt master.log.durable (durable_now master.log)) (
   with_log master (record master.log { durable = durable_now master.log }),
@@ -112,6 +117,7 @@ replays master (entry ∷ entries) =
     if is_full master.log then rolls_for_replay master (begin_roll master.known (dead_segments master) master.log)
     else Some (appends_entry (record master { ownership = after_replay master.ownership }) entry false)
 
+-- rule 7: in Writing the first entry of the replay is appended, or a full head rolled
 abbrev pub follows_data : Master → Option (Master × List Message)
 follows_data master = if is_writing master.log.phase then replays master master.ownership.replay else None
 
@@ -127,7 +133,7 @@ answers_part master (Some term) = Some (
   to_coordinator master.log.own (Recovered (attempt_of term master.tasks) term) ∷ [],
 )
 
--- the first part that is complete is told of, once
+-- rule 8: the first part that is complete is told of, once
 abbrev pub follows_replay : Master → Option (Master × List Message)
 follows_replay master = answers_part master (to_answer (durable_replayed master) master.ownership)
 

@@ -61,10 +61,10 @@ begin_roll servers dead log =
 
 -- What members tell
 
--- a Stored, and a commit, are for a segment's config; for an unknown segment they do nothing
 abbrev pub with_config : ℕ → Config → Log → Log
 with_config seg config log = with_segment seg (record (log.segments seg) { config = config }) log
 
+-- a Stored, and a commit, are for a segment's config; for an unknown segment they do nothing
 abbrev pub notes_stored : Log → ℕ → ServerId → ℕ → Bool
 notes_stored log seg from epoch = has_segment log seg && notes from epoch (log.segments seg).config
 

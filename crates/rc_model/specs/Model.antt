@@ -162,7 +162,7 @@ pub use Rattle.rc_model.specs.World.{Job, NodeName, TheCoordinator, TheHost, The
 pub use Rattle.rc_model.specs.World.{delivery, host_done, is_possible, is_possible_job, job_done, master_of, node_can}
 pub use Rattle.rc_model.specs.World.{runs_as_named, server_named}
 pub use Rattle.rc_model.specs.World.{node_done, node_of, opening, replay, replay_from, same_node, step}
-pub use Rattle.rc_model.specs.World.{with_last_view, work_of}
+pub use Rattle.rc_model.specs.World.{with_last_view, job_of}
 pub use Rattle.rc_model.specs.WorldClaims.{CoordinatorFollowsItsWorks, EachNodeIsTheSame, GenerationsNeverFall}
 pub use Rattle.rc_model.specs.WorldClaims.{HostsFollowTheirWorks, ImpossibleChangesNothing, OneMoreEventIsAStep}
 pub use Rattle.rc_model.specs.WorldClaims.{PossibleIsNoted, SameNodesAreEqual, SentOnlyGrows}

@@ -17,10 +17,11 @@ pub record HeldRow : Type 0 where
   pub holder : ServerId
   pub row : Row
 
--- the rows of all answers, in the order of the answers
+-- the rows of one answer
 abbrev pub rows_of : ServerId → List Row → List HeldRow
 rows_of holder rows = map (λ row. record { holder = holder; row = row }) rows
 
+-- of all answers, in their order
 abbrev pub held_rows : List (ServerId × List Row) → List HeldRow
 held_rows replies = flat_map (λ reply. rows_of reply.0 reply.1) replies
 

@@ -3,7 +3,7 @@ use Rattle.std.specs.Prelude.{if◌then◌else◌, List, [], ◌∷◌, ◌++◌
 use Rattle.rc_types.specs.declared.events.Event.{Event}
 use Rattle.rc_model.specs.Coordinator.{Coordinator}
 use Rattle.rc_model.specs.Nodes.{NodeWork, HostNode, coordinator_step, host_step}
-use Rattle.rc_model.specs.World.{World, NodeName, same_node, Job, work_of, is_possible, step}
+use Rattle.rc_model.specs.World.{World, NodeName, same_node, Job, job_of, is_possible, step}
 
 -- the work of a job, where the job is this node's
 abbrev pub work_if_for : NodeName → Option Job → List NodeWork
@@ -12,7 +12,7 @@ work_if_for node (Some job) = if same_node job.node node then job.work ∷ [] el
 
 -- the work that a node is given by an event: none where the event isn't possible, or is another node's
 abbrev pub work_in : NodeName → World → Event → List NodeWork
-work_in node world event = if is_possible world event then work_if_for node (work_of world.sent event) else []
+work_in node world event = if is_possible world event then work_if_for node (job_of world.sent event) else []
 
 -- the works that a node is given by these events, from a world on
 abbrev pub works_of : NodeName → World → List Event → List NodeWork

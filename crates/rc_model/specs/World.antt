@@ -57,16 +57,16 @@ abbrev pub delivery : Option Message → Option Job
 delivery sent = option_map (λ message. record { node = node_of message.to; work = Deliver message }) sent
 
 -- the job of an event, given what was sent; none where it delivers what was not
-abbrev pub work_of : List Message → Event → Option Job
-work_of sent (event.Ask to body) = Some (record { node = TheOutside; work = Ask to body })
-work_of sent (event.Deliver number) = delivery (slice_get sent number)
-work_of sent (event.Tick addr) = Some (record { node = node_of addr; work = Tick })
-work_of sent (event.Stop id) = Some (record { node = TheHost id.index; work = Stop })
-work_of sent (event.Start host kept) = Some (record { node = TheHost host; work = Start kept })
-work_of sent (event.Suspect id) = Some (record { node = TheCoordinator; work = Suspect id })
-work_of sent (event.Decide id) = Some (record { node = TheCoordinator; work = Decide id })
-work_of sent (event.Create table owner) = Some (record { node = TheCoordinator; work = Create table owner })
-work_of sent (event.Split table at) = Some (record { node = TheCoordinator; work = Split table at })
+abbrev pub job_of : List Message → Event → Option Job
+job_of sent (event.Ask to body) = Some (record { node = TheOutside; work = Ask to body })
+job_of sent (event.Deliver number) = delivery (slice_get sent number)
+job_of sent (event.Tick addr) = Some (record { node = node_of addr; work = Tick })
+job_of sent (event.Stop id) = Some (record { node = TheHost id.index; work = Stop })
+job_of sent (event.Start host kept) = Some (record { node = TheHost host; work = Start kept })
+job_of sent (event.Suspect id) = Some (record { node = TheCoordinator; work = Suspect id })
+job_of sent (event.Decide id) = Some (record { node = TheCoordinator; work = Decide id })
+job_of sent (event.Create table owner) = Some (record { node = TheCoordinator; work = Create table owner })
+job_of sent (event.Split table at) = Some (record { node = TheCoordinator; work = Split table at })
 
 -- whether the node can be given this now
 abbrev pub node_can : World → NodeName → NodeWork → Bool
@@ -90,7 +90,7 @@ is_possible_job world found = option_map_or (λ job. node_can world job.node job
 
 -- the event is possible in this world
 abbrev pub is_possible : World → Event → Bool
-is_possible world event = runs_as_named world event && is_possible_job world (work_of world.sent event)
+is_possible world event = runs_as_named world event && is_possible_job world (job_of world.sent event)
 
 -- The step
 
@@ -125,7 +125,7 @@ job_done world event found = option_map_or (λ job. node_done world event job.no
 
 -- a step; an event that isn't possible changes nothing
 abbrev pub step : World → Event → World
-step world event = if is_possible world event then job_done world event (work_of world.sent event) else world
+step world event = if is_possible world event then job_done world event (job_of world.sent event) else world
 
 abbrev pub replay_from : World → List Event → World
 replay_from world events = fold step world events

@@ -8,7 +8,7 @@ use Rattle.rc_model.specs.Model.{master_ticks, NodeWork, Deliver, HostNode, new_
 use Rattle.rc_model.specs.Model.{outside_sends}
 use Rattle.rc_model.specs.Model.{coordinator_step, server_of, host_step, is_for_backup, with_backup, with_master, server_takes}
 use Rattle.rc_model.specs.Model.{takes_if_running, ticks_if_running, starts_host, next_server, World, opening, NodeName, TheOutside}
-use Rattle.rc_model.specs.Model.{TheCoordinator, TheHost, Job, delivery, work_of, node_can, is_possible_job, is_possible, node_done}
+use Rattle.rc_model.specs.Model.{TheCoordinator, TheHost, Job, delivery, job_of, node_can, is_possible_job, is_possible, node_done}
 use Rattle.rc_model.specs.Model.{job_done, step, replay_from, replay}
 use Rattle.rc_types.specs.declared.events.Event.TheVariants as event
 use Rattle.rc_model.specs.Nodes.{Ask, Tick, Stop, Start}
@@ -182,7 +182,7 @@ delivery-within : (n : ℕ) (sent : List Message) (number : ℕ) (found : Option
 delivery-within n sent number None e all = tt
 delivery-within n sent number (Some message) e all = All-get (λ (one : Message). body_within n one.body) sent number message all e
 
-work-within : (n : ℕ) (sent : List Message) (one : Event) → MessagesWithin n sent → JobWithin n (work_of sent one)
+work-within : (n : ℕ) (sent : List Message) (one : Event) → MessagesWithin n sent → JobWithin n (job_of sent one)
 work-within n sent (event.Deliver number) all = delivery-within n sent number (slice_get sent number) refl all
 work-within n sent _ all = tt
 
@@ -193,8 +193,8 @@ job-within n world one (Some job) h can p = node-within n world one job.node job
 
 pub step-within : (n : ℕ) (world : World) (one : Event) → WorldWithin n world → WorldWithin (n + 1) (step world one)
 step-within n world one h =
-    either (WorldWithin (n + 1)) (is_possible world one) (job_done world one (work_of world.sent one)) world
-    (λ can. job-within n world one (work_of world.sent one) h (possible-job world one can) (work-within n world.sent one h.messages))
+    either (WorldWithin (n + 1)) (is_possible world one) (job_done world one (job_of world.sent one)) world
+    (λ can. job-within n world one (job_of world.sent one) h (possible-job world one can) (work-within n world.sent one h.messages))
     (λ _. world-more n (n + 1) (omega arith) world h)
 
 within-from : (n : ℕ) (world : World) (events : List Event) → WorldWithin n world →

@@ -3,7 +3,7 @@ use Rattle.std.proofs.Common.{◌≡◌, ◌⊎◌, ℕ, true, List, [], ◌∷�
 use Rattle.std.proofs.lemmas.Bool.{and_parts}
 use Rattle.rc_model.specs.Model.{ServerId, Addr, Server, Setup, Event, Message, Body, Log, Master, master_takes, master_ticks, NodeWork}
 use Rattle.rc_model.specs.Model.{is_for_clients, outside_can, outside_sends, coordinator_step, server_of, host_step, World, opening}
-use Rattle.rc_model.specs.Model.{NodeName, TheOutside, TheCoordinator, TheHost, Job, work_of, node_can, is_possible_job, is_possible}
+use Rattle.rc_model.specs.Model.{NodeName, TheOutside, TheCoordinator, TheHost, Job, job_of, node_can, is_possible_job, is_possible}
 use Rattle.rc_model.specs.Model.{node_done, job_done, step, replay_from, replay, In, next_server, to_coordinator}
 use Rattle.rc_types.specs.declared.messages.Body.TheVariants as body
 use Rattle.rc_model.specs.Coordinator.{Coordinator}
@@ -11,7 +11,7 @@ use Rattle.rc_model.specs.Nodes.{Ask}
 use Rattle.rc_step_laws.specs.Moves.{MasterMoved, CoordinatorMoved, body_said, coordinator_body_said}
 use Rattle.rc_model.proofs.Sending.{each-one}
 use Rattle.rc_log_laws.proofs.NodeWalk.{walked-host}
-use Rattle.rc_log_laws.proofs.Replays.{GoodWorld, GoodStep, IsGiven, work_of-given, coordinator-moved, led-step, good-step, good-opening}
+use Rattle.rc_log_laws.proofs.Replays.{GoodWorld, GoodStep, IsGiven, job_of-given, coordinator-moved, led-step, good-step, good-opening}
 use Rattle.rc_owner_laws.specs.Data.{data_fine, DataAreCuts}
 use Rattle.rc_owner_laws.proofs.DataCuts.{data-later, IsNoData, no-data-fine, backup-fine}
 use Rattle.rc_model.proofs.Replays.{possible-job}
@@ -105,15 +105,15 @@ next-node world one TheCoordinator work good given can =
 next-node world one (TheHost i) work good given can =
     next-sent world (host_step (world.hosts i) work).1 (fine-host world one i good work given)
 
-next-job : (world : World) (one : Event) (found : Option Job) → work_of world.sent one ≡ found → GoodWorld world →
+next-job : (world : World) (one : Event) (found : Option Job) → job_of world.sent one ≡ found → GoodWorld world →
     is_possible_job world found ≡ true → IsNext world (job_done world one found)
 next-job world one None is good can = λ message at. inl at
-next-job world one (Some job) is good can = next-node world one job.node job.work good (work_of-given world.sent one job is) can
+next-job world one (Some job) is good can = next-node world one job.node job.work good (job_of-given world.sent one job is) can
 
 next-step : (world : World) (one : Event) → GoodWorld world → IsNext world (step world one)
 next-step world one good =
-    either (IsNext world) (is_possible world one) (job_done world one (work_of world.sent one)) world
-    (λ can. next-job world one (work_of world.sent one) refl good (possible-job world one can)) (λ _ message at. inl at)
+    either (IsNext world) (is_possible world one) (job_done world one (job_of world.sent one)) world
+    (λ can. next-job world one (job_of world.sent one) refl good (possible-job world one can)) (λ _ message at. inl at)
 
 cuts-step : (world : World) (one : Event) → GoodWorld world → CutsOf world → CutsOf (step world one)
 cuts-step world one good p message at = by (next-step world one good message at)

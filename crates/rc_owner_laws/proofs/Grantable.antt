@@ -7,7 +7,7 @@ use Rattle.rc_model.specs.Model.{ServerId, Addr, Server, Setup, Event, NoTable, 
 use Rattle.rc_model.specs.Model.{from_coordinator, is_up, has_range, assigned, Attempt, GivenPart, parts_of, refuses_server, attempt_at}
 use Rattle.rc_model.specs.Model.{is_current, own_body, range_of, grant_of, is_grant_to, grant_to, part_in, part_of_sender}
 use Rattle.rc_model.specs.Model.{takes_recovered, NodeWork, coordinator_step, outside_sends, server_of}
-use Rattle.rc_model.specs.Model.{host_step, next_server, World, opening, NodeName, TheOutside, TheCoordinator, TheHost, Job, work_of}
+use Rattle.rc_model.specs.Model.{host_step, next_server, World, opening, NodeName, TheOutside, TheCoordinator, TheHost, Job, job_of}
 use Rattle.rc_model.specs.Model.{is_possible, node_done, job_done, step, replay_from, replay, In, Enlist, to_coordinator, grants_anew}
 use Rattle.rc_types.specs.declared.messages.Body.TheVariants.{Plan as PlanBody}
 use Rattle.rc_model.specs.Coordinator.{Coordinator}
@@ -16,7 +16,7 @@ use Rattle.rc_step_laws.specs.All.{IsNumbered}
 use Rattle.rc_step_laws.proofs.Attempting.{numbered-at}
 use Rattle.rc_model.proofs.Sending.{each-one}
 use Rattle.rc_log_laws.proofs.NodeWalk.{said-host}
-use Rattle.rc_log_laws.proofs.Replays.{GoodWorld, IsGiven as IsGivenWork, work_of-given, good-step, good-opening, good-world}
+use Rattle.rc_log_laws.proofs.Replays.{GoodWorld, IsGiven as IsGivenWork, job_of-given, good-step, good-opening, good-world}
 use Rattle.rc_owner_laws.specs.Grants.{IsGiven, IsPlanOf}
 use Rattle.rc_owner_laws.specs.Waiting.{IsTablet, GoodTablets, lacks_tablet, NoneLacksTablet}
 use Rattle.rc_owner_laws.specs.Recoveries.{IsPlanned, IsOwned, IsAnsweredByOwn, PlannedPartsAreTablets}
@@ -78,16 +78,16 @@ tablets-node world one (TheHost i) work good grants p given = record {
       (servers-say (host_step (world.hosts i) work).1 (from-host world one i good work given));
 }
 
-tablets-job : (world : World) (one : Event) (found : Option Job) → work_of world.sent one ≡ found → GoodWorld world →
+tablets-job : (world : World) (one : Event) (found : Option Job) → job_of world.sent one ≡ found → GoodWorld world →
     OfWorld world → TabletsWorld world → TabletsWorld (job_done world one found)
 tablets-job world one None is good grants p = p
 tablets-job world one (Some job) is good grants p =
-    tablets-node world one job.node job.work good grants p (work_of-given world.sent one job is)
+    tablets-node world one job.node job.work good grants p (job_of-given world.sent one job is)
 
 tablets-step : (world : World) (one : Event) → GoodWorld world → OfWorld world → TabletsWorld world → TabletsWorld (step world one)
 tablets-step world one good grants p =
-    either TabletsWorld (is_possible world one) (job_done world one (work_of world.sent one)) world
-    (λ _. tablets-job world one (work_of world.sent one) refl good grants p) (λ _. p)
+    either TabletsWorld (is_possible world one) (job_done world one (job_of world.sent one)) world
+    (λ _. tablets-job world one (job_of world.sent one) refl good grants p) (λ _. p)
 
 tablets-from : (world : World) (events : List Event) → GoodWorld world → OfWorld world → TabletsWorld world →
     TabletsWorld (replay_from world events)

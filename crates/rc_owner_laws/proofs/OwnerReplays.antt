@@ -3,13 +3,13 @@ use Rattle.std.proofs.Common.{◌≡◌, ℕ, true, List, [], ◌∷◌, ◌++�
 use Rattle.std.proofs.lemmas.Bool.{and_parts}
 use Rattle.rc_model.specs.Model.{ServerId, Addr, Server, Setup, Event, Message, Body, put, Backup, Log, Master, NodeWork, HostNode}
 use Rattle.rc_model.specs.Model.{is_for_clients, outside_can, outside_sends, coordinator_step, server_of, host_step, World, opening}
-use Rattle.rc_model.specs.Model.{NodeName, TheOutside, TheCoordinator, TheHost, Job, work_of, node_can, is_possible_job, is_possible}
+use Rattle.rc_model.specs.Model.{NodeName, TheOutside, TheCoordinator, TheHost, Job, job_of, node_can, is_possible_job, is_possible}
 use Rattle.rc_model.specs.Model.{node_done, job_done, step, replay_from, replay, next_server, to_coordinator}
 use Rattle.rc_types.specs.declared.messages.Body.TheVariants as body
 use Rattle.rc_model.specs.Coordinator.{Coordinator}
 use Rattle.rc_model.specs.Nodes.{Ask}
 use Rattle.rc_step_laws.specs.Moves.{CoordinatorLater, body_said, backup_body_said}
-use Rattle.rc_log_laws.proofs.Replays.{GoodWorld, IsGiven, work_of-given, coordinator-moved, good-step, good-opening}
+use Rattle.rc_log_laws.proofs.Replays.{GoodWorld, IsGiven, job_of-given, coordinator-moved, good-step, good-opening}
 use Rattle.rc_log_laws.proofs.NodeWalk.{said-host}
 use Rattle.rc_model.proofs.Sending.{each-one}
 use Rattle.rc_owner_laws.specs.Grants.{own_said, GoodGrants, GrantsKept}
@@ -83,15 +83,15 @@ grants-node world one TheCoordinator work good p given can = record {
 grants-node world one (TheHost i) work good p given can =
     others world.sent world.coordinator (host_step (world.hosts i) work).1 p (says-host world one i good work given)
 
-grants-job : (world : World) (one : Event) (found : Option Job) → work_of world.sent one ≡ found → GoodWorld world →
+grants-job : (world : World) (one : Event) (found : Option Job) → job_of world.sent one ≡ found → GoodWorld world →
     OfWorld world → is_possible_job world found ≡ true → OfWorld (job_done world one found)
 grants-job world one None is good p can = p
-grants-job world one (Some job) is good p can = grants-node world one job.node job.work good p (work_of-given world.sent one job is) can
+grants-job world one (Some job) is good p can = grants-node world one job.node job.work good p (job_of-given world.sent one job is) can
 
 pub grants-step : (world : World) (one : Event) → GoodWorld world → OfWorld world → OfWorld (step world one)
 grants-step world one good p =
-    either OfWorld (is_possible world one) (job_done world one (work_of world.sent one)) world
-    (λ can. grants-job world one (work_of world.sent one) refl good p (possible-job world one can)) (λ _. p)
+    either OfWorld (is_possible world one) (job_done world one (job_of world.sent one)) world
+    (λ can. grants-job world one (job_of world.sent one) refl good p (possible-job world one can)) (λ _. p)
 
 grants-from : (world : World) (events : List Event) → GoodWorld world → OfWorld world → OfWorld (replay_from world events)
 grants-from world [] good p = p

@@ -1,8 +1,8 @@
 -- What holds of terms holds of every world that a list of events leads to.
 use Rattle.std.proofs.Common.{◌≡◌, List, [], ◌∷◌, ◌++◌, Option, Some, None, refl, sym, subst}
 use Rattle.rc_model.specs.Model.{Setup, Event, NodeWork, outside_sends, coordinator_step, host_step, World, opening, NodeName, TheOutside}
-use Rattle.rc_model.specs.Model.{TheCoordinator, TheHost, Job, work_of, is_possible, node_done, job_done, step, replay_from, replay}
-use Rattle.rc_log_laws.proofs.Replays.{GoodWorld, IsGiven, work_of-given, taken-at, good-world}
+use Rattle.rc_model.specs.Model.{TheCoordinator, TheHost, Job, job_of, is_possible, node_done, job_done, step, replay_from, replay}
+use Rattle.rc_log_laws.proofs.Replays.{GoodWorld, IsGiven, job_of-given, taken-at, good-world}
 use Rattle.rc_owner_laws.proofs.OwnerReplays.{OfWorld, grants-world, later-coordinator}
 use Rattle.rc_owner_laws.specs.Terms.{GoodTerms}
 use Rattle.rc_owner_laws.proofs.Keeping.{terms-more}
@@ -27,16 +27,16 @@ terms-node world one (TheHost i) work good grants terms given =
     terms-more world.sent (world.sent ++ (host_step (world.hosts i) work).1) world.coordinator
     (more-left world.sent (host_step (world.hosts i) work).1) terms
 
-terms-job : (world : World) (one : Event) (found : Option Job) → work_of world.sent one ≡ found → GoodWorld world →
+terms-job : (world : World) (one : Event) (found : Option Job) → job_of world.sent one ≡ found → GoodWorld world →
     OfWorld world → TermsOf world → TermsOf (job_done world one found)
 terms-job world one None is good grants terms = terms
 terms-job world one (Some job) is good grants terms =
-    terms-node world one job.node job.work good grants terms (work_of-given world.sent one job is)
+    terms-node world one job.node job.work good grants terms (job_of-given world.sent one job is)
 
 terms-step : (world : World) (one : Event) → GoodWorld world → OfWorld world → TermsOf world → TermsOf (step world one)
 terms-step world one good grants terms =
-    either TermsOf (is_possible world one) (job_done world one (work_of world.sent one)) world
-    (λ can. terms-job world one (work_of world.sent one) refl good grants terms) (λ _. terms)
+    either TermsOf (is_possible world one) (job_done world one (job_of world.sent one)) world
+    (λ can. terms-job world one (job_of world.sent one) refl good grants terms) (λ _. terms)
 
 -- the events one after another
 replay-one : (world : World) (events : List Event) (one : Event) →

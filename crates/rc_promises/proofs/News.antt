@@ -5,7 +5,7 @@ use Rattle.rc_model.specs.Model.{ServerId, Addr, Server, Outside, Setup, Event, 
 use Rattle.rc_model.specs.Model.{to_coordinator, to_outside, Found, read_of, Backup, backup_takes, term_of, Master, durable_entries}
 use Rattle.rc_model.specs.Model.{then_does, goes_on, master_takes_first, deposed_takes, master_takes, master_ticks, NodeWork}
 use Rattle.rc_model.specs.Model.{HostNode, outside_sends, coordinator_step, server_of, host_step, starts_host, next_server, World, opening}
-use Rattle.rc_model.specs.Model.{NodeName, TheOutside, TheCoordinator, TheHost, Job, work_of, is_possible, node_done, job_done, step}
+use Rattle.rc_model.specs.Model.{NodeName, TheOutside, TheCoordinator, TheHost, Job, job_of, is_possible, node_done, job_done, step}
 use Rattle.rc_model.specs.Model.{replay, In, reads_under, refused, NotOwner}
 use Rattle.rc_types.specs.declared.ids.Addr.TheVariants.{Coordinator as AtCoordinator}
 use Rattle.rc_model.specs.Coordinator.{Coordinator}
@@ -13,7 +13,7 @@ use Rattle.rc_model.specs.Nodes.{Ask}
 use Rattle.rc_model.proofs.Members.{In-right, In-append}
 use Rattle.rc_step_laws.specs.Moves.{MasterMoved, body_said, BackupMoved, backup_body_said, CoordinatorMoved, coordinator_body_said}
 use Rattle.rc_log_laws.proofs.NodeWalk.{walked-host}
-use Rattle.rc_log_laws.proofs.Replays.{GoodWorld, IsGiven, work_of-given, coordinator-moved, good-world}
+use Rattle.rc_log_laws.proofs.Replays.{GoodWorld, IsGiven, job_of-given, coordinator-moved, good-world}
 use Rattle.rc_log_laws.proofs.Since.{replay_from-append}
 use Rattle.rc_promises.proofs.Hushed.{is_read_ok, Hushed, Hush, hush-then, hush-takes_first, hush-deposed, hush-goes, hush-master_ticks}
 use Rattle.rc_model.proofs.Tests.{true_false, either}
@@ -296,15 +296,15 @@ adds-node world one (TheHost i) work good given = record
 adds-none : (world : World) → Adds world world
 adds-none world = record { messages = []; grows = sym (append-nil world.sent); news = news-none world }
 
-adds-job : (world : World) (one : Event) (found : Option Job) → work_of world.sent one ≡ found → GoodWorld world →
+adds-job : (world : World) (one : Event) (found : Option Job) → job_of world.sent one ≡ found → GoodWorld world →
     Adds world (job_done world one found)
 adds-job world one None is good = adds-none world
-adds-job world one (Some job) is good = adds-node world one job.node job.work good (work_of-given world.sent one job is)
+adds-job world one (Some job) is good = adds-node world one job.node job.work good (job_of-given world.sent one job is)
 
 pub adds-step : (world : World) (one : Event) → GoodWorld world → Adds world (step world one)
 adds-step world one good =
-    either (Adds world) (is_possible world one) (job_done world one (work_of world.sent one)) world
-    (λ _. adds-job world one (work_of world.sent one) refl good) (λ _. adds-none world)
+    either (Adds world) (is_possible world one) (job_done world one (job_of world.sent one)) world
+    (λ _. adds-job world one (job_of world.sent one) refl good) (λ _. adds-none world)
 
 -- In every world
 

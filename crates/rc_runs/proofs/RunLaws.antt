@@ -2,7 +2,7 @@
 use Rattle.std.proofs.Common.{◌≡◌, ℕ, ◌+◌, ◌<◌, ◌≤◌, zero, suc, Bool, true, false, nat_lt, ◌&&◌, if◌then◌else◌, cond, ◌++◌, List, [], ◌∷◌}
 use Rattle.std.proofs.Common.{length, Option, Some, None, Result, Ok, Err, refl, sym, ap, ◌∙◌, arith, length-append}
 use Rattle.rc_types.specs.declared.events.Event.TheVariants as event
-use Rattle.rc_model.specs.Model.{Setup, Event, World, opening, step, is_possible, job_done, work_of, replay}
+use Rattle.rc_model.specs.Model.{Setup, Event, World, opening, step, is_possible, job_done, job_of, replay}
 use Rattle.rc_model.proofs.Replays.{replay_from-push, noted}
 use Rattle.rc_runs.specs.declared.passing.Passing.{Passing}
 use Rattle.rc_runs.specs.Settling.{events_left, due_from, none_left, one_left, pass}
@@ -52,12 +52,12 @@ delivered : (most : ℕ) (setup : Setup) (left : ℕ) (rest : World → ℕ → 
     → GoesOn most setup left rest → IsRun most setup world → suc left + length world.events ≤ most →
     is_possible world (event.Deliver n) ≡ possible
     → EndsInRun most setup
-    (rest (if possible then job_done world (event.Deliver n) (work_of world.sent (event.Deliver n)) else world) (n + 1))
+    (rest (if possible then job_done world (event.Deliver n) (job_of world.sent (event.Deliver n)) else world) (n + 1))
 unfolding GoesOn
 delivered most setup left rest world n false later run room is = later world (n + 1) run (omega arith)
 delivered most setup left rest world n true later run room is =
     let same = noted_possible world (event.Deliver n) is in
-    let stepped : step world (event.Deliver n) ≡ job_done world (event.Deliver n) (work_of world.sent (event.Deliver n)) = rw is refl in
+    let stepped : step world (event.Deliver n) ≡ job_done world (event.Deliver n) (job_of world.sent (event.Deliver n)) = rw is refl in
     let more : IsRun most setup (step world (event.Deliver n)) = one_more most setup world (event.Deliver n) run (omega arith) is in
     rw (← stepped) (later (step world (event.Deliver n)) (n + 1) more
     (omega (arith, ap length same, length-append world.events (event.Deliver n ∷ []))))

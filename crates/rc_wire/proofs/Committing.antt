@@ -2,7 +2,7 @@
 use Rattle.std.proofs.Common.{◌≡◌, ℕ, ◌≤◌, List, [], ◌∷◌, ◌++◌, length, Option, Some, None, sym, ap, ◌∙◌, subst}
 use Rattle.std.proofs.lemmas.Bool.{and_parts}
 use Rattle.std.proofs.lemmas.List.{append-nil}
-use Rattle.rc_model.specs.Model.{MAX_EVENTS, Setup, Event, Message, World, NodeName, opening, replay, is_possible, step, work_of}
+use Rattle.rc_model.specs.Model.{MAX_EVENTS, Setup, Event, Message, World, NodeName, opening, replay, is_possible, step, job_of}
 use Rattle.rc_model.proofs.Replays.{replay_from-push}
 use Rattle.rc_history.specs.Nodes.{Node, node_in}
 use Rattle.rc_history.specs.Events.{events_of, is_for}
@@ -72,10 +72,10 @@ can-push wire name place held pending node numbers offered s is =
     let o : IsOffer (replay wire.setup place.seen) name offered =
     pending-offer wire.setup (seat_data name place held pending) place.node node numbers offered s is in
     let parts = and_parts (is_possible (replay wire.setup place.seen) offered.event)
-    (is_for name (work_of (replay wire.setup place.seen).sent offered.event)) o.takes in
+    (is_for name (job_of (replay wire.setup place.seen).sent offered.event)) o.takes in
     record {
       possible = parts.0;
-      own = ap (λ (n : NodeName). is_for n (work_of (replay wire.setup place.seen).sent offered.event)) (own-name name place s.sits) ∙
+      own = ap (λ (n : NodeName). is_for n (job_of (replay wire.setup place.seen).sent offered.event)) (own-name name place s.sits) ∙
           parts.1;
       sends = ap (λ (w : World). w.sent) (replay_from-push (opening wire.setup) place.seen offered.event) ∙ o.sends;
     }
@@ -91,7 +91,7 @@ sound-committed setup seat number node numbers offered s is few =
     let longer : List Event = seat.seen ++ offered.event ∷ [] in
     let done : IsStep world.sent name (node_at setup seat) offered node = pending-step setup seat number node numbers offered s is in
     let o : IsOffer world name offered = step-offered world name offered node done in
-    let parts = and_parts (is_possible world offered.event) (is_for name (work_of world.sent offered.event)) o.takes in
+    let parts = and_parts (is_possible world offered.event) (is_for name (job_of world.sent offered.event)) o.takes in
     let t : NodeTakes world offered.event name done.work = node_takes world offered.event name done.work done.given in
     let there : node_in (replay setup longer) name ≡ node_in (step world offered.event) name =
     ap (λ (w : World). node_in w name) (replay_from-push (opening setup) seat.seen offered.event) in

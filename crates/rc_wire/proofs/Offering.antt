@@ -1,6 +1,6 @@
 -- A step that a node has taken is an event of the world that its seat has seen.
 use Rattle.std.proofs.Common.{◌≡◌, ℕ, Bool, true, ◌&&◌, List, ◌++◌, Some, refl, sym, ap, ◌∙◌}
-use Rattle.rc_model.specs.Model.{Event, Message, World, NodeName, Job, work_of, is_possible}
+use Rattle.rc_model.specs.Model.{Event, Message, World, NodeName, Job, job_of, is_possible}
 use Rattle.rc_history.specs.Nodes.{Node, name_of, node_in, can_take, node_can}
 use Rattle.rc_history.specs.Events.{is_for}
 use Rattle.rc_history.specs.Claims.{NodeTakes}
@@ -24,7 +24,7 @@ pub does-step : (sent : List Message) (name : NodeName) (before : Node) (number 
     IsStep sent name before (seen_of offer) after
 does-step sent name before number given offer after named was can d = record {
   work = given;
-  given = ap (work_of sent) d.event ∙ (given-job sent before number given was can
+  given = ap (job_of sent) d.event ∙ (given-job sent before number given was can
       ∙ ap (λ (n : NodeName). Some (let job : Job = record { node = n; work = given } in job)) named);
   can = ap (λ (e : Event). can_take before e given) d.event ∙ takes-own before number given can;
   state = d.state;
@@ -41,7 +41,7 @@ step-offered world name offered after s =
     let t : NodeTakes world offered.event name s.work = node_takes world offered.event name s.work s.given in
     let possible : is_possible world offered.event ≡ true = t.possible ∙ s.can in
     record {
-      takes = both (is_possible world offered.event) (is_for name (work_of world.sent offered.event)) possible
+      takes = both (is_possible world offered.event) (is_for name (job_of world.sent offered.event)) possible
           (ap (is_for name) s.given ∙ same_node-same name);
       sends = t.sends possible ∙ ap (λ (messages : List Message). world.sent ++ messages) (sym s.sends);
     }

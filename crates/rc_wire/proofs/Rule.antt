@@ -4,7 +4,7 @@ use Rattle.std.proofs.Common.{sym, ap, ◌∙◌, subst, arith}
 use mathlib.Core.Option.{some, some-injective, some-ne-none}
 use lib.ListN.{get_elem?}
 use Rattle.atomic_table.proofs.Lists.{at_set}
-use Rattle.rc_model.specs.Model.{Setup, Event, replay, is_possible, work_of}
+use Rattle.rc_model.specs.Model.{Setup, Event, replay, is_possible, job_of}
 use Rattle.rc_history.specs.Events.{StartsWith, is_for}
 use Rattle.rc_history.proofs.Lists.{starts-same, starts-append, starts-through}
 use Rattle.rc_history.proofs.Longer.{events_of-own, events_of-other}
@@ -255,15 +255,15 @@ kept-look setup views id desk place k at =
 -- the event can be added to this log
 can-log : (setup : Setup) (log : List Event) (next : ℕ) (desk : Desk) (place : Place) (event : Event) → desk ≡ desk_of setup log next →
     CanAdd desk place event →
-    (is_possible (replay setup log) event ≡ true) × (is_for (name_at place.node) (work_of (replay setup log).sent event) ≡ true)
+    (is_possible (replay setup log) event ≡ true) × (is_for (name_at place.node) (job_of (replay setup log).sent event) ≡ true)
 can-log setup log next desk place event is can =
     subst (λ (d : Desk). (is_possible (replay d.setup d.history) event ≡ true)
-    × (is_for (name_at place.node) (work_of (replay d.setup d.history).sent event) ≡ true))
+    × (is_for (name_at place.node) (job_of (replay d.setup d.history).sent event) ≡ true))
     is (can.possible, can.own)
 
 -- another node's seat still knows only what is true
 knows-longer : (setup : Setup) (log : List Event) (event : Event) (node : ℕ) (other : Place) →
-    is_for (name_at node) (work_of (replay setup log).sent event) ≡ true → node ≢ other.node → Knows setup log other →
+    is_for (name_at node) (job_of (replay setup log).sent event) ≡ true → node ≢ other.node → Knows setup log other →
     Knows setup (log ++ event ∷ []) other
 knows-longer setup log event node other own differ knows = record {
   seen = starts-through (log ++ event ∷ []) log other.seen (starts-append log (event ∷ [])) knows.seen;

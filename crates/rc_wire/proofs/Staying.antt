@@ -1,6 +1,6 @@
 -- What is true of a seat stays true when it sees more of the history.
 use Rattle.std.proofs.Common.{◌≡◌, ℕ, ◌≤◌, List, length, Option, Some, None, slice_get, refl, sym, ap, ◌∙◌, subst}
-use Rattle.rc_model.specs.Model.{MAX_EVENTS, Setup, Event, Message, NodeName, Job, delivery, work_of, replay}
+use Rattle.rc_model.specs.Model.{MAX_EVENTS, Setup, Event, Message, NodeName, Job, delivery, job_of, replay}
 use Rattle.rc_types.specs.declared.events.Event.TheVariants as event
 use Rattle.rc_history.specs.Nodes.{Node, node_in}
 use Rattle.rc_history.specs.Events.{events_of, StartsWith}
@@ -19,7 +19,7 @@ delivered-stays longer shorter number job (Some message) starts is given = ap de
 
 -- an event gives its node the same work
 job-stays : (longer shorter : List Message) (given : Event) (job : Job) → StartsWith longer shorter →
-    work_of shorter given ≡ Some job → work_of longer given ≡ Some job
+    job_of shorter given ≡ Some job → job_of longer given ≡ Some job
 job-stays longer shorter (event.Deliver number) job starts is =
     delivered-stays longer shorter number job (slice_get shorter number) starts refl is
 job-stays longer shorter _ job starts is = is

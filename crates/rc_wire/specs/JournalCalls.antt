@@ -4,7 +4,7 @@ use Rattle.std.specs.List.{range_with_len}
 use Rattle.rc_types.specs.declared.events.Setup.{Setup}
 use Rattle.rc_types.specs.declared.events.Event.{Event}
 use Rattle.rc_types.specs.declared.messages.Message.{Message}
-use Rattle.rc_model.specs.World.{replay, is_possible, work_of}
+use Rattle.rc_model.specs.World.{replay, is_possible, job_of}
 use Rattle.rc_history.specs.Events.{is_for}
 use Rattle.rc_wire.specs.declared.view.Desk.{Desk}
 use Rattle.rc_wire.specs.declared.view.Place.{Place}
@@ -36,7 +36,7 @@ having_seen seat history = record seat { seen = history }
 pub record IsStep (name : WireName) (history : List Event) (seat : Place) (event : Event) (messages : List Message) :
     Type 0 where
   pub possible : is_possible (replay name.setup history) event ≡ true
-  pub own : is_for (name_at seat.node) (work_of (replay name.setup history).sent event) ≡ true
+  pub own : is_for (name_at seat.node) (job_of (replay name.setup history).sent event) ≡ true
   pub sends : (replay name.setup (history ++ event ∷ [])).sent ≡ (replay name.setup history).sent ++ messages
 
 -- and the event, the last of the history, is one of its own

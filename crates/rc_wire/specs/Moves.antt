@@ -3,7 +3,7 @@ use Rattle.std.specs.Prelude.{◌≡◌, ℕ, ◌<◌, true}
 use mathlib.Core.Option.{some}
 use Rattle.atomic_table.specs.Table.{Me, Step}
 use Rattle.rc_types.specs.declared.events.Event.{Event}
-use Rattle.rc_model.specs.World.{replay, is_possible, work_of}
+use Rattle.rc_model.specs.World.{replay, is_possible, job_of}
 use Rattle.rc_history.specs.Events.{is_for}
 use Rattle.rc_wire.specs.declared.view.Desk.{Desk}
 use Rattle.rc_wire.specs.declared.view.Place.{Place}
@@ -24,7 +24,7 @@ tells_look step before found after =
 -- the event can be added: it is possible, and the guest's own
 pub record CanAdd (desk : Desk) (place : Place) (event : Event) : Type 0 where
   pub possible : is_possible (replay desk.setup desk.history) event ≡ true
-  pub own : is_for (name_at place.node) (work_of (replay desk.setup desk.history).sent event) ≡ true
+  pub own : is_for (name_at place.node) (job_of (replay desk.setup desk.history).sent event) ≡ true
 
 -- the event that the step names is added
 abbrev pub tells_add : Step Event → Me Event View → ℕ → Me Event View → Type 0

@@ -2,7 +2,7 @@
 use Rattle.std.specs.Prelude.{◌≡◌, ℕ, true, List, Option, Some, None, slice_get}
 use Rattle.rc_types.specs.declared.messages.Message.{Message}
 use Rattle.rc_types.specs.declared.events.NodeWork.{NodeWork}
-use Rattle.rc_model.specs.World.{NodeName, work_of}
+use Rattle.rc_model.specs.World.{NodeName, job_of}
 use Rattle.rc_history.specs.Nodes.{Node, can_take, node_step}
 use Rattle.rc_wire.specs.SeatView.{Offered}
 
@@ -11,7 +11,7 @@ use Rattle.rc_wire.specs.SeatView.{Offered}
 pub record IsStep (sent : List Message) (name : NodeName) (one : Node) (offered : Offered) (next : Node) : Type 0 where
   -- the event gives this node its work: a delivery, the message of that number, which was sent to this node;
   pub work : NodeWork
-  pub given : work_of sent offered.event ≡ Some (record { node = name; work = work })
+  pub given : job_of sent offered.event ≡ Some (record { node = name; work = work })
   -- the node can take this event with this work, and does what its rule says
   pub can : can_take one offered.event work ≡ true
   pub state : next ≡ (node_step one work).0

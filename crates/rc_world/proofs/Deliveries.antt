@@ -5,14 +5,14 @@ use Rattle.std.proofs.lemmas.List.{append-nil}
 use Rattle.std.proofs.lemmas.Option.{slice_get-get_or, slice_get_cases}
 use Rattle.rc_types.specs.declared.events.Event.TheVariants as event
 use Rattle.rc_model.specs.Model.{ServerId, Addr, Server, Outside, Message, coordinator_takes, HostNode, Deliver, host_step, World}
-use Rattle.rc_model.specs.Model.{Job, is_possible, is_possible_job, delivery, work_of, node_of, job_done, coordinator_done, host_done}
+use Rattle.rc_model.specs.Model.{Job, is_possible, is_possible_job, delivery, job_of, node_of, job_done, coordinator_done, host_done}
 use Rattle.rc_types.specs.declared.ids.Addr.TheVariants.{Coordinator}
 use Rattle.rc_model.specs.Coordinator.{Coordinator as CoordinatorModel}
 use Rattle.rc_world.specs.Lending.{nothing, message_at}
 
 -- the node that the message is for takes it
 pub job_at : (sent seen : List Message) (number : ℕ) (to : Addr) → number < length sent → seen ≡ sent → (message_at seen number).to ≡ to →
-    work_of sent (event.Deliver number) ≡ Some (record { node = node_of to; work = Deliver (message_at sent number) })
+    job_of sent (event.Deliver number) ≡ Some (record { node = node_of to; work = Deliver (message_at sent number) })
 job_at sent seen number to there same is =
     let addr : (message_at sent number).to ≡ to = subst (λ (xs : List Message). (message_at xs number).to ≡ to) same is in
     ap delivery (slice_get-get_or sent number nothing there)
@@ -21,7 +21,7 @@ job_at sent seen number to there same is =
 -- what the coordinator does with it is the event's job
 pub to_coordinator : (world : World) (seen : List Message) (number : ℕ) → number < length world.sent →
     seen ≡ world.sent → (message_at seen number).to ≡ Coordinator →
-    job_done world (event.Deliver number) (work_of world.sent (event.Deliver number)) ≡
+    job_done world (event.Deliver number) (job_of world.sent (event.Deliver number)) ≡
     coordinator_done world (event.Deliver number) (coordinator_takes world.coordinator (message_at world.sent number).from
     (message_at world.sent number).body)
 to_coordinator world seen number there same is =
@@ -30,7 +30,7 @@ to_coordinator world seen number there same is =
 -- what a host does with it is
 pub to_server : (world : World) (seen : List Message) (number : ℕ) (id : ServerId) → number < length world.sent → seen ≡ world.sent →
     (message_at seen number).to ≡ Server id →
-    job_done world (event.Deliver number) (work_of world.sent (event.Deliver number)) ≡
+    job_done world (event.Deliver number) (job_of world.sent (event.Deliver number)) ≡
     host_done world (event.Deliver number) id.index (host_step (world.hosts id.index) (Deliver (message_at world.sent number)))
 to_server world seen number id there same is =
     ap (job_done world (event.Deliver number)) (job_at world.sent seen number (Server id) there same is)
@@ -38,7 +38,7 @@ to_server world seen number id there same is =
 -- the outside does nothing
 pub to_outside : (world : World) (seen : List Message) (number : ℕ) → number < length world.sent → seen ≡ world.sent →
     (message_at seen number).to ≡ Outside →
-    world.sent ≡ (job_done world (event.Deliver number) (work_of world.sent (event.Deliver number))).sent
+    world.sent ≡ (job_done world (event.Deliver number) (job_of world.sent (event.Deliver number))).sent
 to_outside world seen number there same is =
     sym (ap (λ (job : Option Job). (job_done world (event.Deliver number) job).sent)
     (job_at world.sent seen number Outside there same is) ∙ append-nil world.sent)

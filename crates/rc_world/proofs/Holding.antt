@@ -2,7 +2,7 @@
 use Rattle.std.proofs.Common.{◌≡◌, ℕ, ◌<◌, ◌≤◌, Bool, true, ◌&&◌, nat_lt, List, [], ◌∷◌, ◌++◌, length, refl, sym}
 use Rattle.std.proofs.Common.{subst, ◌∙◌, length-append, arith}
 use Rattle.std.proofs.lemmas.Bool.Decides.{nat_tests}
-use Rattle.rc_model.specs.Model.{MAX_EVENTS, Setup, Event, Message, World, is_possible, job_done, work_of, replay}
+use Rattle.rc_model.specs.Model.{MAX_EVENTS, Setup, Event, Message, World, is_possible, job_done, job_of, replay}
 use Rattle.rc_coordinator.specs.Book.{coordinator_of}
 use Rattle.rc_world.specs.HostView.{IsWithinLimits}
 use Rattle.rc_world.specs.WorldView.{hosts_of, world_of, IsSame}
@@ -31,14 +31,14 @@ few-more events event few = omega (arith, length-append events (event ∷ []))
 pub holds_on : {A : Type 0} (old new : Nodes A) (sent seen after : List Message) (events : List Event) (event : Event) →
     WorldHolds old sent events → length events < MAX_EVENTS → seen ≡ sent → is_possible (world_of old seen) event ≡ true →
     new.setup ≡ old.setup →
-    hosts_of new.setup new.hosts ≡ (job_done (world_of old sent) event (work_of sent event)).hosts →
-    coordinator_of new.coordinator ≡ (job_done (world_of old sent) event (work_of sent event)).coordinator →
-    after ≡ (job_done (world_of old sent) event (work_of sent event)).sent →
+    hosts_of new.setup new.hosts ≡ (job_done (world_of old sent) event (job_of sent event)).hosts →
+    coordinator_of new.coordinator ≡ (job_done (world_of old sent) event (job_of sent event)).coordinator →
+    after ≡ (job_done (world_of old sent) event (job_of sent event)).sent →
     WorldHolds new after (events ++ event ∷ [])
 holds_on old new sent seen after events event holds few same_list possible_seen setup hosts coordinator says =
     let possible : is_possible (world_of old sent) event ≡ true =
     subst (λ (xs : List Message). is_possible (world_of old xs) event ≡ true) same_list possible_seen in
-    let one : IsSame (world_of new after) (job_done (world_of old sent) event (work_of sent event)) =
+    let one : IsSame (world_of new after) (job_done (world_of old sent) event (job_of sent event)) =
     record { sent = says; hosts = hosts; coordinator = coordinator } in
     let two : IsSame (world_of new after) (replay old.setup (events ++ event ∷ [])) =
     goes_on old.setup events event (world_of old sent) (world_of new after) holds.same possible one in

@@ -3,7 +3,7 @@ use Rattle.std.specs.Option.{option_map_or}
 use Rattle.std.proofs.Common.{◌≡◌, ℕ, true, ◌&&◌, List, [], ◌∷◌, ◌++◌, Option, Some, None, refl, sym, ap, subst, ◌∙◌}
 use Rattle.rc_model.specs.Model.{Setup, Event, Message, put, HostNode, NodeWork, outside_sends, coordinator_step, host_can, host_step}
 use Rattle.rc_model.specs.Model.{World}
-use Rattle.rc_model.specs.Model.{NodeName, TheOutside, TheCoordinator, TheHost, Job, work_of, node_can, is_possible, is_possible_job}
+use Rattle.rc_model.specs.Model.{NodeName, TheOutside, TheCoordinator, TheHost, Job, job_of, node_can, is_possible, is_possible_job}
 use Rattle.rc_model.specs.Model.{node_done, job_done, step, replay, opening, is_running_at, runs_as_named, server_named, ServerId, Server}
 use Rattle.rc_model.specs.Coordinator.{Coordinator}
 use Rattle.rc_model.proofs.Replays.{replay_from-push}
@@ -22,9 +22,9 @@ job-same one other same (Some job) = can-same one other same job.node job.work
 pub possible-same : (one other : World) (event : Event) → IsSame one other → is_possible one event ≡ is_possible other event
 possible-same one other event same =
     ap (λ (hosts : ℕ → HostNode). option_map_or (λ (id : ServerId). is_running_at (hosts id.index) (Server id)) (server_named event) true
-    && is_possible_job one (work_of one.sent event)) same.hosts
-    ∙ ap (λ b. runs_as_named other event && b) (job-same one other same (work_of one.sent event)
-    ∙ ap (λ (sent : List Message). is_possible_job other (work_of sent event)) same.sent)
+    && is_possible_job one (job_of one.sent event)) same.hosts
+    ∙ ap (λ b. runs_as_named other event && b) (job-same one other same (job_of one.sent event)
+    ∙ ap (λ (sent : List Message). is_possible_job other (job_of sent event)) same.sent)
 
 coordinator-sent : (a b : List Message) (c d : Coordinator) (work : NodeWork) → a ≡ b → c ≡ d →
     a ++ (coordinator_step c work).1 ≡ b ++ (coordinator_step d work).1
@@ -68,22 +68,22 @@ same-then one other third h k = record {
 }
 
 step-possible : (world : World) (event : Event) → is_possible world event ≡ true →
-    step world event ≡ job_done world event (work_of world.sent event)
+    step world event ≡ job_done world event (job_of world.sent event)
 step-possible world event possible = rw possible refl
 
 -- nodes that were what the events led to, and have taken one event more, are what these lead to
 pub goes_on : (setup : Setup) (events : List Event) (event : Event) (old new : World) → IsSame old (replay setup events) →
-    is_possible old event ≡ true → IsSame new (job_done old event (work_of old.sent event)) →
+    is_possible old event ≡ true → IsSame new (job_done old event (job_of old.sent event)) →
     IsSame new (replay setup (events ++ event ∷ []))
 goes_on setup events event old new same possible done =
     let now : World = replay setup events in
     let so : is_possible now event ≡ true = sym (possible-same old now event same) ∙ possible in
-    let jobs : work_of old.sent event ≡ work_of now.sent event = ap (λ (sent : List Message). work_of sent event) same.sent in
-    let one : IsSame (job_done old event (work_of old.sent event)) (job_done now event (work_of old.sent event)) =
-    done-same old now event same (work_of old.sent event) in
-    let two : job_done now event (work_of old.sent event) ≡ step now event =
+    let jobs : job_of old.sent event ≡ job_of now.sent event = ap (λ (sent : List Message). job_of sent event) same.sent in
+    let one : IsSame (job_done old event (job_of old.sent event)) (job_done now event (job_of old.sent event)) =
+    done-same old now event same (job_of old.sent event) in
+    let two : job_done now event (job_of old.sent event) ≡ step now event =
     ap (λ (job : Option Job). job_done now event job) jobs ∙ sym (step-possible now event so) in
     let three : step now event ≡ replay setup (events ++ event ∷ []) = sym (replay_from-push (opening setup) events event) in
     subst (λ (world : World). IsSame new world) (two ∙ three)
-    (same-then new (job_done old event (work_of old.sent event)) (job_done now event (work_of old.sent event)) done
+    (same-then new (job_done old event (job_of old.sent event)) (job_done now event (job_of old.sent event)) done
     one)

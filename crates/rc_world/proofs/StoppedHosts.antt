@@ -8,7 +8,7 @@ use Rattle.std.proofs.lemmas.Bool.Decides.{nat_tests}
 use Rattle.std.specs.Prelude.{is_some}
 use Rattle.rc_types.specs.declared.ids.Addr.TheVariants.{Server}
 use Rattle.rc_types.specs.declared.events.Event.TheVariants.{Stop}
-use Rattle.rc_model.specs.Model.{MAX_EVENTS, Setup, Event, Message, HostNode, Master, World, is_possible, job_done, work_of, replay, put}
+use Rattle.rc_model.specs.Model.{MAX_EVENTS, Setup, Event, Message, HostNode, Master, World, is_possible, job_done, job_of, replay, put}
 use Rattle.rc_model.specs.Ids.{is_server}
 use Rattle.rc_model.specs.Nodes.{runs, server_of, is_running_at}
 use Rattle.rc_types.specs.declared.ids.ServerId.{ServerId}
@@ -135,7 +135,7 @@ stop_is_possible world n running =
 has_stopped : (world : World) (n : ℕ) → runs_at world.hosts n ≡ true →
     IsSame (record world { hosts = stopped_below world.hosts (suc n) })
     (job_done (record world { hosts = stopped_below world.hosts n }) (Stop (newest_at world.hosts n))
-    (work_of world.sent (Stop (newest_at world.hosts n))))
+    (job_of world.sent (Stop (newest_at world.hosts n))))
 has_stopped world n runs = record {
   sent = sym (append-nil world.sent);
   hosts = stopped_below-stops world.hosts n runs;

@@ -9,7 +9,7 @@ use Rattle.rc_types.specs.declared.messages.Message.{Message}
 use Rattle.rc_model.specs.Coordinator.{Coordinator}
 use Rattle.rc_model.specs.CoordinatorStep.{coordinator_takes}
 use Rattle.rc_model.specs.Nodes.{HostNode, NodeWork, new_host, master_setup, host_step}
-use Rattle.rc_model.specs.World.{World, opening, work_of, job_done}
+use Rattle.rc_model.specs.World.{World, opening, job_of, job_done}
 use Rattle.rc_coordinator.specs.Book.{coordinator_of}
 use Rattle.rc_coordinator.specs.Steps.{HasNumbers}
 use Rattle.rc_world.specs.HostView.{HostData, host_of, HostHasRoom}
@@ -51,7 +51,7 @@ coordinator_given c message = coordinator_takes c message.from message.body
 
 -- the world after the event
 abbrev pub after_event : {A : _} → Nodes A → List Message → Event → World
-after_event nodes sent event = job_done (world_of nodes sent) event (work_of sent event)
+after_event nodes sent event = job_done (world_of nodes sent) event (job_of sent event)
 
 -- the worlds have the same nodes, and the same was sent in them
 pub record IsSame (one other : World) : Type 0 where

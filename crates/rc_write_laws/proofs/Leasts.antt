@@ -4,12 +4,12 @@ use Rattle.std.proofs.Common.{None, refl, sym, ap, subst, inl, inr, arith}
 use Rattle.std.proofs.lemmas.Bool.Decides.{nat_tests}
 use Rattle.rc_model.specs.Model.{ServerId, Pair, Setup, Event, Message, Commit, CommitOk, to_coordinator, from_coordinator, is_below}
 use Rattle.rc_model.specs.Model.{NodeWork}
-use Rattle.rc_model.specs.Model.{coordinator_step, World, opening, NodeName, TheOutside, TheCoordinator, TheHost, Job, work_of, is_possible}
+use Rattle.rc_model.specs.Model.{coordinator_step, World, opening, NodeName, TheOutside, TheCoordinator, TheHost, Job, job_of, is_possible}
 use Rattle.rc_model.specs.Model.{node_done, job_done, step, replay_from, replay, In}
 use Rattle.rc_types.specs.declared.ids.Addr.TheVariants.{Coordinator as AtCoordinator}
 use Rattle.rc_model.specs.Coordinator.{Coordinator}
 use Rattle.rc_model.proofs.Replays.{replay_from-push}
-use Rattle.rc_log_laws.proofs.Replays.{GoodWorld, IsGiven, work_of-given, taken-at, led-step, good-world}
+use Rattle.rc_log_laws.proofs.Replays.{GoodWorld, IsGiven, job_of-given, taken-at, led-step, good-world}
 use Rattle.rc_log_laws.proofs.LeastPairs.{WasTold, told-step}
 use Rattle.rc_write_laws.specs.CommitClaims.{CommitsAreInOrder, LeastPairsAreInOrder}
 use Rattle.rc_write_laws.proofs.Ordering.{commits-are-asked-in-order}
@@ -39,16 +39,16 @@ asked-node world one TheOutside work given m = inl refl
 asked-node world one TheCoordinator work given m = asked-step world.sent world.coordinator work given m
 asked-node world one (TheHost i) work given m = inl refl
 
-asked-job : (world : World) (one : Event) (found : Option Job) → work_of world.sent one ≡ found → (m : ServerId) →
+asked-job : (world : World) (one : Event) (found : Option Job) → job_of world.sent one ≡ found → (m : ServerId) →
     Asked world.sent world.coordinator m ((job_done world one found).coordinator.least m)
 asked-job world one None is m = inl refl
-asked-job world one (Some job) is m = asked-node world one job.node job.work (work_of-given world.sent one job is) m
+asked-job world one (Some job) is m = asked-node world one job.node job.work (job_of-given world.sent one job is) m
 
 pub asked-event : (world : World) (one : Event) (m : ServerId) → Asked world.sent world.coordinator m ((step world one).coordinator.least m)
 asked-event world one m =
     either (λ (after : World). Asked world.sent world.coordinator m (after.coordinator.least m)) (is_possible world one)
-    (job_done world one (work_of world.sent one)) world
-    (λ _. asked-job world one (work_of world.sent one) refl m) (λ _. inl refl)
+    (job_done world one (job_of world.sent one)) world
+    (λ _. asked-job world one (job_of world.sent one) refl m) (λ _. inl refl)
 
 -- each segment below a least pair is shut
 abbrev LeastOrdered : World → Type 0

@@ -3,7 +3,7 @@ use Rattle.std.proofs.Common.{◌≡◌, ◌⊎◌, ℕ, ◌<◌, Bool, List, []
 use Rattle.rc_model.specs.Model.{ServerId, Addr, Server, Outside, Entry, Setup, Event, Message, Stored, Enlist, put, between}
 use Rattle.rc_model.specs.Model.{to_coordinator, Backup, Master, NodeWork, HostNode, outside_sends, coordinator_step, server_of}
 use Rattle.rc_model.specs.Model.{next_server}
-use Rattle.rc_model.specs.Model.{host_step, World, opening, NodeName, TheOutside, TheCoordinator, TheHost, Job, is_possible, work_of}
+use Rattle.rc_model.specs.Model.{host_step, World, opening, NodeName, TheOutside, TheCoordinator, TheHost, Job, is_possible, job_of}
 use Rattle.rc_model.specs.Model.{node_done, job_done, step, replay_from, replay, In, HasMade}
 use Rattle.rc_types.specs.declared.ids.Addr.TheVariants.{Coordinator as AtCoordinator}
 use Rattle.rc_model.specs.Nodes.{Ask}
@@ -11,7 +11,7 @@ use Rattle.rc_model.proofs.Members.{In-append, In-left}
 use Rattle.rc_step_laws.specs.All.{StillStands, MasterMoved, BackupMoved, stored_said}
 use Rattle.rc_log_laws.proofs.NodeWalk.{said-host}
 use Rattle.rc_log_laws.proofs.Replays.{GoodWorld, IsGiven, coordinator-moved}
-use Rattle.rc_log_laws.proofs.Replays.{work_of-given, good-step, good-opening}
+use Rattle.rc_log_laws.proofs.Replays.{job_of-given, good-step, good-opening}
 use Rattle.rc_model.proofs.Tests.{either}
 
 -- the master has sent an entry for the place
@@ -119,15 +119,15 @@ node-told world one TheCoordinator work good given told =
 node-told world one (TheHost i) work good given told =
     joined world.sent (host_step (world.hosts i) work).1 told (host-tells world one i good work given)
 
-job-told : (world : World) (one : Event) (found : Option Job) → work_of world.sent one ≡ found → GoodWorld world →
+job-told : (world : World) (one : Event) (found : Option Job) → job_of world.sent one ≡ found → GoodWorld world →
     AllTold world → AllTold (job_done world one found)
 job-told world one None is good told = told
-job-told world one (Some job) is good told = node-told world one job.node job.work good (work_of-given world.sent one job is) told
+job-told world one (Some job) is good told = node-told world one job.node job.work good (job_of-given world.sent one job is) told
 
 step-told : (world : World) (one : Event) → GoodWorld world → AllTold world → AllTold (step world one)
 step-told world one good told =
-    either AllTold (is_possible world one) (job_done world one (work_of world.sent one)) world
-    (λ _. job-told world one (work_of world.sent one) refl good told) (λ _. told)
+    either AllTold (is_possible world one) (job_done world one (job_of world.sent one)) world
+    (λ _. job-told world one (job_of world.sent one) refl good told) (λ _. told)
 
 replay-told : (world : World) (events : List Event) → GoodWorld world → AllTold world → AllTold (replay_from world events)
 replay-told world [] good told = told

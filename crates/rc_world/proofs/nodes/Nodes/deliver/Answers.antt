@@ -1,6 +1,6 @@
 use Rattle.std.proofs.Common.{refl, sym, ◌∙◌}
 use Rattle.rc_types.specs.declared.events.Event.TheVariants as event
-use Rattle.rc_model.specs.Model.{coordinator_takes, Deliver, host_step, World, job_done, work_of, coordinator_done, host_done}
+use Rattle.rc_model.specs.Model.{coordinator_takes, Deliver, host_step, World, job_done, job_of, coordinator_done, host_done}
 use Rattle.rc_coordinator.specs.Book.{coordinator_of}
 use Rattle.rc_world.specs.Lending.{message_at}
 use Rattle.rc_world.specs.WorldView.{hosts_of, world_of}
@@ -12,7 +12,7 @@ pub returns-in-Coordinator-clause-hosts : goal.returns-in-Coordinator-clause-hos
 returns-in-Coordinator-clause-hosts g c =
     let world : World = world_of c.args.self.now c.args.sent.now.items in
     hosts_then c.deliver_to_coordinator.result (hosts_of c.deliver_to_coordinator.new.self.setup c.deliver_to_coordinator.new.self.hosts)
-    (job_done world (event.Deliver c.args.number) (work_of world.sent (event.Deliver c.args.number)))
+    (job_done world (event.Deliver c.args.number) (job_of world.sent (event.Deliver c.args.number)))
     (coordinator_done world (event.Deliver c.args.number)
     (coordinator_takes world.coordinator (message_at world.sent c.args.number).from
     (message_at world.sent c.args.number).body))
@@ -25,7 +25,7 @@ pub returns-in-Coordinator-clause-coordinator : goal.returns-in-Coordinator-clau
 returns-in-Coordinator-clause-coordinator g c =
     let world : World = world_of c.args.self.now c.args.sent.now.items in
     coordinator_then c.deliver_to_coordinator.result (coordinator_of c.deliver_to_coordinator.new.self.coordinator)
-    (job_done world (event.Deliver c.args.number) (work_of world.sent (event.Deliver c.args.number)))
+    (job_done world (event.Deliver c.args.number) (job_of world.sent (event.Deliver c.args.number)))
     (coordinator_done world (event.Deliver c.args.number)
     (coordinator_takes world.coordinator (message_at world.sent c.args.number).from
     (message_at world.sent c.args.number).body))
@@ -36,7 +36,7 @@ pub returns-in-Coordinator-clause-sends : goal.returns-in-Coordinator-clause-sen
 returns-in-Coordinator-clause-sends g c =
     let world : World = world_of c.args.self.now c.args.sent.now.items in
     sent_then c.deliver_to_coordinator.result c.deliver_to_coordinator.new.sent.items
-    (job_done world (event.Deliver c.args.number) (work_of world.sent (event.Deliver c.args.number)))
+    (job_done world (event.Deliver c.args.number) (job_of world.sent (event.Deliver c.args.number)))
     (coordinator_done world (event.Deliver c.args.number)
     (coordinator_takes world.coordinator (message_at world.sent c.args.number).from
     (message_at world.sent c.args.number).body))
@@ -47,7 +47,7 @@ pub returns-in-Server-clause-hosts : goal.returns-in-Server-clause-hosts
 returns-in-Server-clause-hosts g c =
     let world : World = world_of c.args.self.now c.args.sent.now.items in
     hosts_then c.deliver_to_server.result (hosts_of c.deliver_to_server.new.self.setup c.deliver_to_server.new.self.hosts)
-    (job_done world (event.Deliver c.args.number) (work_of world.sent (event.Deliver c.args.number)))
+    (job_done world (event.Deliver c.args.number) (job_of world.sent (event.Deliver c.args.number)))
     (host_done world (event.Deliver c.args.number) c.in-Server.id.index
     (host_step (world.hosts c.in-Server.id.index) (Deliver (message_at world.sent c.args.number))))
     (to_server world c.as_slice.result.now c.args.number c.in-Server.id c.requires.number c.as_slice.ensures.value
@@ -57,7 +57,7 @@ pub returns-in-Server-clause-coordinator : goal.returns-in-Server-clause-coordin
 returns-in-Server-clause-coordinator g c =
     let world : World = world_of c.args.self.now c.args.sent.now.items in
     coordinator_then c.deliver_to_server.result (coordinator_of c.deliver_to_server.new.self.coordinator)
-    (job_done world (event.Deliver c.args.number) (work_of world.sent (event.Deliver c.args.number)))
+    (job_done world (event.Deliver c.args.number) (job_of world.sent (event.Deliver c.args.number)))
     (host_done world (event.Deliver c.args.number) c.in-Server.id.index
     (host_step (world.hosts c.in-Server.id.index) (Deliver (message_at world.sent c.args.number))))
     (to_server world c.as_slice.result.now c.args.number c.in-Server.id c.requires.number c.as_slice.ensures.value
@@ -68,7 +68,7 @@ pub returns-in-Server-clause-sends : goal.returns-in-Server-clause-sends
 returns-in-Server-clause-sends g c =
     let world : World = world_of c.args.self.now c.args.sent.now.items in
     sent_then c.deliver_to_server.result c.deliver_to_server.new.sent.items
-    (job_done world (event.Deliver c.args.number) (work_of world.sent (event.Deliver c.args.number)))
+    (job_done world (event.Deliver c.args.number) (job_of world.sent (event.Deliver c.args.number)))
     (host_done world (event.Deliver c.args.number) c.in-Server.id.index
     (host_step (world.hosts c.in-Server.id.index) (Deliver (message_at world.sent c.args.number))))
     (to_server world c.as_slice.result.now c.args.number c.in-Server.id c.requires.number c.as_slice.ensures.value
