@@ -81,7 +81,7 @@ pub threaded_is_none : (hosts writes : ℕ) (verdict : Verdict) (text : List ℕ
     verdict ≢ Breach
 threaded_is_none hosts writes verdict text (inl h) = clean_is_none verdict (h.3 ∙ world_is_clean Report h.0)
 threaded_is_none hosts writes verdict text (inr h) =
-    stopped_is_none verdict (length (h.0).events) BadEvent h.2
+    stopped_is_none verdict (length (h.0).events) BadEvent h.3
 
 -- ---- a scenario
 

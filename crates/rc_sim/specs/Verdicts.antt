@@ -20,7 +20,7 @@ use Rattle.rc_report.specs.Judged.{finding_of, text_of}
 use Rattle.rc_world.specs.Happened.{Happened, sent_in}
 use Rattle.rc_draw.specs.Draw.{drawn_world, drawn}
 use Rattle.rc_wire.specs.Workload.{threads_setup, workload}
-use Rattle.rc_wire.specs.Worked.{AllHaveWorked}
+use Rattle.rc_wire.specs.Worked.{AllHaveWorked, SomeWasStuck}
 use Rattle.rc_sim.specs.declared.verdicts.Output.{Output}
 use Rattle.rc_sim.specs.declared.verdicts.Output.TheVariants.{Report, Trace}
 use Rattle.rc_sim.specs.declared.verdicts.Verdict.{Verdict}
@@ -163,14 +163,15 @@ Reported hosts writes verdict text = (world : Happened) × (world.setup ≡ thre
     (verdict ≡ audited (breach (sent_in world))) × (text ≡ report (sent_in world))
 
 -- a node could not take its next work: the report of what had happened by then, and where that was
-abbrev pub Unable : Verdict → List ℕ → Type 0
-Unable verdict text = (world : Happened) × (world.setup ≡ threads_setup) ×
+abbrev pub Unable : ℕ → ℕ → Verdict → List ℕ → Type 0
+Unable hosts writes verdict text = (world : Happened) × (world.setup ≡ threads_setup) ×
+    SomeWasStuck threads_setup world.events (workload hosts writes) (hosts + 2) ×
     (verdict ≡ Stopped (length world.events) BadEvent) ×
     (text ≡ report (sent_in world) ++ stopped_line BadEvent (length world.events))
 
 -- of nodes on threads
 abbrev pub Threaded : ℕ → ℕ → Verdict → List ℕ → Type 0
-Threaded hosts writes verdict text = Reported hosts writes verdict text ⊎ Unable verdict text
+Threaded hosts writes verdict text = Reported hosts writes verdict text ⊎ Unable hosts writes verdict text
 
 -- the two lines of power failures
 abbrev pub cuts_text : ℕ → ℕ → List ℕ

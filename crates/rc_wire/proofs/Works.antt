@@ -1,5 +1,5 @@
 -- Seats that have done their works, in the history that covers them.
-use Rattle.std.proofs.Common.{◌≡◌, ℕ, zero, suc, List, [], ◌∷◌, ◌++◌, map, All, refl, sym, ap, ◌∙◌, subst, arith}
+use Rattle.std.proofs.Common.{◌≡◌, ℕ, zero, suc, List, [], ◌∷◌, ◌++◌, map, All, refl, sym, ap, ◌∙◌, subst, arith, ◌⊎◌, false}
 use Rattle.std.specs.List.{range_with_len}
 use Rattle.rc_model.specs.Model.{Setup, Event}
 use Rattle.rc_history.specs.Events.{events_of}
@@ -10,8 +10,8 @@ use Rattle.rc_wire.specs.Views.{name_at}
 use Rattle.rc_wire.specs.Seats.{new_seats}
 use Rattle.rc_wire.specs.declared.steps.Step.{Step}
 use Rattle.rc_wire.specs.Runs.{Runs, works_in, works_for}
-use Rattle.rc_wire.specs.Ends.{RunAll}
-use Rattle.rc_wire.specs.Worked.{HasWorked, AllHaveWorked}
+use Rattle.rc_wire.specs.Ends.{RunAll, all_seated, SomeCannotGoOn}
+use Rattle.rc_wire.specs.Worked.{HasWorked, AllHaveWorked, SomeWasStuck}
 
 -- the seat has committed nothing
 abbrev IsFresh : SeatData → Type 0
@@ -47,3 +47,13 @@ works-done setup events steps nodes olds news are ran covers =
     subst (λ (l : List SeatData). All (HasWorked setup events steps) l) are
     (all-worked setup events steps olds news
     (subst (λ (l : List SeatData). All IsFresh l) (sym are) (new-fresh (range_with_len 0 nodes))) ran covers)
+
+-- seats that were new, of which one could not go on
+pub was-stuck : (setup : Setup) (events : List Event) (steps : List Step) (nodes : ℕ) (olds news : List SeatData) →
+    olds ≡ new_seats nodes → (all_seated olds steps ≡ false) ⊎ SomeCannotGoOn setup olds steps news →
+    All (Covers setup events) news → SomeWasStuck setup events steps nodes
+was-stuck setup events steps nodes olds news are stuck covers = record {
+  seats = news;
+  covered = covers;
+  stuck = subst (λ (l : List SeatData). (all_seated l steps ≡ false) ⊎ SomeCannotGoOn setup l steps news) are stuck;
+}

@@ -1,11 +1,11 @@
 //! The world that the steps of the command `threads` lead to.
 
-ghost use Rattle.std.specs.Prelude.{◌≡◌, ◌≤◌, ◌+◌, true, All, IfOk};
+ghost use Rattle.std.specs.Prelude.{◌≡◌, ◌≤◌, ◌+◌, true, false, All, IfOk};
 ghost use Rattle.rc_types.specs.declared.limits.TheConstants.{MAX_HOSTS};
 ghost use Rattle.rc_world.specs.HostView.{IsWithinLimits};
 ghost use Rattle.rc_wire.specs.Runs.{none_fetched};
 ghost use Rattle.rc_wire.specs.SeatCalls.{Covers};
-ghost use Rattle.rc_wire.specs.Worked.{AllHaveWorked};
+ghost use Rattle.rc_wire.specs.Worked.{AllHaveWorked, SomeWasStuck};
 ghost use Rattle.rc_wire.specs.Workload.{threads_setup, workload};
 
 use crate::gate::Gate;
@@ -49,6 +49,8 @@ pub fn world_of_threads<R: Threads + Wait + Sync>(
     ensures setup { IfOk result (λ made. made.0.setup ≡ threads_setup) }
     ensures works { IfOk result (λ made. made.1 ≡ true →
         AllHaveWorked threads_setup made.0.events (workload hosts writes) (hosts + 2)) }
+    ensures stuck { IfOk result (λ made. made.1 ≡ false →
+        SomeWasStuck threads_setup made.0.events (workload hosts writes) (hosts + 2)) }
 {
     let steps = steps(alloc, hosts, writes)?;
     let opening = opened(alloc, hosts)?;
@@ -84,6 +86,8 @@ fn run<N: Naming + Send + Sync, R: Threads + Wait + Sync>(
     ensures setup { IfOk result (λ made. made.0.setup ≡ opening.setup) }
     ensures works { IfOk result (λ made. made.1 ≡ true →
         AllHaveWorked opening.setup made.0.events steps.now opening.nodes) }
+    ensures stuck { IfOk result (λ made. made.1 ≡ false →
+        SomeWasStuck opening.setup made.0.events steps.now opening.nodes) }
 {
     let (wire, seats) = Wire::<N>::open(alloc, opening)?;
     match run_nodes(rt, alloc, &wire, seats, steps, &Free) {

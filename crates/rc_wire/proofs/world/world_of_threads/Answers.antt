@@ -1,8 +1,8 @@
-use Rattle.std.proofs.Common.{◌≡◌, ◌+◌, ℕ, true, List, subst, ◌∙◌}
+use Rattle.std.proofs.Common.{◌≡◌, ◌+◌, ℕ, true, false, List, subst, ◌∙◌}
 use Rattle.std.specs.Prelude.{IfOk}
 use Rattle.rc_model.specs.Model.{Setup}
 use Rattle.rc_wire.specs.declared.steps.Step.{Step}
-use Rattle.rc_wire.specs.Worked.{AllHaveWorked}
+use Rattle.rc_wire.specs.Worked.{AllHaveWorked, SomeWasStuck}
 use Rattle.rc_wire.specs.Workload.{workload}
 use Rattle.rc_wire.proofs.Fetching.{steps-none}
 use Rattle.rc_wire.proofs.world.world_of_threads.Goals as goal
@@ -23,3 +23,16 @@ returns-clause-works g c =
     (subst (λ (l : List Step). IfOk c.run.result (λ made. made.1 ≡ true →
     AllHaveWorked opening.setup made.0.events l opening.nodes)) (c.as_slice.ensures.value ∙ c.in_ok-steps.ensures)
     c.run.ensures.works))
+
+pub returns-clause-stuck : goal.returns-clause-stuck
+returns-clause-stuck g c =
+    let hosts = c.args.hosts in
+    let all = workload hosts c.args.writes in
+    let opening = c.in_ok-opening.opening in
+    subst (λ (s : Setup). IfOk c.run.result (λ made. made.1 ≡ false → SomeWasStuck s made.0.events all (hosts + 2)))
+    c.in_ok-opening.ensures.setup
+    (subst (λ (n : ℕ). IfOk c.run.result (λ made. made.1 ≡ false → SomeWasStuck opening.setup made.0.events all n))
+    c.in_ok-opening.ensures.nodes
+    (subst (λ (l : List Step). IfOk c.run.result (λ made. made.1 ≡ false →
+    SomeWasStuck opening.setup made.0.events l opening.nodes)) (c.as_slice.ensures.value ∙ c.in_ok-steps.ensures)
+    c.run.ensures.stuck))
