@@ -1,4 +1,4 @@
-use Rattle.std.proofs.Common.{sym, subst, refl}
+use Rattle.std.proofs.Common.{sym, subst}
 use Rattle.rc_wire.specs.Names.{WireName}
 use Rattle.rc_wire.specs.Worked.{AllHaveWorked, SomeWasStuck}
 use Rattle.rc_wire.proofs.Fetching.{opened-idle}
@@ -23,4 +23,5 @@ returns-in_ok-closed-in-Err-default-BadEvent-clause-stuck g c = λ failed.
     let wire = g.N.Naming.wire in
     subst (λ (w : WireName). SomeWasStuck w.setup events c.args.steps.now w.nodes) (sym c.requires.name)
     (was-stuck wire.setup events c.args.steps.now wire.nodes c.in_ok-wire.seats.items c.in-Err-default-BadEvent.seats.items c.in_ok-wire.ensures
-    (c.in-Err-default-BadEvent.ensures.bad refl) c.in_ok-closed-in-Err-default-BadEvent.ensures.seats)
+    (c.in-Err-default-BadEvent.ensures.bad c.in-Err-default-BadEvent.field-0-1-is)
+    c.in_ok-closed-in-Err-default-BadEvent.ensures.seats)
