@@ -22,6 +22,7 @@ returns-in_ok-closed-in-Err-default-BadEvent-clause-stuck g c = λ failed.
     let events = c.in_ok-closed-in-Err-default-BadEvent.field-0.events in
     let wire = g.N.Naming.wire in
     subst (λ (w : WireName). SomeWasStuck w.setup events c.args.steps.now w.nodes) (sym c.requires.name)
-    (was-stuck wire.setup events c.args.steps.now wire.nodes c.in_ok-wire.seats.items c.in-Err-default-BadEvent.seats.items c.in_ok-wire.ensures
+    (was-stuck wire.setup events c.args.steps.now wire.nodes c.in_ok-wire.seats.items
+    c.in-Err-default-BadEvent.seats.items c.in_ok-wire.ensures
     (c.in-Err-default-BadEvent.ensures.bad c.in-Err-default-BadEvent.field-0-1-is)
     c.in_ok-closed-in-Err-default-BadEvent.ensures.seats)
