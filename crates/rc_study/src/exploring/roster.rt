@@ -222,8 +222,9 @@ impl Roster {
 
     /// The server owns these keys.
     fn grant(&mut self, id: ServerId, range: &KeyRange) {
+        let table = self.table;
         for (key, owners) in self.owners.iter_mut().enumerate() {
-            if range.holds(self.table, key as u64) && owners.last != id {
+            if range.holds(table, key as u64) && owners.last != id {
                 owners.before = owners.last;
                 owners.last = id;
             }
