@@ -52,7 +52,7 @@ fn tell_turn(pen: &mut Pen, story: &Story<'_>, number: usize, event: &Event, tur
     );
     match event {
         Event::Deliver(message) => tell_delivery(pen, story, number, *message, turn),
-        _ => tell_event(pen, event, step.started),
+        _ => tell_event(pen, event, turn.started),
     }
     pen.say("\n");
     tell_sent(pen, step, story.messages);
