@@ -54,25 +54,32 @@ impl Course {
         messages: &[Message],
     ) -> Result<(), AllocError> {
         self.delivered.resize(messages.len(), false)?;
-        for (number, event) in events.iter().enumerate() {
-            self.servers.take(event, number)?;
-            self.take(event, messages);
+        for (at, event) in events.iter().enumerate() {
+            self.take(event, at, messages)?;
         }
         Ok(())
     }
 
-    /// An event has happened, of which the servers are told already.
-    fn take(&mut self, event: &Event, messages: &[Message]) {
+    /// The event of this number has happened. The servers are told of those alone that concern them: most are
+    /// deliveries.
+    fn take(&mut self, event: &Event, at: usize, messages: &[Message]) -> Result<(), AllocError> {
         match event {
             Event::Deliver(number) => {
                 self.deliver(*number);
                 self.arrive(messages.get(*number));
             }
             Event::Create { table, owner } => self.ask(Early::Create(*table, *owner), *owner),
-            Event::Suspect(id) => self.suspect(*id),
+            Event::Start { .. } | Event::Stop(_) => {
+                self.servers.take(event, at)?;
+            }
+            Event::Suspect(id) => {
+                self.servers.take(event, at)?;
+                self.suspect(*id);
+            }
             Event::Ask { to, .. } if !self.servers.runs(*to) => self.miss(*to),
             _ => {}
         }
+        Ok(())
     }
 
     /// A message was delivered.
