@@ -91,8 +91,8 @@ pub struct Core {
     pub waits: Waits,
     /// How much was taken when the last sync began.
     synced_at: u64,
-    /// When an entry of another came last.
-    kept: Option<Duration>,
+    /// When an Append of another came last, in the time of `awake`.
+    appended_at: Option<Duration>,
 }
 
 /// What was counted.
@@ -112,7 +112,7 @@ pub struct Counts {
     pub syncing: u64,
 }
 
-/// For so long after the last entry of another came a host is one that keeps others' entries.
+/// A host to which an Append came within this time is one that keeps entries of others.
 const LATELY: Duration = Duration::from_millis(50);
 
 /// How often a server says that it lives, and what a node shows is made anew.
@@ -161,7 +161,7 @@ impl Core {
             awake: Awake::new(),
             waits: Waits::default(),
             synced_at: 0,
-            kept: None,
+            appended_at: None,
             config,
         };
         core.tick_clock();
@@ -208,7 +208,7 @@ impl Core {
         }
         match (envelope.kind, envelope.from) {
             (kind::STORED | kind::DATA, Address::Server(from)) => self.waits.answered(from),
-            (kind::APPEND, _) => self.kept = Some(self.awake.now()),
+            (kind::APPEND, _) => self.appended_at = Some(self.awake.now()),
             _ => {}
         }
         self.counts.works += 1;
@@ -305,9 +305,9 @@ impl Core {
         std::mem::replace(&mut self.ready.journal, next)
     }
 
-    /// Whether entries of others have come lately.
+    /// Whether an Append of another has come lately.
     pub fn keeps_others(&self) -> bool {
-        self.kept.is_some_and(|kept| self.awake.now() < kept + LATELY)
+        self.appended_at.is_some_and(|at| self.awake.now() < at + LATELY)
     }
 
     /// How much was taken since the last sync began.

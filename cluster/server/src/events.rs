@@ -29,8 +29,10 @@ pub enum Event {
 pub const TURN: Duration = Duration::from_millis(20);
 
 /// Requests that came at once are handed over in parts, so that what peers say comes between them, and what one part
-/// sends leaves before the next is taken.
+/// sends leaves before the next is taken. A part has at least so many requests, where there are so many.
 pub const LEAST_PART: usize = 32;
+
+/// And at most so many.
 const MOST_PART: usize = 64;
 
 /// How many of so many requests are a part. A host that keeps others' entries too has work while its own are on their
@@ -130,7 +132,7 @@ mod tests {
     }
 
     #[test]
-    fn parts_are_halves_but_where_others_entries_are_kept() {
+    fn parts_are_larger_where_others_entries_are_kept() {
         let (sender, receiver) = channel();
         let parts = || [1, 64, 100, 1000].map(|count| part_of(count, sender.keeps_others()));
         assert_eq!(parts(), [32, 32, 50, 64]);
