@@ -27,9 +27,11 @@ pub(crate) fn call(alloc: Global) -> Result<(), Fault> {
 /// A part is recovered.
 fn recover(alloc: Global, owner: &mut Ownership) -> Result<(), Fault> {
     let part = Part {
-        table: TABLE,
-        lo: 9,
-        hi: 10,
+        range: KeyRange {
+            table: TABLE,
+            lo: 9,
+            hi: 10,
+        },
         previous: 1,
         term: 2,
     };

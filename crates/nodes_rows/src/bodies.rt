@@ -156,16 +156,14 @@ fn write_of_servers(body: &Body, page: &mut Page) {
             write_servers(rows.as_slice(), page);
         }
         Body::Own {
-            table,
-            lo,
-            hi,
+            range,
             term,
             previous,
             attempt,
         } => {
-            long(page, "Own table ", *table);
-            page.number(" from ", *lo);
-            page.number(" to ", *hi);
+            long(page, "Own table ", range.table);
+            page.number(" from ", range.lo);
+            page.number(" to ", range.hi);
             long(page, " term ", *term);
             long(page, " previous ", *previous);
             long(page, " attempt ", *attempt);
@@ -294,9 +292,9 @@ fn write_plan_rows(rows: &[PlanRow], page: &mut Page) {
 }
 
 fn write_part(part: &Part, page: &mut Page) {
-    long(page, " (table ", part.table);
-    page.number(" from ", part.lo);
-    page.number(" to ", part.hi);
+    long(page, " (table ", part.range.table);
+    page.number(" from ", part.range.lo);
+    page.number(" to ", part.range.hi);
     long(page, " previous ", part.previous);
     long(page, " term ", part.term);
     page.put(")");

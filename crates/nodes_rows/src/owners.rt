@@ -3,7 +3,7 @@
 use crate::bodies;
 use crate::cases::unknown;
 use rc_ownership::Ownership;
-use rc_types::{Entry, Fault, Part, ServerId};
+use rc_types::{Entry, Fault, KeyRange, Part, ServerId};
 use rows::{Numbers, Page};
 use std::alloc::{AllocError, Global};
 
@@ -15,9 +15,11 @@ const HOLDER: ServerId = ServerId {
 
 /// A part of all keys of table 7 under term 2.
 const WHOLE: Part = Part {
-    table: 7,
-    lo: 0,
-    hi: u64::MAX,
+    range: KeyRange {
+        table: 7,
+        lo: 0,
+        hi: u64::MAX,
+    },
     previous: 1,
     term: 2,
 };

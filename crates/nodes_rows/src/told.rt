@@ -117,9 +117,7 @@ fn own(numbers: &mut Numbers) -> Body {
     let previous = numbers.long();
     let attempt = numbers.long();
     Body::Own {
-        table: range.table,
-        lo: range.lo,
-        hi: range.hi,
+        range,
         term,
         previous,
         attempt,

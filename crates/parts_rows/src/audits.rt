@@ -2,7 +2,7 @@
 
 use crate::entries::whole_entries;
 use rc_audit::audit;
-use rc_types::{Addr, Body, Fault, Message, PlanRow, Seq, ServerId, Shared};
+use rc_types::{Addr, Body, Fault, KeyRange, Message, PlanRow, Seq, ServerId, Shared};
 use rows::{Numbers, Page};
 use std::alloc::{AllocError, Global};
 
@@ -142,9 +142,11 @@ fn own(numbers: &mut Numbers) -> Body {
     let term = numbers.long();
     let previous = numbers.long();
     Body::Own {
-        table: 7,
-        lo: 0,
-        hi: 9,
+        range: KeyRange {
+            table: 7,
+            lo: 0,
+            hi: 9,
+        },
         term,
         previous,
         attempt: 1,

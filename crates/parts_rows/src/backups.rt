@@ -2,7 +2,7 @@
 
 use crate::entries::write_keys;
 use rc_backup::Backup;
-use rc_types::{Addr, Body, Entry, Fault, Message, Part, Row, Seq, ServerId, Shared};
+use rc_types::{Addr, Body, Entry, Fault, KeyRange, Message, Part, Row, Seq, ServerId, Shared};
 use rows::{Numbers, Page};
 use std::alloc::{AllocError, Global};
 use std::mem;
@@ -112,9 +112,11 @@ fn fetch(numbers: &mut Numbers) -> Body {
         generation: 1,
     };
     let part = Part {
-        table: 7,
-        lo: 2,
-        hi: 5,
+        range: KeyRange {
+            table: 7,
+            lo: 2,
+            hi: 5,
+        },
         previous: 1,
         term: 9,
     };

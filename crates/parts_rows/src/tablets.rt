@@ -78,7 +78,7 @@ fn find(tree: &Tree, numbers: &mut Numbers, page: &mut Page) {
     match (tree.find(table, key), counted) {
         (Some(found), Some(other)) => {
             write_tablet(&found, page);
-            page.yes(" twice ", found.lo == other.lo);
+            page.yes(" twice ", found.range.lo == other.range.lo);
         }
         (None, None) => page.put(" none"),
         _ => page.put(" one look-up found it"),
@@ -93,9 +93,9 @@ fn assign(tree: &mut Tree, numbers: &mut Numbers, page: &mut Page) -> Result<(),
 
 /// A tablet: table, first and last key, owner, term, and whether the owner has crashed.
 fn write_tablet(tablet: &Tablet, page: &mut Page) {
-    page.number(" [", u64::from(tablet.table));
-    page.number(" ", tablet.lo);
-    page.number(" ", tablet.hi);
+    page.number(" [", u64::from(tablet.range.table));
+    page.number(" ", tablet.range.lo);
+    page.number(" ", tablet.range.hi);
     page.id(" ", tablet.owner);
     page.number(" term ", u64::from(tablet.term));
     page.either(" ", tablet.crashed, "crashed]", "up]");
@@ -125,7 +125,7 @@ fn look_up_tables(tree: &Tree, numbers: &mut Numbers, page: &mut Page) {
     let mut count = 0u64;
     for table in numbers.long()..=numbers.long() {
         let (found, forks) = tree.find_counted(table, 5);
-        let spans = found.is_some_and(|tablet| tablet.lo == 0 && tablet.hi == LAST_KEY);
+        let spans = found.is_some_and(|tablet| tablet.range.lo == 0 && tablet.range.hi == LAST_KEY);
         count = count.saturating_add(u64::from(spans && forks <= tree.depth()));
     }
     page.number(" ", count);
@@ -169,7 +169,7 @@ fn singles(tree: &Tree, numbers: &mut Numbers, page: &mut Page) {
         let (found, forks) = tree.find_counted(table, key);
         most = most.max(forks);
         let hi = if key == last { LAST_KEY } else { key };
-        let single = found.is_some_and(|tablet| tablet.lo == key && tablet.hi == hi);
+        let single = found.is_some_and(|tablet| tablet.range.lo == key && tablet.range.hi == hi);
         count = count.saturating_add(u64::from(single));
     }
     page.number(" ", count);

@@ -7,12 +7,12 @@ use Rattle.std.specs.BTreeSet.{BTreeSet, contains}
 use Rattle.std.specs.Map.{lookup}
 use Rattle.std.proofs.lemmas.List.{take_more}
 use Rattle.std.proofs.lemmas.Bool.{eqb-true, eq-eqb, or_cases, or_left, or_right}
-use Rattle.rc_model.specs.Model.{Message, IsBefore, previous, onward, IsEarlier, is_earlier, grants_of, In}
+use Rattle.rc_model.specs.Model.{Message, in_range, IsBefore, previous, onward, IsEarlier, is_earlier, grants_of, In}
 use Rattle.rc_model.proofs.Befores.{before-through, is_before-finds, is_before-found}
 use Rattle.rc_model.proofs.Members.{In-left, In-right, In-append}
 use Rattle.rc_audit.specs.declared.grants.Grant.{Grant}
 use Rattle.rc_audit.specs.declared.grants.TermGrants.{TermGrants}
-use Rattle.rc_audit.specs.Grants.{grant_of, holds_point, grants_in, grants_at, AreGrants}
+use Rattle.rc_audit.specs.Grants.{grant_of, grants_in, grants_at, AreGrants}
 use Rattle.rc_audit.specs.Earlier.{AreEarlier, NotesTerm, unseen, IsStep, Follows}
 use Rattle.rc_audit.proofs.GrantLemmas.{step_back, granted_at}
 use Rattle.rc_model.proofs.Tests.{either}
@@ -114,7 +114,7 @@ module _ (old new : BTreeSet ℕ) (waited waiting : List ℕ) (grant : Grant) (p
 
 -- one grant that holds the point
 pub follows_one : (table key : ℕ) (old new : BTreeSet ℕ) (waited waiting : List ℕ) (grant : Grant) →
-    holds_point table key grant ≡ true → NotesTerm old new waited waiting grant.previous →
+    in_range grant.range table key ≡ true → NotesTerm old new waited waiting grant.previous →
     Follows table key (grant ∷ []) old new waited waiting
 follows_one table key old new waited waiting grant holds p = record {
   kept = noted-kept old new waited waiting grant p;
@@ -126,7 +126,7 @@ follows_one table key old new waited waiting grant holds p = record {
   fewer = λ all each. noted-fewer old new waited waiting grant p all (each grant (inl refl));
 }
   where
-    noted : (other : Grant) → In other (grant ∷ []) → holds_point table key other ≡ true → contains nat_cmp new other.previous ≡ true
+    noted : (other : Grant) → In other (grant ∷ []) → in_range other.range table key ≡ true → contains nat_cmp new other.previous ≡ true
     noted other (inl same) h = ap (λ (g : Grant). contains nat_cmp new g.previous) same ∙ noted-has old new waited waiting grant p
     noted other (inr none) h = absurd none
 
@@ -157,7 +157,7 @@ follows_both table key one other old mid new waited between waiting p q = record
   );
 }
   where
-    noted : (grant : Grant) → holds_point table key grant ≡ true → In grant one ⊎ In grant other →
+    noted : (grant : Grant) → in_range grant.range table key ≡ true → In grant one ⊎ In grant other →
         contains nat_cmp new grant.previous ≡ true
     noted grant h (inl at) = q.kept grant.previous (p.noted grant at h)
     noted grant h (inr at) = q.noted grant at h
@@ -231,7 +231,7 @@ among_all (entry ∷ entries) term grant at = by (is_at (nat_cmp term) entry.0) 
 -- all steps back from this term are noted
 abbrev pub IsClosed : BTreeMap ℕ TermGrants → ℕ → ℕ → BTreeSet ℕ → ℕ → Type 0
 IsClosed grants table key before t = (grant : Grant) → In grant (grants_at grants t) →
-    holds_point table key grant ≡ true → contains nat_cmp before grant.previous ≡ true
+    in_range grant.range table key ≡ true → contains nat_cmp before grant.previous ≡ true
 
 -- what is noted comes before the term, and of each that is noted, and of the term itself, all steps back are noted, or it waits
 pub record Searches (grants : BTreeMap ℕ TermGrants) (table key term : ℕ) (before : BTreeSet ℕ) (waiting : List ℕ) : Type 0 where

@@ -4,10 +4,10 @@ use Rattle.std.proofs.Common.{get_or, slice_get, refl, sym, ap, ◌∙◌, subst
 use Rattle.std.specs.BTreeMap.{BTreeMap}
 use Rattle.std.proofs.lemmas.List.{append-nil}
 use Rattle.std.proofs.lemmas.Bool.{eqb-true, eq-eqb}
-use Rattle.rc_model.specs.Model.{Message, Granted, grant_in, granted, covers, grants_of, IsBefore, previous, In}
+use Rattle.rc_model.specs.Model.{Message, Granted, grant_in, granted, covers, in_range, grants_of, IsBefore, previous, In}
 use Rattle.rc_audit.specs.declared.grants.Grant.{Grant}
 use Rattle.rc_audit.specs.declared.grants.TermGrants.{TermGrants}
-use Rattle.rc_audit.specs.Grants.{grant_of, holds_point, under, grants_at, AddsGrants, AreGrants}
+use Rattle.rc_audit.specs.Grants.{grant_of, under, grants_at, AddsGrants, AreGrants}
 use Rattle.rc_model.proofs.Members.{In-get, place_of, In-filter, filter-In}
 use Rattle.rc_audit.proofs.PlaceLemmas.{taken_more}
 use Rattle.rc_model.proofs.Tests.{either}
@@ -91,11 +91,11 @@ In-from_map f y (x ∷ xs) (inr rest) = let p = In-from_map f y xs rest in recor
 
 -- a grant that the table has is one step back at each point that it holds
 pub step_back : (table_of : BTreeMap ℕ TermGrants) (sent : List Message) → AreGrants table_of sent → (term table key : ℕ) (grant : Grant) →
-    In grant (grants_at table_of term) → holds_point table key grant ≡ true → IsBefore (grants_of sent table key) grant.previous term
+    In grant (grants_at table_of term) → in_range grant.range table key ≡ true → IsBefore (grants_of sent table key) grant.previous term
 step_back table_of sent are term table key grant at holds =
     let in_term = In-under term grant (map grant_of (granted sent)) (subst (In grant) (are.each term) at) in
     let from = In-from_map grant_of grant (granted sent) in_term.0 in
-    let covered : covers table key from.x ≡ true = ap (holds_point table key) (sym from.is) ∙ holds in
+    let covered : covers table key from.x ≡ true = ap (λ (one : Grant). in_range one.range table key) (sym from.is) ∙ holds in
     let place = place_of (grants_of sent table key) from.x (filter-In (covers table key) from.x (granted sent) from.among covered) in
     let back : from.x.previous ≡ grant.previous = ap (λ (g : Grant). g.previous) (sym from.is) in
     let to : from.x.term ≡ term = ap (λ (g : Grant). g.term) (sym from.is) ∙ in_term.1 in
@@ -105,7 +105,7 @@ step_back table_of sent are term table key grant at holds =
 -- and each grant of a point is one that the table has
 pub granted_at : (table_of : BTreeMap ℕ TermGrants) (sent : List Message) → AreGrants table_of sent → (table key k : ℕ) (grant : Granted) →
     slice_get (grants_of sent table key) k ≡ Some grant → In (grant_of grant) (grants_at table_of grant.term) ×
-    (holds_point table key (grant_of grant) ≡ true)
+    (in_range grant.range table key ≡ true)
 granted_at table_of sent are table key k grant at =
     let found = In-filter (covers table key) grant (granted sent) (In-get (grants_of sent table key) k grant at) in (
       subst (In (grant_of grant)) (sym (are.each grant.term))

@@ -2,11 +2,11 @@
 use Rattle.std.specs.Prelude.{◌≡◌, ◌⊎◌, ℕ, ◌+◌, ◌≤◌, true, nat_eq, ◌||◌, if◌then◌else◌, List, [], ◌∷◌, ◌++◌, length}
 use Rattle.std.specs.Ordering.{nat_cmp}
 use Rattle.std.specs.BTreeSet.{BTreeSet, contains}
+use Rattle.rc_types.specs.Ranges.{in_range}
 use Rattle.rc_types.specs.declared.messages.Message.{Message}
 use Rattle.rc_model.specs.Owners.{is_earlier}
 use Rattle.rc_model.specs.Headline.{In}
 use Rattle.rc_audit.specs.declared.grants.Grant.{Grant}
-use Rattle.rc_audit.specs.Grants.{holds_point}
 
 -- the set has exactly the terms that come before this one at the point
 pub record AreEarlier (before : BTreeSet ℕ) (sent : List Message) (table key term : ℕ) : Type 0 where
@@ -27,13 +27,13 @@ unseen before (grant ∷ grants) =
 pub record IsStep (table key : ℕ) (grants : List Grant) (term : ℕ) : Type 0 where
   pub grant : Grant
   pub among : In grant grants
-  pub holds : holds_point table key grant ≡ true
+  pub holds : in_range grant.range table key ≡ true
   pub is : grant.previous ≡ term
 
 -- the previous terms of those of these grants that hold the point are noted, and each that is new waits
 pub record Follows (table key : ℕ) (grants : List Grant) (old new : BTreeSet ℕ) (waited waiting : List ℕ) : Type 0 where
   pub kept : (t : ℕ) → contains nat_cmp old t ≡ true → contains nat_cmp new t ≡ true
-  pub noted : (grant : Grant) → In grant grants → holds_point table key grant ≡ true →
+  pub noted : (grant : Grant) → In grant grants → in_range grant.range table key ≡ true →
       contains nat_cmp new grant.previous ≡ true
   pub from : (t : ℕ) → contains nat_cmp new t ≡ true → (contains nat_cmp old t ≡ true) ⊎ IsStep table key grants t
   pub waits : (t : ℕ) → In t waited → In t waiting

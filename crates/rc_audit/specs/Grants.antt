@@ -1,5 +1,5 @@
 -- The grants of each term.
-use Rattle.std.specs.Prelude.{◌≡◌, ℕ, Bool, nat_eq, nat_le, ◌&&◌, if◌then◌else◌, List, [], ◌∷◌, ◌++◌, Option, Some}
+use Rattle.std.specs.Prelude.{◌≡◌, ℕ, nat_eq, if◌then◌else◌, List, [], ◌∷◌, ◌++◌, Option, Some}
 use Rattle.std.specs.Prelude.{None, map}
 use Rattle.std.specs.Ordering.{nat_cmp}
 use Rattle.std.specs.BTreeMap.{BTreeMap, get}
@@ -10,12 +10,7 @@ use Rattle.rc_audit.specs.declared.grants.TermGrants.{TermGrants}
 
 -- a grant, without its owner and attempt
 abbrev pub grant_of : Granted → Grant
-grant_of granted =
-    record { table = granted.table; lo = granted.lo; hi = granted.hi; term = granted.term; previous = granted.previous }
-
--- the grant's range holds the point
-abbrev pub holds_point : ℕ → ℕ → Grant → Bool
-holds_point table key grant = nat_eq grant.table table && (nat_le grant.lo key && nat_le key grant.hi)
+grant_of granted = record { range = granted.range; term = granted.term; previous = granted.previous }
 
 -- those of these grants that are of a term
 abbrev pub under : ℕ → List Grant → List Grant

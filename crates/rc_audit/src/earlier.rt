@@ -34,7 +34,7 @@ fn follow_grant(
     ensures { OnOk result (Follows table key (grant.now ∷ [])
         before.old before.new waiting.old.items waiting.new.items) }
 {
-    if grant.holds(table, key) {
+    if grant.range.holds(table, key) {
         note_term(before, waiting, grant.previous)?;
     }
     Ok(())

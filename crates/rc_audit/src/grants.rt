@@ -3,34 +3,21 @@
 ghost use Rattle.std.specs.Prelude.{◌≡◌, map, OnOk, IfOk};
 ghost use Rattle.std.specs.Option.{option_to_list};
 ghost use Rattle.rc_model.specs.Owners.{grant_in as model_grant_in};
-ghost use Rattle.rc_audit.specs.Grants.{AddsGrants, AreGrants, NotesGrant, grant_of, holds_point};
+ghost use Rattle.rc_audit.specs.Grants.{AddsGrants, AreGrants, NotesGrant, grant_of};
 
-use rc_types::{Body, Message};
+use rc_types::{Body, KeyRange, Message};
 use std::alloc::{AllocError, Global};
 use std::collections::BTreeMap;
 
 /// A grant of a range of keys, as far as a judge asks.
 #[derive(Clone, Copy)]
 pub struct Grant {
-    /// The table.
-    pub table: u32,
-    /// The first key.
-    pub lo: u64,
-    /// The last key.
-    pub hi: u64,
+    /// The keys.
+    pub range: KeyRange,
     /// The term of the new owner.
     pub term: u32,
     /// The term of the owner before.
     pub previous: u32,
-}
-
-impl Grant {
-    /// Whether the range holds this key of this table.
-    pub fn holds(&self, table: u32, key: u64) -> bool
-        ensures { result ≡ holds_point table key self.now }
-    {
-        self.table == table && self.lo <= key && key <= self.hi
-    }
 }
 
 /// The grants of one term, in the order in which they were sent.
@@ -49,16 +36,12 @@ fn grant_in(message: &Message) -> Option<Grant>
 {
     match &message.body {
         Body::Own {
-            table,
-            lo,
-            hi,
+            range,
             term,
             previous,
             ..
         } => Some(Grant {
-            table: *table,
-            lo: *lo,
-            hi: *hi,
+            range: *range,
             term: *term,
             previous: *previous,
         }),

@@ -11,11 +11,13 @@ use Rattle.rc_types.specs.declared.ids.Addr.TheVariants as addr
 use Rattle.rc_types.specs.declared.messages.Body.{Body}
 use Rattle.rc_types.specs.declared.messages.Body.TheVariants as body
 use Rattle.rc_codec.specs.Parts.{number, byte, two_bytes, four_bytes, eight_bytes, flag}
-use Rattle.rc_codec.specs.Spelling.{id_code, addr_code, refusal_code, value_code, entry_code, row_code, plan_row_code, part_code, up_code}
+use Rattle.rc_codec.specs.Spelling.{id_code, addr_code, refusal_code, value_code, entry_code, row_code, plan_row_code, range_code}
+use Rattle.rc_codec.specs.Spelling.{part_code, up_code}
 use Rattle.rc_codec.specs.Spelling.{kept_code, body_code, message_code, event_code, coded_message, coded_event}
 use Rattle.rc_codec.specs.Reading.{flag_at}
 use Rattle.rc_codec.specs.Readers.{u8_at, u16_at, u32_at, u64_at, id_at, addr_at, addrs, chosen_at, refusals, refusal_at, value_at}
-use Rattle.rc_codec.specs.Readers.{entry_at, row_at, plan_row_at, part_at, up_at, kept_at, bodies, body_at, message_at, events, event_at}
+use Rattle.rc_codec.specs.Readers.{entry_at, row_at, plan_row_at, range_at, part_at, up_at, kept_at, bodies, body_at, message_at, events}
+use Rattle.rc_codec.specs.Readers.{event_at}
 use Rattle.rc_codec.specs.Readers.{versioned_at}
 use Rattle.rc_codec.proofs.Lawful.{IsBytes, Lawful, bind_some, some_is, made_again, made_lawful, pair_lawful, three_lawful, four_lawful}
 use Rattle.rc_codec.proofs.Lawful.{five_lawful, six_lawful, number_lawful, flag_lawful, bytes_lawful, optional_lawful, listed_lawful}
@@ -118,10 +120,13 @@ pub plan_row_law : Lawful plan_row_code plan_row_at
 plan_row_law = made_lawful (three_lawful u16_law id_law u64_law) (λ p. record { seg = p.0; holder = p.1; len = p.2 })
     (λ r. (r.seg, r.holder, r.len)) plan_row_code (λ r. refl) (λ p. refl)
 
+range_law : Lawful range_code range_at
+range_law = made_lawful (three_lawful u32_law u64_law u64_law) (λ p. record { table = p.0; lo = p.1; hi = p.2 })
+    (λ r. (r.table, r.lo, r.hi)) range_code (λ r. refl) (λ p. refl)
+
 pub part_law : Lawful part_code part_at
-part_law = made_lawful (five_lawful u32_law u64_law u64_law u32_law u32_law)
-    (λ p. record { table = p.0; lo = p.1; hi = p.2; previous = p.3; term = p.4 })
-    (λ r. (r.table, r.lo, r.hi, r.previous, r.term)) part_code (λ r. refl) (λ p. refl)
+part_law = made_lawful (three_lawful range_law u32_law u32_law) (λ p. record { range = p.0; previous = p.1; term = p.2 })
+    (λ r. (r.range, r.previous, r.term)) part_code (λ r. refl) (λ p. refl)
 
 pub up_law : Lawful up_code up_at
 up_law = pair_lawful id_law flag_law
@@ -163,8 +168,8 @@ body_again (body.Fetch attempt master seg len part) rest = made_again (five_lawf
 body_again (body.Data attempt seg term entries) rest = made_again (four_lawful u32_law u16_law u32_law (listed_lawful entry_law))
     (λ p. body.Data p.0 p.1 p.2 p.3) (attempt, seg, term, entries) rest
 body_again (body.Recovered attempt term) rest = made_again (pair_lawful u32_law u32_law) (λ p. body.Recovered p.0 p.1) (attempt, term) rest
-body_again (body.Own table lo hi term previous attempt) rest = made_again (six_lawful u32_law u64_law u64_law u32_law u32_law u32_law)
-    (λ p. body.Own p.0 p.1 p.2 p.3 p.4 p.5) (table, lo, hi, term, previous, attempt) rest
+body_again (body.Own range term previous attempt) rest = made_again (four_lawful range_law u32_law u32_law u32_law)
+    (λ p. body.Own p.0 p.1 p.2 p.3) (range, term, previous, attempt) rest
 body_again (body.SplitOk table at) rest = made_again (pair_lawful u32_law u64_law) (λ p. body.SplitOk p.0 p.1) (table, at) rest
 body_again (body.Free seg) rest = made_again u16_law body.Free seg rest
 
@@ -193,8 +198,7 @@ body_right = all_right body_code 0 bodies (AreRight body_code 0 bodies) (λ all.
     (kind_right (five_lawful u32_law id_law u16_law u64_law part_law) (λ p. body.Fetch p.0 p.1 p.2 p.3 p.4) body_code 17 (λ x. refl))
     (kind_right (four_lawful u32_law u16_law u32_law (listed_lawful entry_law)) (λ p. body.Data p.0 p.1 p.2 p.3) body_code 18 (λ x. refl))
     (kind_right (pair_lawful u32_law u32_law) (λ p. body.Recovered p.0 p.1) body_code 19 (λ x. refl))
-    (kind_right (six_lawful u32_law u64_law u64_law u32_law u32_law u32_law) (λ p. body.Own p.0 p.1 p.2 p.3 p.4 p.5) body_code 20
-    (λ x. refl))
+    (kind_right (four_lawful range_law u32_law u32_law u32_law) (λ p. body.Own p.0 p.1 p.2 p.3) body_code 20 (λ x. refl))
     (kind_right (pair_lawful u32_law u64_law) (λ p. body.SplitOk p.0 p.1) body_code 21 (λ x. refl))
     (kind_right u16_law body.Free body_code 22 (λ x. refl))
 

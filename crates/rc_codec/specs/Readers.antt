@@ -75,19 +75,18 @@ row_at = made (five u16_at u16_at flag_at u64_at (listed_at u16_at))
 abbrev pub plan_row_at : Reader PlanRow
 plan_row_at = made (three u16_at id_at u64_at) (λ p. record { seg = p.0; holder = p.1; len = p.2 })
 
+abbrev pub range_at : Reader KeyRange
+range_at = made (three u32_at u64_at u64_at) (λ p. record { table = p.0; lo = p.1; hi = p.2 })
+
 abbrev pub part_at : Reader Part
-part_at = made (five u32_at u64_at u64_at u32_at u32_at)
-    (λ p. record { table = p.0; lo = p.1; hi = p.2; previous = p.3; term = p.4 })
+part_at = made (three range_at u32_at u32_at) (λ p. record { range = p.0; previous = p.1; term = p.2 })
 
 abbrev pub pair_at : Reader Pair
 pair_at = made (u16_at ⊗ u16_at) (λ p. record { seg = p.0; epoch = p.1 })
 
 abbrev pub tablet_at : Reader Tablet
-tablet_at = made (six u32_at u64_at u64_at id_at u32_at flag_at)
-    (λ p. record { table = p.0; lo = p.1; hi = p.2; owner = p.3; term = p.4; crashed = p.5 })
-
-abbrev pub range_at : Reader KeyRange
-range_at = made (three u32_at u64_at u64_at) (λ p. record { table = p.0; lo = p.1; hi = p.2 })
+tablet_at = made (four range_at id_at u32_at flag_at)
+    (λ p. record { range = p.0; owner = p.1; term = p.2; crashed = p.3 })
 
 abbrev pub grant_at : Reader Grant
 grant_at = made (five range_at u32_at u32_at u32_at id_at)
@@ -156,7 +155,7 @@ abbrev pub recovered_at : Reader Body
 recovered_at = made (u32_at ⊗ u32_at) (λ p. body.Recovered p.0 p.1)
 
 abbrev pub own_at : Reader Body
-own_at = made (six u32_at u64_at u64_at u32_at u32_at u32_at) (λ p. body.Own p.0 p.1 p.2 p.3 p.4 p.5)
+own_at = made (four range_at u32_at u32_at u32_at) (λ p. body.Own p.0 p.1 p.2 p.3)
 
 abbrev pub split_ok_at : Reader Body
 split_ok_at = made (u32_at ⊗ u64_at) (λ p. body.SplitOk p.0 p.1)

@@ -46,19 +46,17 @@ row_code row = two_bytes row.seg ++ two_bytes row.epoch ++ flag row.closed ++ ei
 abbrev pub plan_row_code : PlanRow → List ℕ
 plan_row_code row = two_bytes row.seg ++ id_code row.holder ++ eight_bytes row.len
 
+abbrev pub range_code : KeyRange → List ℕ
+range_code range = four_bytes range.table ++ eight_bytes range.lo ++ eight_bytes range.hi
+
 abbrev pub part_code : Part → List ℕ
-part_code part = four_bytes part.table ++ eight_bytes part.lo ++ eight_bytes part.hi ++ four_bytes part.previous
-    ++ four_bytes part.term
+part_code part = range_code part.range ++ four_bytes part.previous ++ four_bytes part.term
 
 abbrev pub pair_code : Pair → List ℕ
 pair_code pair = two_bytes pair.seg ++ two_bytes pair.epoch
 
 abbrev pub tablet_code : Tablet → List ℕ
-tablet_code t = four_bytes t.table ++ eight_bytes t.lo ++ eight_bytes t.hi ++ id_code t.owner ++ four_bytes t.term
-    ++ flag t.crashed
-
-abbrev pub range_code : KeyRange → List ℕ
-range_code range = four_bytes range.table ++ eight_bytes range.lo ++ eight_bytes range.hi
+tablet_code t = range_code t.range ++ id_code t.owner ++ four_bytes t.term ++ flag t.crashed
 
 abbrev pub grant_code : Grant → List ℕ
 grant_code g = range_code g.range ++ four_bytes g.term ++ four_bytes g.previous ++ four_bytes g.attempt
@@ -100,9 +98,8 @@ body_code (body.Fetch attempt master seg len part) =
 body_code (body.Data attempt seg term entries) =
     18 ∷ four_bytes attempt ++ two_bytes seg ++ four_bytes term ++ listed entry_code entries
 body_code (body.Recovered attempt term) = 19 ∷ four_bytes attempt ++ four_bytes term
-body_code (body.Own table lo hi term previous attempt) =
-    20 ∷ four_bytes table ++ eight_bytes lo ++ eight_bytes hi ++ four_bytes term ++ four_bytes previous
-    ++ four_bytes attempt
+body_code (body.Own range term previous attempt) =
+    20 ∷ range_code range ++ four_bytes term ++ four_bytes previous ++ four_bytes attempt
 body_code (body.SplitOk table at) = 21 ∷ four_bytes table ++ eight_bytes at
 body_code (body.Free seg) = 22 ∷ two_bytes seg
 

@@ -9,7 +9,7 @@ ghost use Rattle.rc_codec.specs.Readers.{body_at};
 
 use crate::coded::{Put, Take, put_kind};
 use crate::faults::DecodeFault;
-use rc_types::{Body, Code, Entry, Part, PlanRow, Row, Seq, ServerId, Shared};
+use rc_types::{Body, Code, Entry, KeyRange, Part, PlanRow, Row, Seq, ServerId, Shared};
 use std::alloc::{AllocError, Global};
 
 impl Put for Body {
@@ -88,13 +88,11 @@ impl Put for Body {
             } => put_kind(18, (attempt, seg, term, entries), out),
             Body::Recovered { attempt, term } => put_kind(19, (attempt, term), out),
             Body::Own {
-                table,
-                lo,
-                hi,
+                range,
                 term,
                 previous,
                 attempt,
-            } => put_kind(20, (table, lo, hi, term, previous, attempt), out),
+            } => put_kind(20, (range, term, previous, attempt), out),
             Body::SplitOk { table, at } => put_kind(21, (table, at), out),
             Body::Free { seg } => put_kind(22, seg, out),
         }
@@ -361,14 +359,10 @@ fn take_recovered(alloc: Global, bytes: &[u8]) -> Result<(Body, &[u8]), DecodeFa
 fn take_own(alloc: Global, bytes: &[u8]) -> Result<(Body, &[u8]), DecodeFault>
     ensures { Gives (λ x. (x.0, x.1.now)) result (own_at bytes.now) }
 {
-    let ((table, lo, hi, term, previous, attempt), rest) = <(u32, u64, u64, u32, u32, u32)>::take(
-        alloc, bytes,
-    )?;
+    let ((range, term, previous, attempt), rest) = <(KeyRange, u32, u32, u32)>::take(alloc, bytes)?;
     Ok((
         Body::Own {
-            table,
-            lo,
-            hi,
+            range,
             term,
             previous,
             attempt,

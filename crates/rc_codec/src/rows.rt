@@ -206,7 +206,7 @@ impl Put for Part {
     ghost code = { part_code };
 
     fn put(&self, out: &mut Vec<u8>) -> Result<(), AllocError> {
-        (self.table, self.lo, self.hi, self.previous, self.term).put(out)
+        (self.range, self.previous, self.term).put(out)
     }
 }
 
@@ -216,13 +216,9 @@ impl Take for Part {
     ghost read = { part_at };
 
     fn take(alloc: Global, bytes: &[u8]) -> Result<(Part, &[u8]), DecodeFault> {
-        let ((table, lo, hi, previous, term), rest) = <(u32, u64, u64, u32, u32)>::take(
-            alloc, bytes,
-        )?;
+        let ((range, previous, term), rest) = <(KeyRange, u32, u32)>::take(alloc, bytes)?;
         let read = Part {
-            table,
-            lo,
-            hi,
+            range,
             previous,
             term,
         };
@@ -257,15 +253,7 @@ impl Put for Tablet {
     ghost code = { tablet_code };
 
     fn put(&self, out: &mut Vec<u8>) -> Result<(), AllocError> {
-        (
-            self.table,
-            self.lo,
-            self.hi,
-            self.owner,
-            self.term,
-            self.crashed,
-        )
-            .put(out)
+        (self.range, self.owner, self.term, self.crashed).put(out)
     }
 }
 
@@ -275,18 +263,11 @@ impl Take for Tablet {
     ghost read = { tablet_at };
 
     fn take(alloc: Global, bytes: &[u8]) -> Result<(Tablet, &[u8]), DecodeFault> {
-        let ((table, lo, hi, owner, term, crashed), rest) = <(
-            u32,
-            u64,
-            u64,
-            ServerId,
-            u32,
-            bool,
-        )>::take(alloc, bytes)?;
+        let ((range, owner, term, crashed), rest) = <(KeyRange, ServerId, u32, bool)>::take(
+            alloc, bytes,
+        )?;
         let read = Tablet {
-            table,
-            lo,
-            hi,
+            range,
             owner,
             term,
             crashed,

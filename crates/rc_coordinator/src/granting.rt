@@ -178,7 +178,7 @@ impl<A: Allocator + Clone> State<A> {
     {
         self.recoveries.make_room()?;
         sent.reserve(1)?;
-        match self.tablets.assign(grants::range_of(part), id, part.term) {
+        match self.tablets.assign(part.range, id, part.term) {
             Ok(()) => {
                 let grant = grants::grant_of(number, id, part);
                 self.recoveries.remember(grant);

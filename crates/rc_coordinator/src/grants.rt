@@ -8,12 +8,11 @@ ghost use Rattle.std.specs.Option.{option_or};
 ghost use Rattle.std.specs.List.{list_any};
 ghost use Rattle.indexmap.specs.IndexMap.{get, spare};
 ghost use Rattle.std.specs.HashSet.{contains, spare as set_spare};
-ghost use Rattle.rc_model.specs.Deciding.{is_grant_to, grant_of, range_of};
+ghost use Rattle.rc_model.specs.Deciding.{is_grant_to, grant_of};
 ghost use Rattle.rc_model.specs.CoordinatorStep.{first_grant};
 ghost use Rattle.rc_coordinator.specs.Grants.{same_claim, claim_of};
 
 use indexmap::IndexMap;
-use rc_types::limits::LAST_KEY;
 use rc_types::{Grant, KeyRange, Part, ServerId};
 use std::alloc::{AllocError, Global};
 use std::collections::HashSet;
@@ -142,23 +141,12 @@ fn note_term(terms: &mut HashSet<u32>, term: u32)
     terms.insert(term).unwrap();
 }
 
-/// The range of a part.
-pub(crate) fn range_of(part: &Part) -> KeyRange
-    ensures { result ≡ range_of part.now }
-{
-    KeyRange {
-        table: part.table,
-        lo: part.lo,
-        hi: part.hi,
-    }
-}
-
 /// The grant of a part to the owner that recovered it.
 pub(crate) fn grant_of(number: u32, owner: ServerId, part: &Part) -> Grant
     ensures { result ≡ grant_of number owner part.now }
 {
     Grant {
-        range: range_of(part),
+        range: part.range,
         term: part.term,
         previous: part.previous,
         attempt: number,
@@ -171,11 +159,7 @@ pub(crate) fn first_grant(table: u32, owner: ServerId, term: u32) -> Grant
     ensures { result ≡ first_grant table owner term }
 {
     Grant {
-        range: KeyRange {
-            table,
-            lo: 0,
-            hi: LAST_KEY,
-        },
+        range: KeyRange::all_keys(table),
         term,
         previous: 0,
         attempt: 0,

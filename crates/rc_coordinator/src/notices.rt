@@ -68,9 +68,7 @@ pub(crate) fn own_to(id: ServerId, grant: Grant) -> Message
     to_server(
         id,
         Body::Own {
-            table: grant.range.table,
-            lo: grant.range.lo,
-            hi: grant.range.hi,
+            range: grant.range,
             term: grant.term,
             previous: grant.previous,
             attempt: grant.attempt,

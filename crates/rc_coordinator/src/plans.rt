@@ -24,9 +24,7 @@ fn part_of(tablet: &Tablet, term: u32) -> Part
     ensures { result ≡ part_of tablet.now term }
 {
     Part {
-        table: tablet.table,
-        lo: tablet.lo,
-        hi: tablet.hi,
+        range: tablet.range,
         previous: tablet.term,
         term,
     }

@@ -17,7 +17,7 @@ use Rattle.rc_healing.specs.declared.deeds.Dropped.{Dropped}
 -- it is the first key of the tablet, and its version
 abbrev pub is_first : Served → ℕ → ℕ → ℕ → Bool
 is_first served table key version =
-    nat_eq table served.tablet.table && (nat_eq key served.tablet.lo && nat_eq version served.version)
+    nat_eq table served.tablet.range.table && (nat_eq key served.tablet.range.lo && nat_eq version served.version)
 
 abbrev pub acknowledges_in : Served → Addr → Body → Bool
 acknowledges_in served from (WriteOk seg offset term table key version) =

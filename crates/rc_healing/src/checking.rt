@@ -73,7 +73,7 @@ fn shows(served: &Served, message: &Message) -> bool
 fn is_first(served: &Served, table: u32, key: u64, version: u64) -> bool
     ensures { result ≡ spec.is_first served.now table key version }
 {
-    table == served.tablet.table && key == served.tablet.lo && version == served.version
+    table == served.tablet.range.table && key == served.tablet.range.lo && version == served.version
 }
 
 /// Whether the address is the owner's.

@@ -108,7 +108,8 @@ fn open_tablets(
 
 /// Whether the tablet is one of those that are served.
 pub(crate) fn is_among(served: &[Served], tablet: &Tablet) -> bool {
-    served.iter().any(|one| one.tablet.table == tablet.table && one.tablet.lo == tablet.lo)
+    served.iter().any(|one| one.tablet.range.table == tablet.range.table
+        && one.tablet.range.lo == tablet.range.lo)
 }
 
 /// Copies of these events, without so many of the first.
@@ -123,8 +124,8 @@ pub(crate) fn copies(alloc: Global, events: &[Event], first: usize) -> Result<Ve
 /// The owner of a tablet is asked to write its first key.
 fn write(alloc: Global, course: &mut Course, tablet: &Tablet, value: &[u8]) -> Result<(), Fault> {
     let body = Body::Write {
-        table: tablet.table,
-        key: tablet.lo,
+        table: tablet.range.table,
+        key: tablet.range.lo,
         value: Some(Shared::from_vec(alloc, value.to_vec(alloc)?)?),
     };
     let to = tablet.owner;
@@ -134,8 +135,8 @@ fn write(alloc: Global, course: &mut Course, tablet: &Tablet, value: &[u8]) -> R
 /// The owner of a tablet is asked to read its first key.
 fn read(alloc: Global, course: &mut Course, tablet: &Tablet) -> Result<(), Fault> {
     let body = Body::Read {
-        table: tablet.table,
-        key: tablet.lo,
+        table: tablet.range.table,
+        key: tablet.range.lo,
     };
     let to = tablet.owner;
     course.take(alloc, &Event::Ask { to, body })
@@ -176,8 +177,8 @@ fn shown_in(message: &Message, tablet: &Tablet, wanted: &[u8]) -> Option<u64> {
             version,
             value: Some(value),
         } if message.from == Addr::Server(tablet.owner)
-            && *table == tablet.table
-            && *key == tablet.lo
+            && *table == tablet.range.table
+            && *key == tablet.range.lo
             && value.as_slice() == wanted => { Some(*version) }
         _ => None,
     }

@@ -5,7 +5,7 @@ use Rattle.rc_codec.specs.Parts.{four_bytes, listed}
 use Rattle.rc_codec.specs.Reading.{◌⊗◌}
 use Rattle.rc_codec.specs.Spelling.{id_code, row_code, plan_row_code, part_code, pair_code, tablet_code, range_code, grant_code, up_code}
 use Rattle.rc_codec.specs.Readers.{u32_at, id_at, row_at, plan_row_at, part_at, pair_at, tablet_at, range_at, grant_at, up_at}
-use Rattle.rc_codec.proofs.Lawful.{Lawful, made_lawful, pair_lawful, three_lawful, four_lawful, five_lawful, six_lawful}
+use Rattle.rc_codec.proofs.Lawful.{Lawful, made_lawful, pair_lawful, three_lawful, four_lawful, five_lawful}
 use Rattle.rc_codec.proofs.Lawful.{optional_lawful, listed_lawful}
 use Rattle.rc_keeping.specs.Saved.{reply_code, given_code, decision_code, attempt_code, least_code, current_code, book_code}
 use Rattle.rc_keeping.specs.SaveReaders.{reply_at, given_at, decision_at, attempt_at, known_at, begun_at, book_at}
@@ -20,23 +20,22 @@ plan_row_law : Lawful plan_row_code plan_row_at
 plan_row_law = made_lawful (three_lawful u16_law id_law u64_law) (λ p. record { seg = p.0; holder = p.1; len = p.2 })
     (λ r. (r.seg, r.holder, r.len)) plan_row_code (λ r. refl) (λ p. refl)
 
+range_law : Lawful range_code range_at
+range_law = made_lawful (three_lawful u32_law u64_law u64_law) (λ p. record { table = p.0; lo = p.1; hi = p.2 })
+    (λ r. (r.table, r.lo, r.hi)) range_code (λ r. refl) (λ p. refl)
+
 part_law : Lawful part_code part_at
-part_law = made_lawful (five_lawful u32_law u64_law u64_law u32_law u32_law)
-    (λ p. record { table = p.0; lo = p.1; hi = p.2; previous = p.3; term = p.4 })
-    (λ r. (r.table, r.lo, r.hi, r.previous, r.term)) part_code (λ r. refl) (λ p. refl)
+part_law = made_lawful (three_lawful range_law u32_law u32_law) (λ p. record { range = p.0; previous = p.1; term = p.2 })
+    (λ r. (r.range, r.previous, r.term)) part_code (λ r. refl) (λ p. refl)
 
 pair_law : Lawful pair_code pair_at
 pair_law = made_lawful (pair_lawful u16_law u16_law) (λ p. record { seg = p.0; epoch = p.1 }) (λ r. (r.seg, r.epoch)) pair_code
     (λ r. refl) (λ p. refl)
 
 tablet_law : Lawful tablet_code tablet_at
-tablet_law = made_lawful (six_lawful u32_law u64_law u64_law id_law u32_law flag_law)
-    (λ p. record { table = p.0; lo = p.1; hi = p.2; owner = p.3; term = p.4; crashed = p.5 })
-    (λ t. (t.table, t.lo, t.hi, t.owner, t.term, t.crashed)) tablet_code (λ t. refl) (λ p. refl)
-
-range_law : Lawful range_code range_at
-range_law = made_lawful (three_lawful u32_law u64_law u64_law) (λ p. record { table = p.0; lo = p.1; hi = p.2 })
-    (λ r. (r.table, r.lo, r.hi)) range_code (λ r. refl) (λ p. refl)
+tablet_law = made_lawful (four_lawful range_law id_law u32_law flag_law)
+    (λ p. record { range = p.0; owner = p.1; term = p.2; crashed = p.3 })
+    (λ t. (t.range, t.owner, t.term, t.crashed)) tablet_code (λ t. refl) (λ p. refl)
 
 grant_law : Lawful grant_code grant_at
 grant_law = made_lawful (five_lawful range_law u32_law u32_law u32_law id_law)

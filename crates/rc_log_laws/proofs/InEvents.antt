@@ -325,7 +325,7 @@ module _ (world : World) (one : Event) (good : GoodWorld world) where
   no-granting : (sent sent_now : List Message) (m : ServerId) (old log : Log) (to : Addr) (body : Body) →
       is_granting body ≡ true → body_said sent sent_now m old log to body → ⊥
   no-granting sent sent_now m old log to (CommitOk s e) is said = said
-  no-granting sent sent_now m old log to (Own table lo hi term previous attempt) is said = said
+  no-granting sent sent_now m old log to (Own range term previous attempt) is said = said
   no-granting sent sent_now m old log to _ is said = true_false (sym is)
 
   no-client : (body : Body) → is_for_clients body ≡ true → is_granting body ≡ false

@@ -152,7 +152,7 @@ keeps-taken master from body = record {
   deposes = λ k. record { free = k.free; whole = k.whole };
   begins = λ one attempt crashed head rows parts part is at new k. record { free = k.free; whole = k.whole };
   comes = λ holder attempt seg term entries is says k. record { free = k.free; whole = k.whole };
-  owns = λ table lo hi term previous attempt is k. record { free = k.free; whole = k.whole };
+  owns = λ range term previous attempt is k. record { free = k.free; whole = k.whole };
 }
 
 -- Whole steps

@@ -83,7 +83,7 @@ moves-taken master from body = record {
   begins = λ one attempt crashed head rows parts part is at new. quiet one _ _ (stays-refl one.log)
       (silent-all _ (each-map Frees _ rows (λ row _. refl)));
   comes = λ holder attempt seg term entries is says. quiet master _ [] (stays-refl master.log) silent-none;
-  owns = λ table lo hi term previous attempt is. quiet master _ [] (stays-refl master.log) silent-none;
+  owns = λ range term previous attempt is. quiet master _ [] (stays-refl master.log) silent-none;
 }
 
 moves-ticked : Ticked Moves

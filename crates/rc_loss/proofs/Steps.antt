@@ -124,9 +124,9 @@ module _ (f : ℕ) (W : ℕ → ℕ → Type 0) (m : ServerId) where
           (begun (task_of attempt crashed rows part) one) _ refl (λ log. each-map _ _ rows (λ row _. tt));
       comes = λ holder attempt seg term entries is tells. begins-same master
           (record master { ownership = put_data term seg holder entries master.ownership }) [] refl quiet-none;
-      owns = λ table lo hi term previous attempt is. begins-same master
+      owns = λ range term previous attempt is. begins-same master
           (record master {
-            ownership = grant (record { range = record { table = table; lo = lo; hi = hi }; term = term }) master.ownership;
+            ownership = grant (record { range = range; term = term }) master.ownership;
           }) [] refl quiet-none;
     }
       where

@@ -14,5 +14,5 @@ IsQuiet master = master.deposed ≡ false → (marks_shut master ≡ master) × 
 -- the message gives rise to no rule
 abbrev pub is_quiet_message : Addr → Body → Bool
 is_quiet_message Coordinator (Refused code) = true
-is_quiet_message from (Own table lo hi term previous attempt) = true
+is_quiet_message from (Own range term previous attempt) = true
 is_quiet_message _ _ = false

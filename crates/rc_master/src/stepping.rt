@@ -13,7 +13,7 @@ ghost use Rattle.rc_master.specs.View.{state_view, now_of, before_step, IsNoted,
 
 use crate::state::State;
 use rc_notices::{add_reminders, enlist, refusal};
-use rc_types::{Addr, Body, Code, Fault, KeyRange, Message};
+use rc_types::{Addr, Body, Code, Fault, Message};
 use std::alloc::AllocError;
 
 impl State {
@@ -172,24 +172,7 @@ impl State {
         ensures quiet { IsQuiet (state_view self.new) }
     {
         match (from, body) {
-            (
-                _,
-                Body::Own {
-                    table,
-                    lo,
-                    hi,
-                    term,
-                    previous: _,
-                    attempt: _,
-                },
-            ) => {
-                let range = KeyRange {
-                    table: *table,
-                    lo: *lo,
-                    hi: *hi,
-                };
-                self.ownership.grant(range, *term)
-            }
+            (_, Body::Own { range, term, .. }) => self.ownership.grant(*range, *term),
             (Addr::Coordinator, Body::Refused { code }) => {
                 if let Code::Deposed = code {
                     self.deposed = true;

@@ -14,7 +14,7 @@ use Rattle.rc_model.specs.Model.{has_answered, is_gathering, parts_of, plan_mess
 use Rattle.rc_model.specs.Model.{list_body, spreads_list, begins_attempt, has_tablets, begins_if_needed, attempt_at, with_attempt}
 use Rattle.rc_model.specs.Model.{up_of_host, follows_generation, enlists, notes_ready, with_crashed, suspects, spreads_then_begins}
 use Rattle.rc_model.specs.Model.{commits_pair, is_current, with_answer, keeps_answer_in, ready_ids, decision_of, decides_on, decides_with}
-use Rattle.rc_model.specs.Model.{decides_attempt, own_body, range_of, grant_of, grant_to, part_of_sender, grants_part}
+use Rattle.rc_model.specs.Model.{decides_attempt, own_body, grant_of, grant_to, part_of_sender, grants_part}
 use Rattle.rc_model.specs.Model.{takes_recovered, creates_table, is_too_many, creates, split_fault}
 use Rattle.rc_model.specs.Model.{has_open_part, asks_again, asks_again_of, coordinator_ticks, coordinator_takes, NodeWork, Deliver, Create}
 use Rattle.rc_model.specs.Model.{Split, coordinator_step}
@@ -55,7 +55,7 @@ pub record Stays (c : Coordinator) (H : Addr → Body → Type 0) (M : Coordinat
   pub repeats : (id : ServerId) (term : ℕ) (grant : Grant) → is_up c.servers id ≡ true → grant_to c id term ≡ Some grant →
       M (c, from_coordinator id (own_body grant) ∷ [])
   pub lacks : (id : ServerId) (number term : ℕ) (part : Part) → IsAsked c H id number term part →
-      has_range (range_of part) c.tablets ≡ false → M (c, refuses_server id NoTable ∷ [])
+      has_range part.range c.tablets ≡ false → M (c, refuses_server id NoTable ∷ [])
   pub ticks : M (c, coordinator_ticks c)
 
 -- whatever is sent
@@ -97,9 +97,9 @@ pub record Moves (c : Coordinator) (H : Addr → Body → Type 0) (N M : Coordin
       pick (c.least master) attempt.replies ≡ Ok plan → M (decides_on c (c.current master) attempt
       (decision_of c (c.current master) attempt.master plan (id ∷ ids)) (id ∷ ids))
   pub grants : (id : ServerId) (number term : ℕ) (part : Part) → IsAsked c H id number term part →
-      has_range (range_of part) c.tablets ≡ true → M (
+      has_range part.range c.tablets ≡ true → M (
         record c {
-          tablets = assigned (range_of part) id part.term c.tablets;
+          tablets = assigned part.range id part.term c.tablets;
           grants = c.grants ++ grant_of number id part ∷ [];
         },
         from_coordinator id (own_body (grant_of number id part)) ∷ [],
@@ -107,7 +107,7 @@ pub record Moves (c : Coordinator) (H : Addr → Body → Type 0) (N M : Coordin
   pub creates : (table : ℕ) (owner : ServerId) → is_up c.servers owner ≡ true → has_table c.tablets table ≡ false →
       is_too_many c.tablets ≡ false → M (creates_table c table owner)
   pub splits : (table at : ℕ) (tablet : Tablet) → tablet_of c.tablets table at ≡ Some tablet → holds tablet table at ≡ true →
-      nat_eq at tablet.lo ≡ false → tablet.crashed ≡ false → is_too_many c.tablets ≡ false →
+      nat_eq at tablet.range.lo ≡ false → tablet.crashed ≡ false → is_too_many c.tablets ≡ false →
       M (record c { tablets = split_at table at c.tablets }, coordinator_tells (SplitOk table at) ∷ [])
 
 -- Lists and numbers
@@ -218,9 +218,9 @@ module _ (c : Coordinator) (H : Addr → Body → Type 0) (N M : Coordinator × 
 
   walked-part : (id : ServerId) (number term : ℕ) (part : Part) → IsAsked c H id number term part → M (grants_part c id number part)
   walked-part id number term part is =
-      either M (has_range (range_of part) c.tablets) (
+      either M (has_range part.range c.tablets) (
         record c {
-          tablets = assigned (range_of part) id part.term c.tablets;
+          tablets = assigned part.range id part.term c.tablets;
           grants = c.grants ++ grant_of number id part ∷ [];
         },
         from_coordinator id (own_body (grant_of number id part)) ∷ [],
@@ -262,7 +262,7 @@ module _ (c : Coordinator) (H : Addr → Body → Type 0) (N M : Coordinator × 
       M (splits_unless c table at (split_fault c.tablets at found))
   walked-splits table at None is = s.refuses NoTable
   walked-splits table at (Some tablet) is =
-      either (λ (fault : Option Fault). M (splits_unless c table at fault)) (nat_eq at tablet.lo) (Some BadSplit)
+      either (λ (fault : Option Fault). M (splits_unless c table at fault)) (nat_eq at tablet.range.lo) (Some BadSplit)
       (cond tablet.crashed (Some Recovering) (cond (is_too_many c.tablets) (Some TooManyTablets) None))
       (λ _. s.refuses BadSplit)
       (λ inside. either (λ (fault : Option Fault). M (splits_unless c table at fault)) tablet.crashed (Some Recovering)

@@ -315,7 +315,7 @@ plain-taken master from body = record {
   begins = λ one attempt crashed head rows parts part is at new.
       each-map Plain (fetch_of one.log.own (task_of attempt crashed rows part)) rows (λ row at. refl);
   comes = λ holder attempt seg term entries is says. each-none Plain;
-  owns = λ table lo hi term previous attempt is. each-none Plain;
+  owns = λ range term previous attempt is. each-none Plain;
 }
 
 plain-takes : (master : Master) (from : Addr) (body : Body) → Each Plain (master_takes_first master from body).1

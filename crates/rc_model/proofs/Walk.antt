@@ -5,7 +5,8 @@ use Rattle.std.proofs.lemmas.Bool.{and_parts, eqb-true, ltb-true}
 use Rattle.rc_model.specs.Heads.{opened_on}
 use Rattle.rc_model.specs.Model.{ServerId, Addr, Server, Entry, Part, PlanRow, Fault, NotOwner, Rolling, ValueTooLong, Deposed, LogFull}
 use Rattle.rc_model.specs.Model.{NoBackups, Message, Body, Write, Read, Stored, CommitOk, Refused, Data, Own, Close, Ready, Enlist}
-use Rattle.rc_model.specs.Model.{Recovered, LAST_SEGMENT, to_coordinator, ServerList, newer_than, is_up, from_rows, choose, is_unclosed}
+use Rattle.rc_model.specs.Model.{KeyRange, Recovered, LAST_SEGMENT, to_coordinator, ServerList, newer_than, is_up, from_rows, choose}
+use Rattle.rc_model.specs.Model.{is_unclosed}
 use Rattle.rc_model.specs.Model.{Log, with_segment, old_head_of, numbers_to, is_writing, durable_now, opens_head}
 use Rattle.rc_model.specs.Model.{open_first, is_full, appends, next_digest, begin_roll, stored, commit_noted, loses, shuts}
 use Rattle.rc_model.specs.Model.{may_start, may_close, may_write, left_out, starts, closes_old, writes_on, knows_term, term_of}
@@ -78,10 +79,10 @@ pub record Taken (R : Master → Master × List Message → Type 0) (master : Ma
   pub comes : (holder : ServerId) (attempt seg term : ℕ) (entries : List Entry) → from ≡ Server holder →
       body ≡ Data attempt seg term entries →
       R master (record master { ownership = put_data term seg holder entries master.ownership }, [])
-  pub owns : (table lo hi term previous attempt : ℕ) → body ≡ Own table lo hi term previous attempt →
+  pub owns : (range : KeyRange) (term previous attempt : ℕ) → body ≡ Own range term previous attempt →
       R master (
         record master {
-          ownership = grant (record { range = record { table = table; lo = lo; hi = hi }; term = term }) master.ownership;
+          ownership = grant (record { range = range; term = term }) master.ownership;
         },
         [],
       )
@@ -348,7 +349,7 @@ module _ (R : Master → Master × List Message → Type 0) (joined : Joined R) 
   kept-takes_first l master from (Plan head attempt crashed rows parts) t =
       kept-plan attempt crashed rows parts (λ one part. t.begins one attempt crashed head rows parts part refl) master
   kept-takes_first l master (Server holder) (Data attempt seg term entries) t = t.comes holder attempt seg term entries refl refl
-  kept-takes_first l master from (Own table lo hi term previous attempt) t = t.owns table lo hi term previous attempt refl
+  kept-takes_first l master from (Own range term previous attempt) t = t.owns range term previous attempt refl
   kept-takes_first l master from body t = joined.still master
 
   -- The timer
@@ -438,7 +439,7 @@ module _ (L : Log → Log → Type 0) (joined : LogJoined L) where
     deposes = joined.still master.log;
     begins = λ one attempt crashed head rows parts part is at new. joined.still one.log;
     comes = λ holder attempt seg term entries is says. joined.still master.log;
-    owns = λ table lo hi term previous attempt is. joined.still master.log;
+    owns = λ range term previous attempt is. joined.still master.log;
   }
 
   pub of_log-ticked : Ticked (OfLog L)

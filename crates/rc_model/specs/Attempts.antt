@@ -41,8 +41,7 @@ is_gathering attempt = is_none attempt.decided
 
 -- the part of a tablet, under a fresh term
 abbrev pub part_of : Tablet → ℕ → Part
-part_of tablet term =
-    record { table = tablet.table; lo = tablet.lo; hi = tablet.hi; previous = tablet.term; term = term }
+part_of tablet term = record { range = tablet.range; previous = tablet.term; term = term }
 
 -- a part for this id, before others
 abbrev pub given_to : Option ServerId → Part → List GivenPart → List GivenPart

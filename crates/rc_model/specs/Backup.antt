@@ -2,6 +2,7 @@
 use Rattle.std.specs.Prelude.{ℕ, Bool, true, false, not, nat_eq, nat_lt, nat_le, ◌&&◌, ◌||◌, if◌then◌else◌, List, []}
 use Rattle.std.specs.Prelude.{◌∷◌, ◌++◌, length, take, filter, Option, Some, None, map}
 use Rattle.std.specs.List.{list_any}
+use Rattle.rc_types.specs.Ranges.{in_range}
 use Rattle.rc_types.specs.declared.ids.ServerId.{ServerId}
 use Rattle.rc_types.specs.declared.ids.Addr.{Addr}
 use Rattle.rc_types.specs.declared.ids.Addr.TheVariants.{Server}
@@ -122,9 +123,7 @@ fences backup attempt master = (
 
 -- the entry has the part's previous term and lies in its range
 abbrev pub is_in_part : Part → Entry → Bool
-is_in_part part entry =
-    nat_eq entry.term part.previous &&
-    (nat_eq entry.table part.table && (nat_le part.lo entry.key && nat_le entry.key part.hi))
+is_in_part part entry = nat_eq entry.term part.previous && in_range part.range entry.table entry.key
 
 -- the part's entries among the first so many of a replica, where it has as many
 abbrev pub data_of : ℕ → ℕ → ℕ → Part → Option Replica → List Body

@@ -43,7 +43,7 @@ StaleAttemptsGrantNothing =
 -- the message grants a commit, or a range of a table
 abbrev pub is_granting : Body → Bool
 is_granting (CommitOk seg epoch) = true
-is_granting (Own table lo hi term previous attempt) = true
+is_granting (Own range term previous attempt) = true
 is_granting _ = false
 
 -- in each of its works, a Create too, the coordinator sends such a message only to an id that is up

@@ -3,7 +3,7 @@ use Rattle.std.specs.Prelude.{ℕ, ◌+◌, Bool, not, nat_eq, nat_le, ◌&&◌,
 use Rattle.std.specs.Prelude.{filter, Option, Some, None}
 use Rattle.std.specs.List.{list_any}
 use Rattle.std.specs.Option.{option_map_or}
-use Rattle.rc_types.specs.declared.rows.KeyRange.{KeyRange}
+use Rattle.rc_types.specs.Ranges.{all_keys}
 use Rattle.rc_types.specs.declared.ids.ServerId.{ServerId}
 use Rattle.rc_types.specs.declared.ids.Addr.{Addr}
 use Rattle.rc_types.specs.declared.ids.Addr.TheVariants.{Server}
@@ -13,7 +13,7 @@ use Rattle.rc_types.specs.declared.kept.Grant.{Grant}
 use Rattle.rc_types.specs.declared.faults.Fault.{Fault}
 use Rattle.rc_types.specs.declared.faults.Fault.TheVariants.{NotReady, TableExists, TooManyTablets, NoTable}
 use Rattle.rc_types.specs.declared.faults.Fault.TheVariants.{BadSplit, Recovering}
-use Rattle.rc_types.specs.declared.limits.TheConstants.{MAX_TABLETS, LAST_KEY}
+use Rattle.rc_types.specs.declared.limits.TheConstants.{MAX_TABLETS}
 use Rattle.rc_types.specs.declared.messages.Message.{Message}
 use Rattle.rc_types.specs.declared.messages.Body.{Body}
 use Rattle.rc_types.specs.declared.messages.Body.TheVariants.{Enlist, Ready, Commit, Replicas, Recovered, Gather}
@@ -30,8 +30,7 @@ use Rattle.rc_model.specs.Deciding.{is_current, keeps_answer, grants_anew, takes
 -- the grant of a new table
 abbrev pub first_grant : ℕ → ServerId → ℕ → Grant
 first_grant table owner term =
-    let range : KeyRange = record { table = table; lo = 0; hi = LAST_KEY } in
-    record { range = range; term = term; previous = 0; attempt = 0; owner = owner }
+    record { range = all_keys table; term = term; previous = 0; attempt = 0; owner = owner }
 
 -- the table goes to its owner under a fresh term
 abbrev pub creates_table : Coordinator → ℕ → ServerId → Coordinator × List Message
@@ -53,7 +52,7 @@ creates c table owner =
 abbrev pub split_fault : List Tablet → ℕ → Option Tablet → Option Fault
 split_fault tablets at None = Some NoTable
 split_fault tablets at (Some tablet) =
-    if nat_eq at tablet.lo then Some BadSplit
+    if nat_eq at tablet.range.lo then Some BadSplit
     else (if tablet.crashed then Some Recovering else (if is_too_many tablets then Some TooManyTablets else None))
 
 -- a split of the tablet that holds the key

@@ -6,7 +6,6 @@ use Rattle.rc_types.specs.declared.ids.ServerId.{ServerId}
 use Rattle.rc_types.specs.declared.rows.Row.{Row}
 use Rattle.rc_types.specs.declared.rows.Plan.{Plan}
 use Rattle.rc_types.specs.declared.rows.Part.{Part}
-use Rattle.rc_types.specs.declared.rows.KeyRange.{KeyRange}
 use Rattle.rc_types.specs.declared.rows.Tablet.{Tablet}
 use Rattle.rc_types.specs.declared.kept.Grant.{Grant}
 use Rattle.rc_types.specs.declared.faults.Fault.{Fault}
@@ -78,14 +77,11 @@ decides c master = decides_attempt c master (attempt_at c (c.current master))
 -- Grants
 
 abbrev pub own_body : Grant → Body
-own_body grant = Own grant.range.table grant.range.lo grant.range.hi grant.term grant.previous grant.attempt
-
-abbrev pub range_of : Part → KeyRange
-range_of part = record { table = part.table; lo = part.lo; hi = part.hi }
+own_body grant = Own grant.range grant.term grant.previous grant.attempt
 
 abbrev pub grant_of : ℕ → ServerId → Part → Grant
 grant_of number owner part =
-    record { range = range_of part; term = part.term; previous = part.previous; attempt = number; owner = owner }
+    record { range = part.range; term = part.term; previous = part.previous; attempt = number; owner = owner }
 
 -- the grant of this term to this owner
 abbrev pub is_grant_to : ServerId → ℕ → Grant → Bool
@@ -115,8 +111,8 @@ grants_anew c tablets grant = (
 -- the tablet of the part's range gets its new owner and term
 abbrev pub grants_part : Coordinator → ServerId → ℕ → Part → Coordinator × List Message
 grants_part c id number part =
-    if has_range (range_of part) c.tablets
-    then grants_anew c (assigned (range_of part) id part.term c.tablets) (grant_of number id part)
+    if has_range part.range c.tablets
+    then grants_anew c (assigned part.range id part.term c.tablets) (grant_of number id part)
     else (c, refuses_server id NoTable ∷ [])
 
 -- a Recovered of a term: one that was granted to the sender before is granted by the same Own again, and one that it

@@ -5,7 +5,6 @@ use Rattle.rc_types.specs.declared.ids.Addr.{Addr}
 use Rattle.rc_types.specs.declared.ids.Addr.TheVariants.{Server, Coordinator}
 use Rattle.rc_types.specs.declared.rows.Part.{Part}
 use Rattle.rc_types.specs.declared.rows.PlanRow.{PlanRow}
-use Rattle.rc_types.specs.declared.kept.GrantedRange.{GrantedRange}
 use Rattle.rc_types.specs.declared.faults.Code.{Code}
 use Rattle.rc_types.specs.declared.faults.Code.TheVariants as code
 use Rattle.rc_types.specs.declared.faults.Fault.TheVariants.{Deposed}
@@ -58,9 +57,8 @@ master_takes_first master Coordinator (Refused reason) =
 master_takes_first master from (Plan head attempt crashed rows parts) = takes_plan attempt crashed rows parts master
 master_takes_first master (Server from) (Data attempt seg term entries) =
     (record master { ownership = put_data term seg from entries master.ownership }, [])
-master_takes_first master from (Own table lo hi term previous attempt) =
-    let granted : GrantedRange = record { range = record { table = table; lo = lo; hi = hi }; term = term } in
-    (record master { ownership = grant granted master.ownership }, [])
+master_takes_first master from (Own range term previous attempt) =
+    (record master { ownership = grant (record { range = range; term = term }) master.ownership }, [])
 master_takes_first master from _ = (master, [])
 
 -- a deposed master refuses clients, and does nothing else

@@ -5,6 +5,7 @@
 pub use Rattle.rc_types.specs.Carried.{EntriesCount, EqualMessagesCarryTheSame}
 pub use Rattle.rc_types.specs.Codes.{code_number, code_of}
 pub use Rattle.rc_types.specs.Counts.{within_64_bits}
+pub use Rattle.rc_types.specs.Ranges.{all_keys, in_range}
 pub use Rattle.rc_types.specs.Texts.{addr_text, id_text}
 pub use Rattle.rc_types.specs.declared.entries.Entry.{Entry}
 pub use Rattle.rc_types.specs.declared.events.Event.{Event}
@@ -77,7 +78,7 @@ pub use Rattle.rc_model.specs.CoordinatorStep.{is_too_many, split_fault, splits}
 pub use Rattle.rc_model.specs.Deciding.{decides, decides_attempt, decides_on, decides_with, decision_of, grant_of}
 pub use Rattle.rc_model.specs.Deciding.{grant_to, grants_anew, grants_part, is_current}
 pub use Rattle.rc_model.specs.Deciding.{is_grant_to, keeps_answer, keeps_answer_in, own_body}
-pub use Rattle.rc_model.specs.Deciding.{part_in, part_of_sender, range_of, ready_ids, takes_recovered, with_answer}
+pub use Rattle.rc_model.specs.Deciding.{part_in, part_of_sender, ready_ids, takes_recovered, with_answer}
 pub use Rattle.rc_model.specs.Durable.{EarlierWereStored, IsDurable, WasStored, all_shut_to, is_stored_on_all}
 pub use Rattle.rc_model.specs.FollowUps.{answers_part, attempt_of, close_is_due, close_marked, commits}
 pub use Rattle.rc_model.specs.FollowUps.{enough, first_open, follow_up, followed, follows_change, follows_closing}
@@ -126,7 +127,7 @@ pub use Rattle.rc_model.specs.Owners.{Granted, IsBefore, IsEarlier, IsGranted, c
 pub use Rattle.rc_model.specs.Owners.{is_before, is_earlier, onward, previous}
 pub use Rattle.rc_model.specs.Ownership.{Ownership, PartRow, PartState, after_answer, after_replay, all_came}
 pub use Rattle.rc_model.specs.Ownership.{answered_in, awaited_row, awaits, awaits_data, begin_part, count_under}
-pub use Rattle.rc_model.specs.Ownership.{data_in, entries_that_came, grant, has_part, in_range, insert_row}
+pub use Rattle.rc_model.specs.Ownership.{data_in, entries_that_came, grant, has_part, insert_row}
 pub use Rattle.rc_model.specs.Ownership.{is_awaited, is_complete, is_to_answer, joined, joining, knows_term, new_part}
 pub use Rattle.rc_model.specs.Ownership.{owns_nothing, owns_term, part_with_row, put_data, replay_in, rows_in_order}
 pub use Rattle.rc_model.specs.Ownership.{term_of, to_answer, under_term, with_row}
@@ -153,8 +154,8 @@ pub use Rattle.rc_model.specs.ServerList.{id_crashed, index_crashed, is_newest, 
 pub use Rattle.rc_model.specs.ServerList.{no_servers, up, up_rows}
 pub use Rattle.rc_model.specs.Tables.{put, put_id}
 pub use Rattle.rc_model.specs.Tablets.{assigned, count_to_mark, has_range, has_table, holds, insert_tablet, is_range}
-pub use Rattle.rc_model.specs.Tablets.{mark_if_owned, marked_crashed, split_at, tablet_of, tablets_of, whole_table}
-pub use Rattle.rc_model.specs.Tablets.{with_table}
+pub use Rattle.rc_model.specs.Tablets.{lower_half, mark_if_owned, marked_crashed, split_at, tablet_of, tablets_of}
+pub use Rattle.rc_model.specs.Tablets.{upper_half, whole_table, with_table}
 pub use Rattle.rc_model.specs.Versions.{Found, found_in, greatest_version, is_above, is_dead, is_of, is_outdated}
 pub use Rattle.rc_model.specs.Versions.{next_version, or_greater, read_of}
 pub use Rattle.rc_model.specs.Works.{coordinator_after, host_after, work_if_for, work_in, works_of}

@@ -1,7 +1,9 @@
 -- Who was granted what, and which of two ownerships of a point is the earlier one, by the messages sent alone.
-use Rattle.std.specs.Prelude.{◌≡◌, ℕ, nat_eq, nat_le, ◌&&◌, ◌||◌, Bool, false, List, [], ◌∷◌, filter, Some, slice_get}
+use Rattle.std.specs.Prelude.{◌≡◌, ℕ, nat_eq, ◌&&◌, ◌||◌, Bool, false, List, [], ◌∷◌, filter, Some, slice_get}
 use Rattle.std.specs.List.{flat_map}
+use Rattle.rc_types.specs.Ranges.{in_range}
 use Rattle.rc_types.specs.declared.ids.Addr.{Addr}
+use Rattle.rc_types.specs.declared.rows.KeyRange.{KeyRange}
 use Rattle.rc_types.specs.declared.messages.Message.{Message}
 use Rattle.rc_types.specs.declared.messages.Body.{Body}
 use Rattle.rc_types.specs.declared.messages.Body.TheVariants.{Own}
@@ -9,16 +11,14 @@ use Rattle.rc_types.specs.declared.messages.Body.TheVariants.{Own}
 -- a grant as it was sent: to whom, which keys, under which term, after which term, in which attempt
 pub record Granted : Type 0 where
   pub owner : Addr
-  pub table : ℕ
-  pub lo : ℕ
-  pub hi : ℕ
+  pub range : KeyRange
   pub term : ℕ
   pub previous : ℕ
   pub attempt : ℕ
 
 abbrev pub grant_in : Addr → Body → List Granted
-grant_in to (Own table lo hi term previous attempt) =
-    record { owner = to; table = table; lo = lo; hi = hi; term = term; previous = previous; attempt = attempt } ∷ []
+grant_in to (Own range term previous attempt) =
+    record { owner = to; range = range; term = term; previous = previous; attempt = attempt } ∷ []
 grant_in to _ = []
 
 -- the grants, in order
@@ -31,7 +31,7 @@ IsGranted sent grant = (k : ℕ) × (slice_get (granted sent) k ≡ Some grant)
 
 -- the grant's range holds the point (table, key)
 abbrev pub covers : ℕ → ℕ → Granted → Bool
-covers table key grant = nat_eq grant.table table && (nat_le grant.lo key && nat_le key grant.hi)
+covers table key grant = in_range grant.range table key
 
 -- the grants of a point, in order
 abbrev pub grants_of : List Message → ℕ → ℕ → List Granted

@@ -3,9 +3,9 @@ use Rattle.std.specs.Prelude.{ℕ, Bool, true, false, not, nat_eq, nat_lt, nat_l
 use Rattle.std.specs.Prelude.{◌∷◌, ◌++◌, length, map, filter, find, Option, Some, None, option_map, is_some, drop}
 use Rattle.std.specs.Prelude.{unwrap_or}
 use Rattle.std.specs.List.{list_any, list_all, flat_map}
+use Rattle.rc_types.specs.Ranges.{in_range}
 use Rattle.rc_types.specs.declared.ids.ServerId.{ServerId}
 use Rattle.rc_types.specs.declared.entries.Entry.{Entry}
-use Rattle.rc_types.specs.declared.rows.KeyRange.{KeyRange}
 use Rattle.rc_types.specs.declared.rows.Part.{Part}
 use Rattle.rc_types.specs.declared.kept.GrantedRange.{GrantedRange}
 use Rattle.rc_model.specs.Ids.{same_id}
@@ -35,10 +35,6 @@ abbrev pub owns_nothing : Ownership
 owns_nothing = record { grants = []; parts = []; replay = [] }
 
 -- Ranges
-
--- the range holds the point
-abbrev pub in_range : KeyRange → ℕ → ℕ → Bool
-in_range range table key = nat_eq range.table table && (nat_le range.lo key && nat_le key range.hi)
 
 -- the term of the first granted range that holds the point
 abbrev pub term_of : Ownership → ℕ → ℕ → Option ℕ

@@ -42,10 +42,10 @@ body_line from to (Plan head attempt master rows parts) =
     then_number (codes "plan ") attempt ++ codes " of " ++ id_text master ++ codes " to " ++ to ++
     then_number (codes " head ") head
     ++ codes " rows" ++ rows_text rows ++ line_feed
-body_line from to (Own table lo hi term previous attempt) =
-    codes "own " ++ to ++ then_number (codes " term ") term ++ then_number (codes " table ") table ++
-    then_number (codes " from ") lo
-    ++ then_number (codes " to ") hi ++ then_number (codes " after ") previous ++ then_number (codes " attempt ")
+body_line from to (Own range term previous attempt) =
+    codes "own " ++ to ++ then_number (codes " term ") term ++ then_number (codes " table ") range.table ++
+    then_number (codes " from ") range.lo
+    ++ then_number (codes " to ") range.hi ++ then_number (codes " after ") previous ++ then_number (codes " attempt ")
     attempt ++ line_feed
 body_line from to (SplitOk table at) =
     then_number (codes "split table ") table ++ then_number (codes " at ") at ++ line_feed
@@ -72,7 +72,7 @@ counts_plan (Plan head attempt master rows parts) = 1
 counts_plan _ = 0
 
 abbrev pub counts_grant : Body → ℕ
-counts_grant (Own table lo hi term previous attempt) = 1
+counts_grant (Own range term previous attempt) = 1
 counts_grant _ = 0
 
 abbrev pub count_of : (Body → ℕ) → List Message → ℕ

@@ -1,17 +1,17 @@
 -- The tablets: a list in order of (table, lo), of ranges that do not overlap. A table that is there
 -- is covered from key 0 to the last one.
-use Rattle.std.specs.Prelude.{ℕ, ◌+◌, ◌-◌, Bool, true, false, not, nat_eq, nat_lt, nat_le, ◌&&◌, if◌then◌else◌}
+use Rattle.std.specs.Prelude.{ℕ, ◌+◌, ◌-◌, Bool, true, false, not, nat_eq, nat_lt, ◌&&◌, if◌then◌else◌}
 use Rattle.std.specs.Prelude.{List, [], ◌∷◌, Option, map, filter, find}
 use Rattle.std.specs.List.{list_any}
+use Rattle.rc_types.specs.Ranges.{all_keys, in_range}
 use Rattle.rc_types.specs.declared.ids.ServerId.{ServerId}
 use Rattle.rc_types.specs.declared.rows.Tablet.{Tablet}
 use Rattle.rc_types.specs.declared.rows.KeyRange.{KeyRange}
-use Rattle.rc_types.specs.declared.limits.TheConstants.{LAST_KEY}
 use Rattle.rc_model.specs.Ids.{same_id}
 
 -- the tablet holds the point (table, key)
 abbrev pub holds : Tablet → ℕ → ℕ → Bool
-holds tablet table key = nat_eq tablet.table table && (nat_le tablet.lo key && nat_le key tablet.hi)
+holds tablet table key = in_range tablet.range table key
 
 -- the tablet of a point: the first that holds it
 abbrev pub tablet_of : List Tablet → ℕ → ℕ → Option Tablet
@@ -19,7 +19,7 @@ tablet_of tablets table key = find (λ tablet. holds tablet table key) tablets
 
 -- some tablet of the table is there
 abbrev pub has_table : List Tablet → ℕ → Bool
-has_table tablets table = list_any (λ tablet. nat_eq tablet.table table) tablets
+has_table tablets table = list_any (λ tablet. nat_eq tablet.range.table table) tablets
 
 -- the tablets of one owner, in order
 abbrev pub tablets_of : ServerId → List Tablet → List Tablet
@@ -29,12 +29,11 @@ tablets_of owner tablets = filter (λ tablet. same_id owner tablet.owner) tablet
 abbrev pub insert_tablet : Tablet → List Tablet → List Tablet
 insert_tablet new [] = new ∷ []
 insert_tablet new (tablet ∷ tablets) =
-    if nat_lt new.table tablet.table then new ∷ tablet ∷ tablets else tablet ∷ insert_tablet new tablets
+    if nat_lt new.range.table tablet.range.table then new ∷ tablet ∷ tablets else tablet ∷ insert_tablet new tablets
 
 -- the whole of a table
 abbrev pub whole_table : ℕ → ServerId → ℕ → Tablet
-whole_table table owner term =
-    record { table = table; lo = 0; hi = LAST_KEY; owner = owner; term = term; crashed = false }
+whole_table table owner term = record { range = all_keys table; owner = owner; term = term; crashed = false }
 
 -- the tablets with a new table, all of it one tablet
 abbrev pub with_table : ℕ → ServerId → ℕ → List Tablet → List Tablet
@@ -55,16 +54,24 @@ count_to_mark owner (tablet ∷ tablets) =
     if same_id owner tablet.owner && not tablet.crashed then count_to_mark owner tablets + 1
     else count_to_mark owner tablets
 
+-- the keys of a tablet below this one, and those from it on
+abbrev pub lower_half : ℕ → Tablet → Tablet
+lower_half at tablet = record tablet { range = record tablet.range { hi = at - 1 } }
+
+abbrev pub upper_half : ℕ → Tablet → Tablet
+upper_half at tablet = record tablet { range = record tablet.range { lo = at } }
+
 -- the tablet that holds the point becomes two, of which the second begins at the point
 abbrev pub split_at : ℕ → ℕ → List Tablet → List Tablet
 split_at table at [] = []
 split_at table at (tablet ∷ tablets) =
-    if holds tablet table at then record tablet { hi = at - 1 } ∷ record tablet { lo = at } ∷ tablets
+    if holds tablet table at then lower_half at tablet ∷ upper_half at tablet ∷ tablets
     else tablet ∷ split_at table at tablets
 
 -- the tablet has exactly this range
 abbrev pub is_range : KeyRange → Tablet → Bool
-is_range range tablet = nat_eq tablet.table range.table && (nat_eq tablet.lo range.lo && nat_eq tablet.hi range.hi)
+is_range range tablet = nat_eq tablet.range.table range.table
+    && (nat_eq tablet.range.lo range.lo && nat_eq tablet.range.hi range.hi)
 
 -- some tablet has exactly this range
 abbrev pub has_range : KeyRange → List Tablet → Bool

@@ -6,7 +6,7 @@ use Rattle.rc_model.specs.Model.{NoTable, from_coordinator, to_each, coordinator
 use Rattle.rc_model.specs.Model.{put_id, ServerList, is_up, enlisted, crashed}
 use Rattle.rc_model.specs.Model.{id_crashed, up, whole_table, tablets_of, assigned, marked_crashed, split_at, greater_pair}
 use Rattle.rc_model.specs.Model.{Attempt, Decision, plan_messages, new_coordinator, refuses_server, list_body, spreads_list}
-use Rattle.rc_model.specs.Model.{begins_attempt, with_attempt, with_answer, decision_of, decides_on, own_body, range_of}
+use Rattle.rc_model.specs.Model.{begins_attempt, with_attempt, with_answer, decision_of, decides_on, own_body}
 use Rattle.rc_model.specs.Model.{grant_of, first_grant, coordinator_ticks, creates_table, is_too_many, NodeWork, coordinator_step, Pair}
 use Rattle.rc_types.specs.declared.rows.Plan.{Plan}
 use Rattle.rc_model.specs.Coordinator.{Coordinator}
@@ -167,11 +167,11 @@ module _ (c : Coordinator) (n : ℕ) (h : CoordinatorWithin n c) where
     };
     decides = λ master attempt plan id ids is undecided picked. decided master attempt plan (id ∷ ids);
     grants = λ id number term part is has. says (record c {
-      tablets = assigned (range_of part) id part.term c.tablets;
+      tablets = assigned part.range id part.term c.tablets;
       grants = c.grants ++ grant_of number id part ∷ [];
     }) (from_coordinator id (own_body (grant_of number id part)))
-        (same c.ready c.least c.attempts (assigned (range_of part) id part.term c.tablets) (c.grants ++ grant_of number id part ∷ [])
-        refl (length-assigned (range_of part) id part.term c.tablets)) tt;
+        (same c.ready c.least c.attempts (assigned part.range id part.term c.tablets) (c.grants ++ grant_of number id part ∷ [])
+        refl (length-assigned part.range id part.term c.tablets)) tt;
     creates = λ table owner is fresh few. says (creates_table c table owner).0
         (from_coordinator owner (own_body (first_grant table owner (c.last_term + 1)))) (record {
           versions = omega (arith, h.versions);

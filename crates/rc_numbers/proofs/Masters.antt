@@ -95,10 +95,10 @@ module _ (n : ℕ) where
       log = h.log;
       ownership = put_data-within n term seg holder entries master.ownership (subst (body_within n) says_so p) h.ownership;
     });
-    owns = λ table lo hi term previous attempt is h. none (record {
+    owns = λ range term previous attempt is h. none (record {
       log = h.log;
       ownership = grant-within n
-          (record { range = record { table = table; lo = lo; hi = hi }; term = term }) master.ownership h.ownership;
+          (record { range = range; term = term }) master.ownership h.ownership;
     });
   }
 

@@ -1,6 +1,7 @@
 -- How long the lists of tablets and of parts get.
-use Rattle.std.proofs.Common.{◌≡◌, ℕ, ◌+◌, ◌-◌, ◌≤◌, ◌%◌, false, List, [], ◌∷◌, length, Option, Some, None, slice_get, refl, arith}
-use Rattle.rc_model.specs.Model.{ServerId, Tablet, KeyRange, same_id, holds, insert_tablet, tablets_of, marked_crashed, split_at}
+use Rattle.std.proofs.Common.{◌≡◌, ℕ, ◌+◌, ◌≤◌, ◌%◌, false, List, [], ◌∷◌, length, Option, Some, None, slice_get, refl, arith}
+use Rattle.rc_model.specs.Model.{lower_half, upper_half, ServerId, Tablet, KeyRange, same_id, holds, insert_tablet, tablets_of}
+use Rattle.rc_model.specs.Model.{marked_crashed, split_at}
 use Rattle.rc_model.specs.Model.{is_range, assigned, GivenPart, part_of, given_to, gives_parts}
 use Rattle.rc_model.proofs.Tests.{either}
 
@@ -33,7 +34,7 @@ pub length-split : (table at : ℕ) (tablets : List Tablet) → length (split_at
 length-split table at [] = omega arith
 length-split table at (tablet ∷ tablets) =
     either (λ (after : List Tablet). length after ≤ length (tablet ∷ tablets) + 1) (holds tablet table at)
-    (record tablet { hi = at - 1 } ∷ record tablet { lo = at } ∷ tablets) (tablet ∷ split_at table at tablets)
+    (lower_half at tablet ∷ upper_half at tablet ∷ tablets) (tablet ∷ split_at table at tablets)
     (λ e. omega arith)
     (λ e. omega (arith, length-split table at tablets))
 

@@ -3,7 +3,7 @@ use Rattle.std.proofs.Common.{◌≡◌, ◌⊎◌, ℕ, suc, ◌+◌, ◌%◌, 
 use Rattle.std.proofs.Common.{length, slice_get, Option, Some, None, refl, sym, ap, ◌∙◌, subst, inl, inr, arith}
 use native.Mathlib.Nat.{mod-lt}
 use Rattle.rc_model.specs.Model.{ServerId, Tablet, Grant, same_id, holds, tablet_of, tablets_of, GivenPart, part_of, given_to}
-use Rattle.rc_model.specs.Model.{gives_parts, range_of, in_range, In}
+use Rattle.rc_model.specs.Model.{gives_parts, in_range, In}
 use Rattle.rc_step_laws.proofs.Lists.{get-below}
 use Rattle.rc_owner_laws.specs.Grants.{TabletsApart, grants_at, IsChain, NoneTo, OwnersDiffer, PartsApart}
 use Rattle.rc_owner_laws.proofs.Tablets.{some-none}
@@ -162,10 +162,10 @@ parts-apart ids place term (tablet ∷ tablets) apart =
     by (slice_get ids (place % length ids)) (parts-apart ids (place + 1) (term + 1) tablets apart.1)
   where
     differ : (other : GivenPart) (table key : ℕ) → In other (gives_parts ids (place + 1) (term + 1) tablets) →
-        holds tablet table key ≡ true → in_range (range_of other.part) table key ≡ true → ⊥
+        holds tablet table key ≡ true → in_range other.part.range table key ≡ true → ⊥
     differ other table key at here there =
         let of : IsPartOf tablets (term + 1) other = part-of ids (place + 1) (term + 1) tablets other at in
-        let held : holds of.tablet table key ≡ true = sym (ap (λ part. in_range (range_of part) table key) of.part_is) ∙ there in
+        let held : holds of.tablet table key ≡ true = sym (ap (λ part. in_range part.range table key) of.part_is) ∙ there in
         some-none (sym (found-at tablets of.tablet table key apart.1 of.among held) ∙ apart.0 table key here)
 
     by : (to : Option ServerId) → PartsApart (gives_parts ids (place + 1) (term + 1) tablets) →
@@ -175,11 +175,11 @@ parts-apart ids place term (tablet ∷ tablets) apart =
 
 -- two parts that hold one point are one
 pub part-once : (parts : List GivenPart) (one other : GivenPart) (table key : ℕ) → PartsApart parts → In one parts → In other parts →
-    in_range (range_of one.part) table key ≡ true → in_range (range_of other.part) table key ≡ true → one ≡ other
+    in_range one.part.range table key ≡ true → in_range other.part.range table key ≡ true → one ≡ other
 part-once [] one other table key apart at there p q = absurd at
 part-once (first ∷ parts) one other table key apart (inl a) (inl b) p q = a ∙ sym b
 part-once (first ∷ parts) one other table key apart (inl a) (inr rest) p q =
-    absurd (apart.0 other table key rest (subst (λ (given : GivenPart). in_range (range_of given.part) table key ≡ true) a p) q)
+    absurd (apart.0 other table key rest (subst (λ (given : GivenPart). in_range given.part.range table key ≡ true) a p) q)
 part-once (first ∷ parts) one other table key apart (inr rest) (inl b) p q =
-    absurd (apart.0 one table key rest (subst (λ (given : GivenPart). in_range (range_of given.part) table key ≡ true) b q) p)
+    absurd (apart.0 one table key rest (subst (λ (given : GivenPart). in_range given.part.range table key ≡ true) b q) p)
 part-once (first ∷ parts) one other table key apart (inr here) (inr there) p q = part-once parts one other table key apart.1 here there p q

@@ -5,7 +5,7 @@ use Rattle.std.proofs.lemmas.Bool.{and_parts, eqb-true, eq-eqb}
 use Rattle.std.proofs.lemmas.Bool.Decides.{nat_tests}
 use Rattle.rc_model.specs.Model.{ServerId, Addr, Server, Setup, Event, NoTable, Deposed, Part, Grant, Message, Own, same_id}
 use Rattle.rc_model.specs.Model.{from_coordinator, is_up, has_range, assigned, Attempt, GivenPart, parts_of, refuses_server, attempt_at}
-use Rattle.rc_model.specs.Model.{is_current, own_body, range_of, grant_of, is_grant_to, grant_to, part_in, part_of_sender}
+use Rattle.rc_model.specs.Model.{is_current, own_body, grant_of, is_grant_to, grant_to, part_in, part_of_sender}
 use Rattle.rc_model.specs.Model.{takes_recovered, NodeWork, coordinator_step, outside_sends, server_of}
 use Rattle.rc_model.specs.Model.{host_step, next_server, World, opening, NodeName, TheOutside, TheCoordinator, TheHost, Job, job_of}
 use Rattle.rc_model.specs.Model.{is_possible, node_done, job_done, step, replay_from, replay, In, Enlist, to_coordinator, grants_anew}
@@ -144,12 +144,10 @@ module _ (setup : Setup) (events : List Event) (id : ServerId) (number : ℕ) (m
   -- what was granted was sent
   owned : IsGiven (replay setup events).coordinator.grants (gives id part) → IsOwned (replay setup events).sent id part
   owned is = record {
-    table = is.grant.range.table;
-    lo = is.grant.range.lo;
-    hi = is.grant.range.hi;
+    range = is.grant.range;
     previous = is.grant.previous;
     attempt = is.grant.attempt;
-    owned = subst (λ n. In (from_coordinator id (Own is.grant.range.table is.grant.range.lo is.grant.range.hi n
+    owned = subst (λ n. In (from_coordinator id (Own is.grant.range n
         is.grant.previous is.grant.attempt)) (replay setup events).sent) is.term
         (subst (λ (m : ServerId). In (from_coordinator m (own_body is.grant)) (replay setup events).sent) is.owner
         (grants.kept.told is.grant is.among));
@@ -215,7 +213,7 @@ module _ (setup : Setup) (events : List Event) (id : ServerId) (number : ℕ) (m
         none
         ∙ (ap (λ (found : Option Part). (by_part (replay setup events).coordinator id number found).1) is
         ∙ ap (λ b. (cond b (grants_anew (replay setup events).coordinator
-        (assigned (range_of mine) id mine.term (replay setup events).coordinator.tablets) (grant_of number id mine))
+        (assigned mine.range id mine.term (replay setup events).coordinator.tablets) (grant_of number id mine))
         ((replay setup events).coordinator, refuses_server id NoTable ∷ [])).1) has));
   }
     where
@@ -227,7 +225,7 @@ module _ (setup : Setup) (events : List Event) (id : ServerId) (number : ℕ) (m
           number part.term mine (attempt_at (replay setup events).coordinator number)
           (numbered-at (replay setup events).coordinator number) is
 
-      has : has_range (range_of mine) (replay setup events).coordinator.tablets ≡ true
+      has : has_range mine.range (replay setup events).coordinator.tablets ≡ true
       has = ranged (replay setup events).coordinator.tablets sender.attempt.master mine
           (sender-waits (replay setup events).sent (replay setup events).coordinator good.coordinator grants.good
           tablets id number part.term mine sender none)

@@ -1,6 +1,6 @@
 -- What holds of tablets and grants stays so where no grant is made, and where one is.
 use Rattle.std.proofs.Common.{◌≡◌, ◌⊎◌, ℕ, ◌<◌, ◌≤◌, Bool, true, false, List, [], ◌∷◌, ◌++◌, Some, sym, ap, ◌∙◌, subst, inl, inr, arith}
-use Rattle.rc_model.specs.Model.{ServerId, Pair, Tablet, Grant, ServerList, has_crashed, Attempt, Decision, GivenPart, range_of, in_range}
+use Rattle.rc_model.specs.Model.{ServerId, Pair, Tablet, Grant, ServerList, has_crashed, Attempt, Decision, GivenPart, in_range}
 use Rattle.rc_model.specs.Model.{In}
 use Rattle.rc_model.specs.Coordinator.{Coordinator}
 use Rattle.rc_model.proofs.Members.{In-left, In-append}
@@ -65,7 +65,7 @@ pub record IsNewGrant (c : Coordinator) (tablets : List Tablet) (grant : Grant) 
   pub elsewhere : (number : ℕ) (master : ServerId) (decision : Decision) → IsDecided c.attempts number master decision →
       c.current master ≡ number →
       (given : GivenPart) → In given decision.parts → (IsGiven (c.grants ++ grant ∷ []) given → ⊥) →
-      (table key : ℕ) → in_range (range_of given.part) table key ≡ true → in_range grant.range table key ≡ true → ⊥
+      (table key : ℕ) → in_range given.part.range table key ≡ true → in_range grant.range table key ≡ true → ⊥
 
 pub granted-good : (c : Coordinator) → GoodGrants c → (tablets : List Tablet) (grant : Grant) (last : ℕ) → IsNewGrant c tablets grant last →
     GoodGrants (record c { tablets = tablets; grants = c.grants ++ grant ∷ []; last_term = last })

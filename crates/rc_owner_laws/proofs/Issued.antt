@@ -15,9 +15,7 @@ abbrev pub of_grant : Grant → Issue
 of_grant grant = record {
   term = grant.term;
   to = Server grant.owner;
-  table = grant.range.table;
-  lo = grant.range.lo;
-  hi = grant.range.hi;
+  range = grant.range;
   previous = grant.previous;
   attempt = grant.attempt;
 }
@@ -54,18 +52,16 @@ module _ (sent : List Message) (c : Coordinator) (good : GoodTerms sent c) (kept
         is = λ i. record {
           term = p.term_is i;
           to = Server grant.owner;
-          table = (p.range_is i).table;
-          lo = (p.range_is i).lo;
-          hi = (p.range_is i).hi;
+          range = p.range_is i;
           previous = p.previous_is i;
           attempt = grant.attempt;
         };
       })
 
   of-body : (to : Addr) (says : Body) (issue : Issue) → own_said c to says → In issue (issues_in to says) → OfTable c issue ⊎ OfPart c issue
-  of-body to (Own table lo hi term before attempt) issue own at =
+  of-body to (Own range term before attempt) issue own at =
       by (subst (λ (says : Body). In issue (issues_in (Server own.grant.owner) says)) own.body_is
-      (subst (λ (addr : Addr). In issue (issues_in addr (Own table lo hi term before attempt))) own.to_is at))
+      (subst (λ (addr : Addr). In issue (issues_in addr (Own range term before attempt))) own.to_is at))
     where
       by : (issue ≡ of_grant own.grant) ⊎ ⊥ → OfTable c issue ⊎ OfPart c issue
       by (inl same) = subst (λ (one : Issue). OfTable c one ⊎ OfPart c one) (sym same) (of-grant own.grant own.among)

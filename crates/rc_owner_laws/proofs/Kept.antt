@@ -58,15 +58,15 @@ module _ (sent : List Message) (masters : ServerId → Master) (hosts : ℕ → 
       was : RangeWasGranted sent m one
       was = (all.parts.each m).granted one at
 
-      own : IsOwn c (Server m) (body.Own one.range.table one.range.lo one.range.hi one.term was.previous was.attempt)
+      own : IsOwn c (Server m) (body.Own one.range one.term was.previous was.attempt)
       own = subst (λ (to : Addr).
-          own_said c to (body.Own one.range.table one.range.lo one.range.hi one.term was.previous was.attempt)) was.to
+          own_said c to (body.Own one.range one.term was.previous was.attempt)) was.to
           (subst (own_said c was.message.to) was.says (all.kept.known was.message was.among))
 
       owner : ◌≡◌ {A = Addr} (Server m) (Server own.grant.owner) → m ≡ own.grant.owner
       owner e = cc
 
-      terms : body.Own one.range.table one.range.lo one.range.hi one.term was.previous was.attempt ≡ own_body
+      terms : body.Own one.range one.term was.previous was.attempt ≡ own_body
           own.grant → one.term ≡ own.grant.term
       terms e = cc
 

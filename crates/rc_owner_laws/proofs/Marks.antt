@@ -1,11 +1,12 @@
 -- Marked tablets stay, but for the one that is granted; and who is up stays up, but for whose tablets are marked.
-use Rattle.std.proofs.Common.{◌≡◌, ◌⊎◌, ℕ, ◌+◌, ◌-◌, ◌≤◌, Bool, true, false, cond, ◌||◌, List, [], ◌∷◌, ◌++◌, nat_eq}
+use Rattle.std.proofs.Common.{◌≡◌, ◌⊎◌, ℕ, ◌+◌, ◌≤◌, Bool, true, false, cond, ◌||◌, List, [], ◌∷◌, ◌++◌, nat_eq}
 use Rattle.std.proofs.Common.{nat_lt, Option, Some, None, refl, sym, ap, ◌∙◌, subst, inl, inr, arith}
 use Rattle.std.proofs.lemmas.Bool.{eqb-true}
 use Rattle.std.proofs.lemmas.Bool.Decides.{nat_tests}
-use Rattle.rc_model.specs.Model.{ServerId, Tablet, Part, KeyRange, same_id, id_before, insert_id, ids_in_order, ServerList, marked_up}
+use Rattle.rc_model.specs.Model.{lower_half, upper_half, ServerId, Tablet, Part, KeyRange, same_id, id_before, insert_id, ids_in_order}
+use Rattle.rc_model.specs.Model.{ServerList, marked_up}
 use Rattle.rc_model.specs.Model.{is_up, up_rows, up, index_crashed, enlisted, id_crashed, crashed, holds, tablet_of, mark_if_owned}
-use Rattle.rc_model.specs.Model.{marked_crashed, insert_tablet, split_at, is_range, has_range, assigned, up_of_host, range_of, in_range}
+use Rattle.rc_model.specs.Model.{marked_crashed, insert_tablet, split_at, is_range, has_range, assigned, up_of_host, in_range}
 use Rattle.rc_model.specs.Model.{In}
 use Rattle.rc_step_laws.specs.Words.{OnDifferentHosts}
 use Rattle.rc_step_laws.proofs.LogMoves.{apart-same}
@@ -51,7 +52,7 @@ pub record IsSplit (tablets : List Tablet) (table at : ℕ) : Type 0 where
   pub tablet : Tablet
   pub found : tablet_of tablets table at ≡ Some tablet
   pub within : holds tablet table at ≡ true
-  pub inside : nat_eq at tablet.lo ≡ false
+  pub inside : nat_eq at tablet.range.lo ≡ false
   pub unmarked : tablet.crashed ≡ false
 
 pub stay-split : (table at : ℕ) (tablets : List Tablet) (one : Tablet) → tablet_of tablets table at ≡ Some one →
@@ -63,7 +64,7 @@ stay-split table at (first ∷ tablets) one found unmarked tablet there e =
     by : (b : Bool) → holds first table at ≡ b → cond b (Some first) (tablet_of tablets table at) ≡ Some one →
         (tablet_of tablets table at ≡ Some one → In tablet tablets → tablet.crashed ≡ true →
         In tablet (split_at table at tablets)) → (tablet ≡ first) ⊎ In tablet tablets →
-        In tablet (cond b (record first { hi = at - 1 } ∷ record first { lo = at } ∷ tablets) (first ∷ split_at table at tablets))
+        In tablet (cond b (lower_half at first ∷ upper_half at first ∷ tablets) (first ∷ split_at table at tablets))
     by true is it rec (inl same) =
         let this : first ≡ one = cc in
         true_false (sym e ∙ (ap (λ (t : Tablet). t.crashed) same ∙
@@ -73,7 +74,7 @@ stay-split table at (first ∷ tablets) one found unmarked tablet there e =
     by false is it rec (inr rest) = inr (rec it rest e)
 
 pub each-split : (P : Tablet → Type 0) (table at : ℕ) (tablets : List Tablet) (one : Tablet) →
-    tablet_of tablets table at ≡ Some one → P (record one { hi = at - 1 }) → P (record one { lo = at }) →
+    tablet_of tablets table at ≡ Some one → P (lower_half at one) → P (upper_half at one) →
     EachTablet P tablets → EachTablet P (split_at table at tablets)
 each-split P table at [] one found lower upper each tablet there = absurd there
 each-split P table at (first ∷ tablets) one found lower upper each tablet there =
@@ -82,12 +83,12 @@ each-split P table at (first ∷ tablets) one found lower upper each tablet ther
   where
     by : (b : Bool) → holds first table at ≡ b → cond b (Some first) (tablet_of tablets table at) ≡ Some one →
         (tablet_of tablets table at ≡ Some one → In tablet (split_at table at tablets) → P tablet) →
-        In tablet (cond b (record first { hi = at - 1 } ∷ record first { lo = at } ∷ tablets)
+        In tablet (cond b (lower_half at first ∷ upper_half at first ∷ tablets)
         (first ∷ split_at table at tablets)) → P tablet
     by true is it rec (inl same) =
-        let this : first ≡ one = cc in subst P (sym same) (subst (λ (t : Tablet). P (record t { hi = at - 1 })) (sym this) lower)
+        let this : first ≡ one = cc in subst P (sym same) (subst (λ (t : Tablet). P (lower_half at t)) (sym this) lower)
     by true is it rec (inr (inl same)) =
-        let this : first ≡ one = cc in subst P (sym same) (subst (λ (t : Tablet). P (record t { lo = at })) (sym this) upper)
+        let this : first ≡ one = cc in subst P (sym same) (subst (λ (t : Tablet). P (upper_half at t)) (sym this) upper)
     by true is it rec (inr (inr rest)) = each tablet (inr rest)
     by false is it rec (inl same) = each tablet (inl same)
     by false is it rec (inr rest) = rec it rest
@@ -97,7 +98,7 @@ each-split P table at (first ∷ tablets) one found lower upper each tablet ther
 pub stay-inserted : (new : Tablet) (tablets : List Tablet) → MarkedStay tablets (insert_tablet new tablets)
 stay-inserted new [] tablet at e = absurd at
 stay-inserted new (first ∷ tablets) tablet at e =
-    either (In tablet) (nat_lt new.table first.table) (new ∷ first ∷ tablets) (first ∷ insert_tablet new tablets)
+    either (In tablet) (nat_lt new.range.table first.range.table) (new ∷ first ∷ tablets) (first ∷ insert_tablet new tablets)
     (λ _. inr at) (λ _. by (λ rest. stay-inserted new tablets tablet rest e) at)
   where
     by : (In tablet tablets → In tablet (insert_tablet new tablets)) → (tablet ≡ first) ⊎ In tablet tablets →
@@ -110,7 +111,7 @@ pub each-inserted : (P : Tablet → Type 0) (new : Tablet) (tablets : List Table
 each-inserted P new [] p each tablet (inl same) = subst P (sym same) p
 each-inserted P new [] p each tablet (inr never) = absurd never
 each-inserted P new (first ∷ tablets) p each tablet at =
-    either (λ (now : List Tablet). In tablet now → P tablet) (nat_lt new.table first.table) (new ∷ first ∷ tablets)
+    either (λ (now : List Tablet). In tablet now → P tablet) (nat_lt new.range.table first.range.table) (new ∷ first ∷ tablets)
     (first ∷ insert_tablet new tablets)
     (λ _ there. here there) (λ _ there. by there (each-inserted P new tablets p (λ one rest. each one (inr rest)) tablet)) at
   where
@@ -164,15 +165,15 @@ stay-assigned range id term (first ∷ tablets) tablet at differs =
 
 -- it has the part's range
 pub its-range : (tablets : List Tablet) (owner : ServerId) (part : Part) → (is : IsTablet tablets owner part) →
-    is_range (range_of part) is.tablet ≡ true
-its-range tablets owner part is = by is.tablet is.table is.lo is.hi
+    is_range part.range is.tablet ≡ true
+its-range tablets owner part is = subst (λ (range : KeyRange). is_range range is.tablet ≡ true) is.range (its-own is.tablet)
   where
-    by : (tablet : Tablet) → tablet.table ≡ part.table → tablet.lo ≡ part.lo → tablet.hi ≡ part.hi → is_range (range_of part) tablet ≡ true
-    by tablet p q r = grind (arith, nat_tests)
+    its-own : (tablet : Tablet) → is_range tablet.range tablet ≡ true
+    its-own tablet = grind (arith, nat_tests)
 
 -- a tablet's first key is in its range
-pub first-key : (range : KeyRange) (tablet : Tablet) → is_range range tablet ≡ true → tablet.lo ≤ tablet.hi →
-    in_range range tablet.table tablet.lo ≡ true
+pub first-key : (range : KeyRange) (tablet : Tablet) → is_range range tablet ≡ true → tablet.range.lo ≤ tablet.range.hi →
+    in_range range tablet.range.table tablet.range.lo ≡ true
 first-key range tablet is upto = grind (arith, nat_tests)
 
 in-ranged : (range : KeyRange) (tablets : List Tablet) (tablet : Tablet) → In tablet tablets →
@@ -187,8 +188,8 @@ in-ranged range (first ∷ tablets) tablet (inr rest) is = by (is_range range fi
 
 -- so there is a tablet of the part's range
 pub ranged : (tablets : List Tablet) (owner : ServerId) (part : Part) → IsTablet tablets owner part →
-    has_range (range_of part) tablets ≡ true
-ranged tablets owner part is = in-ranged (range_of part) tablets is.tablet is.among (its-range tablets owner part is)
+    has_range part.range tablets ≡ true
+ranged tablets owner part is = in-ranged part.range tablets is.tablet is.among (its-range tablets owner part is)
 
 -- it is one of other tablets in which it stands
 pub tablet-in : (tablets now : List Tablet) (owner : ServerId) (part : Part) → (is : IsTablet tablets owner part) →
@@ -197,9 +198,7 @@ tablet-in tablets now owner part is at =
     record {
       tablet = is.tablet;
       among = at;
-      table = is.table;
-      lo = is.lo;
-      hi = is.hi;
+      range = is.range;
       term = is.term;
       owner_is = is.owner_is;
       marked = is.marked;

@@ -33,19 +33,19 @@ others sent c messages p says = record { good = p.good; kept = kept-others sent 
 
 by_master : (c : Coordinator) (sent sent_now : List Message) (m : ServerId) (old log : Log) (to : Addr) (says : Body) →
     body_said sent sent_now m old log to says → own_said c to says
-by_master c sent sent_now m old log to (body.Own table lo hi term before attempt) said = absurd said
+by_master c sent sent_now m old log to (body.Own range term before attempt) said = absurd said
 by_master c sent sent_now m old log to (body.Plan head number master rows parts) said = absurd said
 by_master c sent sent_now m old log to _ said = tt
 
 by_backup : (c : Coordinator) (sent : List Message) (masters : ServerId → Master) (hosts : ℕ → HostNode)
     (host : HostNode) (backup : Backup) (to : Addr) (says : Body) →
     backup_body_said sent masters hosts c host backup to says → own_said c to says
-by_backup c sent masters hosts host backup to (body.Own table lo hi term before attempt) said = absurd said
+by_backup c sent masters hosts host backup to (body.Own range term before attempt) said = absurd said
 by_backup c sent masters hosts host backup to (body.Plan head number master rows parts) said = absurd said
 by_backup c sent masters hosts host backup to _ said = tt
 
 by_clients : (c : Coordinator) (to : Addr) (says : Body) → is_for_clients says ≡ true → own_said c to says
-by_clients c to (body.Own table lo hi term before attempt) e = true_false (sym e)
+by_clients c to (body.Own range term before attempt) e = true_false (sym e)
 by_clients c to (body.Plan head number master rows parts) e = true_false (sym e)
 by_clients c to _ e = tt
 

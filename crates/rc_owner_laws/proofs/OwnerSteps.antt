@@ -14,7 +14,7 @@ use Rattle.rc_model.specs.Model.{plan_messages, gives_parts, new_coordinator, re
 use Rattle.rc_model.specs.Model.{list_body, spreads_list, begins_attempt, attempt_at}
 use Rattle.rc_model.specs.Model.{with_attempt}
 use Rattle.rc_model.specs.Model.{with_answer, decision_of, decides_on}
-use Rattle.rc_model.specs.Model.{own_body, range_of, grant_of, is_grant_to, grant_to}
+use Rattle.rc_model.specs.Model.{own_body, grant_of, is_grant_to, grant_to}
 use Rattle.rc_model.specs.Model.{first_grant}
 use Rattle.rc_model.specs.Model.{coordinator_ticks, NodeWork, coordinator_step}
 use Rattle.rc_model.specs.Model.{in_range, In}
@@ -39,7 +39,7 @@ use Rattle.rc_model.proofs.Tests.{true_false}
 use Rattle.rc_step_laws.proofs.Tests.{find-one}
 
 -- a split begins above its tablet's first key
-above-first : (table at : ℕ) (tablet : Tablet) → holds tablet table at ≡ true → nat_eq at tablet.lo ≡ false → 0 < at
+above-first : (table at : ℕ) (tablet : Tablet) → holds tablet table at ≡ true → nat_eq at tablet.range.lo ≡ false → 0 < at
 above-first table at tablet p q = grind (arith, nat_tests)
 
 module _ (sent : List Message) (c : Coordinator) (base : GoodCoordinator sent c) (good : GoodGrants c) where
@@ -166,11 +166,11 @@ module _ (sent : List Message) (c : Coordinator) (base : GoodCoordinator sent c)
 
       -- the tablet of a part, at one of its points
       owned : (given : GivenPart) → IsPartOf (tablets_of attempt.master c.tablets) (c.last_term + 1) given →
-          (table key : ℕ) → in_range (range_of given.part) table key ≡ true →
+          (table key : ℕ) → in_range given.part.range table key ≡ true →
           owner_at c.tablets table key ≡ Some (attempt.master, given.part.previous)
       owned given of table key within =
           let mine : In of.tablet c.tablets × (of.tablet.owner ≡ attempt.master) = of_owner attempt.master c.tablets of.tablet of.among in
-          let held : holds of.tablet table key ≡ true = sym (ap (λ part. in_range (range_of part) table key) of.part_is) ∙ within in
+          let held : holds of.tablet table key ≡ true = sym (ap (λ part. in_range part.range table key) of.part_is) ∙ within in
           ap owner_found (found-at c.tablets of.tablet table key good.apart mine.0 held)
           ∙ (ap (λ (m : ServerId). Some (m, of.tablet.term)) mine.1 ∙
           ap (λ (part : Part). Some (attempt.master, part.previous)) (sym of.part_is))
@@ -184,7 +184,7 @@ module _ (sent : List Message) (c : Coordinator) (base : GoodCoordinator sent c)
           ((master ≡ attempt.master) × (decision ≡ decision_of c number attempt.master plan (id ∷ ids))) →
           (given.part.term ≤ c.last_term + length (gives_parts (id ∷ ids) (number - 1) (c.last_term + 1)
           (tablets_of attempt.master c.tablets))) ×
-          ((table key : ℕ) → in_range (range_of given.part) table key ≡ true →
+          ((table key : ℕ) → in_range given.part.range table key ≡ true →
           given.part.previous < given.part.term)
       fresh_by other master decision given at (inl old) = (
         (let one : given.part.term ≤ c.last_term = (good.fresh other master decision old given at).0 in
@@ -217,7 +217,7 @@ module _ (sent : List Message) (c : Coordinator) (base : GoodCoordinator sent c)
 
       waiting_by : (other : ℕ) (master : ServerId) (decision : Decision) → c.current master ≡ other →
           (given : GivenPart) → In given decision.parts → (IsGiven c.grants given → ⊥) → (table key : ℕ) →
-          in_range (range_of given.part) table key ≡ true →
+          in_range given.part.range table key ≡ true →
           IsDecided c.attempts other master decision ⊎
           ((master ≡ attempt.master) × (decision ≡ decision_of c number attempt.master plan (id ∷ ids))) →
           owner_at c.tablets table key ≡ Some (master, given.part.previous)
@@ -273,12 +273,12 @@ module _ (sent : List Message) (c : Coordinator) (base : GoodCoordinator sent c)
       told one (inr (inr never)) = absurd never
 
   pub new-grant : (id : ServerId) (number term : ℕ) (part : Part) → IsSenders c id number term part →
-      is_up c.servers id ≡ true → grant_to c id term ≡ None → has_range (range_of part) c.tablets ≡ true →
-      IsNewGrant c (assigned (range_of part) id part.term c.tablets) (grant_of number id part) c.last_term
+      is_up c.servers id ≡ true → grant_to c id term ≡ None → has_range part.range c.tablets ≡ true →
+      IsNewGrant c (assigned part.range id part.term c.tablets) (grant_of number id part) c.last_term
   new-grant id number term part mine is_up_now none has = record {
-    apart = apart-assigned (range_of part) id part.term c.tablets good.apart;
-    within = λ table key e. assigned-within (range_of part) id part.term c.tablets table key good.apart has e;
-    beside = λ table key e. ap (option_map owner_of) (assigned-beside (range_of part) id part.term c.tablets table key e);
+    apart = apart-assigned part.range id part.term c.tablets good.apart;
+    within = λ table key e. assigned-within part.range id part.term c.tablets table key good.apart has e;
+    beside = λ table key e. ap (option_map owner_of) (assigned-beside part.range id part.term c.tablets table key e);
     previous = λ table key e. sym (ap term_in (waits table key e));
     rises = λ table key e. (good.fresh number mine.attempt.master mine.decision is_decided (gives id part) mine.among).1 table key e;
     gone = λ table key m n e owned. subst (λ (k : ServerId). has_crashed c.servers k ≡ true)
@@ -301,7 +301,7 @@ module _ (sent : List Message) (c : Coordinator) (base : GoodCoordinator sent c)
       not_yet : IsGiven c.grants (gives id part) → ⊥
       not_yet = senders-open c id number term part mine none
 
-      waits : (table key : ℕ) → in_range (range_of part) table key ≡ true →
+      waits : (table key : ℕ) → in_range part.range table key ≡ true →
           owner_at c.tablets table key ≡ Some (mine.attempt.master, part.previous)
       waits table key e = good.waiting number mine.attempt.master mine.decision is_decided mine.current (gives id part)
           mine.among not_yet table key e
@@ -315,7 +315,7 @@ module _ (sent : List Message) (c : Coordinator) (base : GoodCoordinator sent c)
       clash : (other : ℕ) (master : ServerId) (decision : Decision) → IsDecided c.attempts other master decision →
           c.current master ≡ other → (given : GivenPart) → In given decision.parts →
           (IsGiven (c.grants ++ grant_of number id part ∷ []) given → ⊥) → (table key : ℕ) →
-          in_range (range_of given.part) table key ≡ true → in_range (range_of part) table key ≡ true →
+          in_range given.part.range table key ≡ true → in_range part.range table key ≡ true →
           master ≡ mine.attempt.master → ⊥
       clash other master decision decided current given at not_given table key within e same =
           not_given (subst (λ (one : GivenPart). IsGiven (c.grants ++ grant_of number id part ∷ []) one) (sym is_this) (record {
@@ -395,7 +395,7 @@ module _ (sent : List Message) (c : Coordinator) (base : GoodCoordinator sent c)
         (each-none (OwnSaid (with_attempt c number (with_answer from rows attempt))));
     decides = λ master attempt plan id ids is undecided picked.
         decided-moved (c.current master) attempt plan id ids (numbered-at c (c.current master) attempt is);
-    grants = λ id number term part is has. granted (assigned (range_of part) id part.term c.tablets) (grant_of number id part) c.last_term
+    grants = λ id number term part is has. granted (assigned part.range id part.term c.tablets) (grant_of number id part) c.last_term
         (new-grant id number term part (senders c id number term part (attempt_at c number) (numbered-at c number) is.found)
         is.up is.ungranted has);
     creates = λ table owner is fresh room. granted (with_table table owner (c.last_term + 1) c.tablets)

@@ -17,7 +17,7 @@ use Rattle.rc_owner_laws.proofs.Keeping.{decided-later}
 said-later : (old new : Coordinator) → CoordinatorLater old new →
     ((grant : Grant) → In grant old.grants → In grant new.grants) → (to : Addr) (body : Body) → own_said old to body →
     own_said new to body
-said-later old new later more to (Own table lo hi term before attempt) is =
+said-later old new later more to (Own range term before attempt) is =
     record { grant = is.grant; among = more is.grant is.among; to_is = is.to_is; body_is = is.body_is }
 said-later old new later more to (PlanBody head number master rows parts) is = record {
   id = is.id;

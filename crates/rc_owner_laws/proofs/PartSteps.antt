@@ -3,7 +3,8 @@ use Rattle.std.proofs.Common.{◌-◌, drop, take, ◌≡◌, ◌⊎◌, ℕ, ze
 use Rattle.std.proofs.Common.{map, filter, nat_lt, find, Option, Some, None, option_map, refl, sym, ap, ◌∙◌, subst, inl, inr, arith}
 use Rattle.std.proofs.lemmas.Bool.{and_parts, ltb-true}
 use Rattle.std.proofs.lemmas.List.{append-nil}
-use Rattle.rc_model.specs.Model.{ServerId, Addr, Server, Outside, Entry, Part, PlanRow, GrantedRange, Fault, Message, Body, between}
+use Rattle.rc_model.specs.Model.{ServerId, Addr, Server, Outside, Entry, KeyRange, Part, PlanRow, GrantedRange, Fault, Message, Body}
+use Rattle.rc_model.specs.Model.{between}
 use Rattle.rc_model.specs.Model.{to_coordinator, refuses, from_rows, Log, LogPlace, places_of, head_of, is_writing, durable_now, stored}
 use Rattle.rc_model.specs.Model.{commit_noted, PartState, Ownership, term_of, owns_term, knows_term, put_data, grant, is_to_answer}
 use Rattle.rc_model.specs.Model.{is_complete, to_answer, after_answer, after_replay, Master, Task, with_log, durable_replayed, ids_of}
@@ -378,13 +379,13 @@ module _ (sent : List Message) (m : ServerId) where
       hears Coordinator p = p
       hears Outside p = p
 
-  own-heard : (from : Addr) (v : PartView) (table lo hi term before attempt : ℕ) →
-      PartsHear sent m v from (body.Own table lo hi term before attempt) →
-      In (record { from = from; to = Server m; body = body.Own table lo hi term before attempt }) sent ×
+  own-heard : (from : Addr) (v : PartView) (range : KeyRange) (term before attempt : ℕ) →
+      PartsHear sent m v from (body.Own range term before attempt) →
+      In (record { from = from; to = Server m; body = body.Own range term before attempt }) sent ×
       ((state : PartState) → In state v.own.parts → state.part.term ≡ term → IsComplete v term)
-  own-heard (Server x) v table lo hi term before attempt p = p
-  own-heard Coordinator v table lo hi term before attempt p = p
-  own-heard Outside v table lo hi term before attempt p = p
+  own-heard (Server x) v range term before attempt p = p
+  own-heard Coordinator v range term before attempt p = p
+  own-heard Outside v range term before attempt p = p
 
   parts-taken : (master : Master) (from : Addr) (says : Body) → PartsHear sent m (part_view master) from says →
       Taken (Kept sent m) master from says
@@ -405,11 +406,11 @@ module _ (sent : List Message) (m : ServerId) where
         (planned-heard from (part_view master) attempt crashed seg rows parts (heard is) part at) new;
     comes = λ holder attempt seg term entries is told head good. parts-data attempt seg term holder entries master head good
         (subst (λ (sender : Addr). PartsHear sent m (part_view master) sender (body.Data attempt seg term entries)) is (heard told));
-    owns = λ table lo hi term before attempt is head good. (
-        let p = own-heard from (part_view master) table lo hi term before attempt (heard is) in
-        parts-grant (record { range = record { table = table; lo = lo; hi = hi }; term = term }) master head good
+    owns = λ range term before attempt is head good. (
+        let p = own-heard from (part_view master) range term before attempt (heard is) in
+        parts-grant (record { range = range; term = term }) master head good
         (record {
-          message = record { from = from; to = Server m; body = body.Own table lo hi term before attempt };
+          message = record { from = from; to = Server m; body = body.Own range term before attempt };
           among = p.0;
           to = refl;
           previous = before;

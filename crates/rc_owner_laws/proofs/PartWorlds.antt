@@ -123,15 +123,14 @@ module _ (world : World) (grants : OfWorld world) (terms : GoodTerms world.sent 
       PartsHear world.sent m (part_view (world.masters m)) from says
   hears-parts m from (body.Plan seg attempt crashed rows parts) at = at
   hears-parts m (Server x) (body.Data attempt seg term entries) at = at
-  hears-parts m from (body.Own table lo hi term before attempt) at = (
+  hears-parts m from (body.Own range term before attempt) at = (
     at,
     λ state there same. (
-        let said : IsOwn world.coordinator (Server m) (body.Own table lo hi term before attempt) =
+        let said : IsOwn world.coordinator (Server m) (body.Own range term before attempt) =
         grants.kept.known (record {
           from = from;
           to = Server m;
-          body = body.Own table lo hi
-              term before attempt;
+          body = body.Own range term before attempt;
         }) at in
         ended m term state there same said.grant said.among (owner-is said.grant said.to_is) (term-is said.grant said.body_is)),
   )
@@ -140,7 +139,7 @@ module _ (world : World) (grants : OfWorld world) (terms : GoodTerms world.sent 
           grant.owner ≡ m
       owner-is grant same = cc
 
-      term-is : (grant : Grant) → body.Own table lo hi term before attempt ≡ own_body grant → grant.term ≡ term
+      term-is : (grant : Grant) → body.Own range term before attempt ≡ own_body grant → grant.term ≡ term
       term-is grant same = cc
   hears-parts m from _ at = tt
 

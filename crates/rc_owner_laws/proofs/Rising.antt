@@ -1,11 +1,11 @@
 -- A handover keeps what was acknowledged, so versions rise over the owners of a point.
-use Rattle.std.proofs.Common.{◌≡◌, ◌⊎◌, ℕ, zero, suc, ◌<◌, ◌≤◌, Bool, true, false, ◌&&◌, List, [], ◌∷◌, ◌++◌, length}
+use Rattle.std.proofs.Common.{◌≡◌, ◌⊎◌, ℕ, zero, suc, ◌<◌, ◌≤◌, true, List, [], ◌∷◌, ◌++◌, length}
 use Rattle.std.proofs.Common.{map, take, drop, nat_eq, slice_get, Some, refl, sym, ap, ◌∙◌, subst, inl, inr, arith}
-use Rattle.std.proofs.lemmas.Bool.{eqb-true, eq-eqb, and_from}
+use Rattle.std.proofs.lemmas.Bool.{eq-eqb, and_from}
 use Rattle.std.proofs.lemmas.List.{take-append-drop, length-map}
 use Rattle.rc_model.specs.Model.{ServerId, Addr, Server, Outside, Entry, Part, PlanRow, Grant, GrantedRange, Message, Body, Ack, Granted}
 use Rattle.rc_model.specs.Model.{grant_in, granted, covers, grants_of, IsBefore, previous, onward, IsEarlier, is_in_part, Log, LogPlace}
-use Rattle.rc_model.specs.Model.{places_of, in_range, under_term, count_under, Master, own_body, range_of, HostNode, In, WasAcknowledged}
+use Rattle.rc_model.specs.Model.{places_of, in_range, under_term, count_under, Master, own_body, HostNode, In, WasAcknowledged}
 use Rattle.rc_model.specs.Model.{HasAcknowledged, VersionsRise}
 use Rattle.rc_types.specs.declared.ids.Addr.TheVariants.{Coordinator as AtCoordinator}
 use Rattle.rc_types.specs.declared.messages.Body.TheVariants as body
@@ -24,7 +24,6 @@ use Rattle.rc_owner_laws.specs.Words.{IsKeptBy, Keeps}
 use Rattle.rc_owner_laws.specs.VersionClaims.{MayFree}
 use Rattle.rc_owner_laws.proofs.Rows.{in-order, CameFor, came-for}
 use Rattle.rc_owner_laws.proofs.Bases.{cut_of, IsTaskOf, task-of, task-ascends, row-cut, IsStarted, started, joined-begins, base-safe}
-use Rattle.rc_model.proofs.Tests.{true_false}
 
 -- Lists
 
@@ -49,25 +48,16 @@ In-taken (suc n) (y ∷ xs) (suc k) x less e = inr (In-taken n xs k x (omega ari
 -- A range holds a point
 
 range-holds : (part : Part) (entry : Entry) → entry.term ≡ part.previous →
-    in_range (range_of part) entry.table entry.key ≡ true → is_in_part part entry ≡ true
-range-holds part entry e holds = and_from (nat_eq entry.term part.previous) _ (eq-eqb entry.term part.previous e)
-    (turned (nat_eq part.table entry.table) (nat_eq entry.table part.table) _ turns holds)
-  where
-    turns : nat_eq part.table entry.table ≡ true → nat_eq entry.table part.table ≡ true
-    turns p = eq-eqb entry.table part.table (sym (eqb-true part.table entry.table p))
-
-    turned : (a b c : Bool) → (a ≡ true → b ≡ true) → (a && c) ≡ true → (b && c) ≡ true
-    turned true b c turn p = and_from b c (turn refl) p
-    turned false b c turn p = true_false (sym p)
+    in_range part.range entry.table entry.key ≡ true → is_in_part part entry ≡ true
+range-holds part entry e holds =
+    and_from (nat_eq entry.term part.previous) _ (eq-eqb entry.term part.previous e) holds
 
 -- Grants that were sent
 
 abbrev pub granted_of : Grant → Granted
 granted_of grant = record {
   owner = Server grant.owner;
-  table = grant.range.table;
-  lo = grant.range.lo;
-  hi = grant.range.hi;
+  range = grant.range;
   term = grant.term;
   previous = grant.previous;
   attempt = grant.attempt;
@@ -81,9 +71,9 @@ pub record IsRemembered (c : Coordinator) (one : Granted) : Type 0 where
 
 remembered-in : (c : Coordinator) (to : Addr) (says : Body) (one : Granted) → own_said c to says →
     In one (grant_in to says) → IsRemembered c one
-remembered-in c to (body.Own table lo hi term before attempt) one own at =
+remembered-in c to (body.Own range term before attempt) one own at =
     by (subst (λ (says : Body). In one (grant_in (Server own.grant.owner) says)) own.body_is
-    (subst (λ (addr : Addr). In one (grant_in addr (body.Own table lo hi term before attempt))) own.to_is at))
+    (subst (λ (addr : Addr). In one (grant_in addr (body.Own range term before attempt))) own.to_is at))
   where
     by : (one ≡ granted_of own.grant) ⊎ ⊥ → IsRemembered c one
     by (inl e) = record { grant = own.grant; among = own.among; is = e }
@@ -264,9 +254,9 @@ module _ (sent : List Message) (masters : ServerId → Master) (hosts : ℕ → 
         in_part : is_in_part s.task.part there.other ≡ true
         in_part = range-holds s.task.part there.other
             (there.term ∙ has_it.term_is ∙ given.previous_is ∙ ap (λ (part : Part). part.previous) (sym s.given_is))
-            (subst (λ k. in_range (range_of s.task.part) there.other.table k ≡ true) (sym key_same)
-            (subst (λ t. in_range (range_of s.task.part) t was.key ≡ true) (sym table_same)
-            (ap (λ (part : Part). in_range (range_of part) was.table was.key) s.given_is ∙
+            (subst (λ k. in_range s.task.part.range there.other.table k ≡ true) (sym key_same)
+            (subst (λ t. in_range s.task.part.range t was.key ≡ true) (sym table_same)
+            (ap (λ (part : Part). in_range part.range was.table was.key) s.given_is ∙
             ap (λ range. in_range range was.table was.key) (sym given.range_is) ∙ holds)))
 
         in_cut : In there.other (cut_of masters s.task row)
@@ -444,26 +434,22 @@ module _ (sent : List Message) (masters : ServerId → Master) (hosts : ℕ → 
       was : RangeWasGranted sent m granted
       was = (all.parts.each m).granted granted at
 
-      own : IsOwn c (Server m) (body.Own granted.range.table granted.range.lo granted.range.hi granted.term was.previous was.attempt)
+      own : IsOwn c (Server m) (body.Own granted.range granted.term was.previous was.attempt)
       own = subst (λ (to : Addr).
-          own_said c to (body.Own granted.range.table granted.range.lo granted.range.hi granted.term was.previous
+          own_said c to (body.Own granted.range granted.term was.previous
           was.attempt)) was.to
           (subst (own_said c was.message.to) was.says (all.kept.known was.message was.among))
 
       owner : ◌≡◌ {A = Addr} (Server m) (Server own.grant.owner) → m ≡ own.grant.owner
       owner e = cc
 
-      terms : body.Own granted.range.table granted.range.lo granted.range.hi granted.term was.previous
+      terms : body.Own granted.range granted.term was.previous
           was.attempt ≡ own_body own.grant → granted.term ≡ own.grant.term
       terms e = cc
 
-      ranges : body.Own granted.range.table granted.range.lo granted.range.hi granted.term was.previous
+      ranges : body.Own granted.range granted.term was.previous
           was.attempt ≡ own_body own.grant → granted.range ≡ own.grant.range
-      ranges e =
-          let a : granted.range.table ≡ own.grant.range.table = cc in
-          let b : granted.range.lo ≡ own.grant.range.lo = cc in
-          let d : granted.range.hi ≡ own.grant.range.hi = cc in
-          λ i. record { table = a i; lo = b i; hi = d i }
+      ranges e = cc
 
   -- Versions rise
 

@@ -1,9 +1,10 @@
 -- Tablets that do not overlap: who owns a point after each change of them.
-use Rattle.std.proofs.Common.{◌≡◌, ℕ, ◌-◌, ◌<◌, Bool, true, false, cond, ◌&&◌, ◌||◌, List, [], ◌∷◌, nat_eq}
+use Rattle.std.proofs.Common.{◌≡◌, ℕ, ◌<◌, Bool, true, false, cond, ◌&&◌, ◌||◌, List, [], ◌∷◌, nat_eq}
 use Rattle.std.proofs.Common.{nat_lt, nat_le, Option, Some, None, option_map, refl, sym, ap, ◌∙◌, subst, arith}
 use Rattle.std.proofs.lemmas.Bool.{eqb-true, and_parts}
 use Rattle.std.proofs.lemmas.Bool.Decides.{nat_tests}
-use Rattle.rc_model.specs.Model.{ServerId, Tablet, KeyRange, same_id, holds, tablet_of, has_table, insert_tablet, whole_table, with_table}
+use Rattle.rc_model.specs.Model.{lower_half, upper_half, ServerId, Tablet, KeyRange, same_id, holds, tablet_of, has_table, insert_tablet}
+use Rattle.rc_model.specs.Model.{whole_table, with_table}
 use Rattle.rc_model.specs.Model.{mark_if_owned, marked_crashed, split_at, is_range, has_range, assigned, in_range}
 use Rattle.rc_owner_laws.specs.Grants.{TabletsApart, owner_of, owner_at}
 use Rattle.rc_model.proofs.Tests.{true_false, either}
@@ -62,20 +63,20 @@ apart-marked owner (tablet ∷ tablets) apart = (
 
 -- Splits
 
-lower-lacks : (tablet : Tablet) (at table key : ℕ) → holds (record tablet { hi = at - 1 }) table key ≡ false →
-    holds tablet table key ≡ true → holds (record tablet { lo = at }) table key ≡ true
+lower-lacks : (tablet : Tablet) (at table key : ℕ) → holds (lower_half at tablet) table key ≡ false →
+    holds tablet table key ≡ true → holds (upper_half at tablet) table key ≡ true
 lower-lacks tablet at table key p q = grind (arith, nat_tests)
 
-upper-lacks : (tablet : Tablet) (at table key : ℕ) → 0 < at → holds (record tablet { hi = at - 1 }) table key ≡ true →
-    holds (record tablet { lo = at }) table key ≡ false
+upper-lacks : (tablet : Tablet) (at table key : ℕ) → 0 < at → holds (lower_half at tablet) table key ≡ true →
+    holds (upper_half at tablet) table key ≡ false
 upper-lacks tablet at table key p q = grind (arith, nat_tests)
 
 lower-within : (tablet : Tablet) (table at other key : ℕ) → holds tablet table at ≡ true →
-    holds (record tablet { hi = at - 1 }) other key ≡ true → holds tablet other key ≡ true
+    holds (lower_half at tablet) other key ≡ true → holds tablet other key ≡ true
 lower-within tablet table at other key p q = grind (arith, nat_tests)
 
 upper-within : (tablet : Tablet) (table at other key : ℕ) → holds tablet table at ≡ true →
-    holds (record tablet { lo = at }) other key ≡ true → holds tablet other key ≡ true
+    holds (upper_half at tablet) other key ≡ true → holds tablet other key ≡ true
 upper-within tablet table at other key p q = grind (arith, nat_tests)
 
 -- who owns a point stays so where its tablet is split
@@ -84,7 +85,7 @@ pub owner_at-split : (table at : ℕ) (tablets : List Tablet) (other key : ℕ) 
 owner_at-split table at [] other key = refl
 owner_at-split table at (tablet ∷ tablets) other key =
     either (λ (now : List Tablet). owner_at now other key ≡ owner_at (tablet ∷ tablets) other key) (holds tablet table at)
-    (record tablet { hi = at - 1 } ∷ record tablet { lo = at } ∷ tablets) (tablet ∷ split_at table at tablets)
+    (lower_half at tablet ∷ upper_half at tablet ∷ tablets) (tablet ∷ split_at table at tablets)
     (λ e. halves e) (λ _. rest (owner_at-split table at tablets other key))
   where
     rest : owner_at (split_at table at tablets) other key ≡ owner_at tablets other key →
@@ -96,19 +97,19 @@ owner_at-split table at (tablet ∷ tablets) other key =
         ∙ (rec ∙ sym (ap (option_map owner_of) (first-lacks tablet tablets other key e))))
 
     halves : holds tablet table at ≡ true →
-        owner_at (record tablet { hi = at - 1 } ∷ record tablet { lo = at } ∷ tablets) other key ≡ owner_at
+        owner_at (lower_half at tablet ∷ upper_half at tablet ∷ tablets) other key ≡ owner_at
         (tablet ∷ tablets) other key
-    halves e = split (holds (record tablet { hi = at - 1 }) other key)
-        (λ here. ap (option_map owner_of) (first-holds (record tablet { hi = at - 1 }) (record tablet { lo = at } ∷ tablets) other key here)
+    halves e = split (holds (lower_half at tablet) other key)
+        (λ here. ap (option_map owner_of) (first-holds (lower_half at tablet) (upper_half at tablet ∷ tablets) other key here)
         ∙ sym (ap (option_map owner_of) (first-holds tablet tablets other key (lower-within tablet table at other key e here))))
         (λ not_here. ap (option_map owner_of)
-        (first-lacks (record tablet { hi = at - 1 }) (record tablet { lo = at } ∷ tablets) other key not_here)
+        (first-lacks (lower_half at tablet) (upper_half at tablet ∷ tablets) other key not_here)
         ∙ split (holds tablet other key)
-        (λ whole. ap (option_map owner_of) (first-holds (record tablet { lo = at }) tablets other key
+        (λ whole. ap (option_map owner_of) (first-holds (upper_half at tablet) tablets other key
         (lower-lacks tablet at other key not_here whole))
         ∙ sym (ap (option_map owner_of) (first-holds tablet tablets other key whole)))
-        (λ none. ap (option_map owner_of) (first-lacks (record tablet { lo = at }) tablets other key
-        (split (holds (record tablet { lo = at }) other key)
+        (λ none. ap (option_map owner_of) (first-lacks (upper_half at tablet) tablets other key
+        (split (holds (upper_half at tablet) other key)
         (λ up. true_false (sym (upper-within tablet table at other key e up) ∙ none)) (λ no. no)))
         ∙ sym (ap (option_map owner_of) (first-lacks tablet tablets other key none))))
 
@@ -126,9 +127,9 @@ pub apart-split : (table at : ℕ) (tablets : List Tablet) → 0 < at → Tablet
 apart-split table at [] above apart = tt
 apart-split table at (tablet ∷ tablets) above apart =
     either (λ (now : List Tablet). TabletsApart now) (holds tablet table at)
-    (record tablet { hi = at - 1 } ∷ record tablet { lo = at } ∷ tablets) (tablet ∷ split_at table at tablets)
+    (lower_half at tablet ∷ upper_half at tablet ∷ tablets) (tablet ∷ split_at table at tablets)
     (λ e. (
-      λ other key here. first-lacks (record tablet { lo = at }) tablets other key
+      λ other key here. first-lacks (upper_half at tablet) tablets other key
           (upper-lacks tablet at other key above here) ∙
           apart.0 other key (lower-within tablet table at other key e here),
       (λ other key here. apart.0 other key (upper-within tablet table at other key e here), apart.1),
@@ -141,14 +142,14 @@ apart-split table at (tablet ∷ tablets) above apart =
 pub none-of_table : (tablets : List Tablet) (table key : ℕ) → has_table tablets table ≡ false → tablet_of tablets table key ≡ None
 none-of_table [] table key e = refl
 none-of_table (tablet ∷ tablets) table key e =
-    by (nat_eq tablet.table table) (has_table tablets table) refl (none-of_table tablets table key) e
+    by (nat_eq tablet.range.table table) (has_table tablets table) refl (none-of_table tablets table key) e
   where
-    by : (here : Bool) (later : Bool) → nat_eq tablet.table table ≡ here →
+    by : (here : Bool) (later : Bool) → nat_eq tablet.range.table table ≡ here →
         (has_table tablets table ≡ false → tablet_of tablets table key ≡ None) →
         has_table (tablet ∷ tablets) table ≡ false → tablet_of (tablet ∷ tablets) table key ≡ None
     by true later is rec e = true_false (sym (ap (λ b. b || has_table tablets table) is) ∙ e)
     by false later is rec e =
-        first-lacks tablet tablets table key (ap (λ b. b && (nat_le tablet.lo key && nat_le key tablet.hi)) is) ∙
+        first-lacks tablet tablets table key (ap (λ b. b && (nat_le tablet.range.lo key && nat_le key tablet.range.hi)) is) ∙
         rec (sym (ap (λ b. b || has_table tablets table) is) ∙ e)
 
 -- a new tablet owns its points, if nobody did, and no other point changes
@@ -156,7 +157,7 @@ inserted : (new : Tablet) (tablets : List Tablet) (table key : ℕ) → holds ne
     tablet_of tablets table key ≡ None → tablet_of (insert_tablet new tablets) table key ≡ Some new
 inserted new [] table key e none = first-holds new [] table key e
 inserted new (tablet ∷ tablets) table key e none =
-    either (λ (now : List Tablet). tablet_of now table key ≡ Some new) (nat_lt new.table tablet.table)
+    either (λ (now : List Tablet). tablet_of now table key ≡ Some new) (nat_lt new.range.table tablet.range.table)
     (new ∷ tablet ∷ tablets) (tablet ∷ insert_tablet new tablets)
     (λ _. first-holds new (tablet ∷ tablets) table key e)
     (λ _. split (holds tablet table key)
@@ -169,7 +170,7 @@ beside : (new : Tablet) (tablets : List Tablet) (table key : ℕ) → holds new 
 beside new [] table key e = first-lacks new [] table key e
 beside new (tablet ∷ tablets) table key e =
     either (λ (now : List Tablet). tablet_of now table key ≡ tablet_of (tablet ∷ tablets) table key)
-    (nat_lt new.table tablet.table) (new ∷ tablet ∷ tablets) (tablet ∷ insert_tablet new tablets)
+    (nat_lt new.range.table tablet.range.table) (new ∷ tablet ∷ tablets) (tablet ∷ insert_tablet new tablets)
     (λ _. first-lacks new (tablet ∷ tablets) table key e)
     (λ _. split (holds tablet table key)
     (λ here. first-holds tablet (insert_tablet new tablets) table key here ∙ sym (first-holds tablet tablets table key here))
@@ -181,7 +182,7 @@ apart-inserted : (new : Tablet) (tablets : List Tablet) →
     TabletsApart (insert_tablet new tablets)
 apart-inserted new [] none apart = (λ table key e. refl, tt)
 apart-inserted new (tablet ∷ tablets) none apart =
-    either (λ (now : List Tablet). TabletsApart now) (nat_lt new.table tablet.table) (new ∷ tablet ∷ tablets)
+    either (λ (now : List Tablet). TabletsApart now) (nat_lt new.range.table tablet.range.table) (new ∷ tablet ∷ tablets)
     (tablet ∷ insert_tablet new tablets)
     (λ _. (none, (apart.0, apart.1)))
     (λ _. (
@@ -231,17 +232,15 @@ apart-new table term owner tablets fresh apart =
 -- a tablet of exactly this range holds exactly its points
 range-holds : (range : KeyRange) (tablet : Tablet) (table key : ℕ) → is_range range tablet ≡ true →
     holds tablet table key ≡ in_range range table key
-range-holds range tablet table key e = ap (λ n. nat_eq n table && (nat_le tablet.lo key && nat_le key tablet.hi)) parts.0
-    ∙ (ap (λ n. nat_eq range.table table && (nat_le n key && nat_le key tablet.hi)) parts.1 ∙
-    ap (λ n. nat_eq range.table table && (nat_le range.lo key && nat_le key n)) parts.2)
+range-holds range tablet table key e = ap (λ r. in_range r table key) (λ i. record { table = parts.0 i; lo = parts.1 i; hi = parts.2 i })
   where
-    parts : (tablet.table ≡ range.table) × (tablet.lo ≡ range.lo) × (tablet.hi ≡ range.hi)
-    parts = (let a : (nat_eq tablet.table range.table ≡ true) ×
-        ((nat_eq tablet.lo range.lo && nat_eq tablet.hi range.hi) ≡ true) =
-        and_parts (nat_eq tablet.table range.table) (nat_eq tablet.lo range.lo && nat_eq tablet.hi range.hi) e in
-        let b : (nat_eq tablet.lo range.lo ≡ true) × (nat_eq tablet.hi range.hi ≡ true) =
-        and_parts (nat_eq tablet.lo range.lo) (nat_eq tablet.hi range.hi) a.1 in
-        (eqb-true tablet.table range.table a.0, eqb-true tablet.lo range.lo b.0, eqb-true tablet.hi range.hi b.1))
+    parts : (tablet.range.table ≡ range.table) × (tablet.range.lo ≡ range.lo) × (tablet.range.hi ≡ range.hi)
+    parts = (let a : (nat_eq tablet.range.table range.table ≡ true) ×
+        ((nat_eq tablet.range.lo range.lo && nat_eq tablet.range.hi range.hi) ≡ true) =
+        and_parts (nat_eq tablet.range.table range.table) (nat_eq tablet.range.lo range.lo && nat_eq tablet.range.hi range.hi) e in
+        let b : (nat_eq tablet.range.lo range.lo ≡ true) × (nat_eq tablet.range.hi range.hi ≡ true) =
+        and_parts (nat_eq tablet.range.lo range.lo) (nat_eq tablet.range.hi range.hi) a.1 in
+        (eqb-true tablet.range.table range.table a.0, eqb-true tablet.range.lo range.lo b.0, eqb-true tablet.range.hi range.hi b.1))
 
 -- a point in a range that some tablet has is held
 ranged-some : (range : KeyRange) (tablets : List Tablet) (table key : ℕ) → has_range range tablets ≡ true →

@@ -9,7 +9,7 @@ use Rattle.rc_model.specs.Model.{greater_pair, Attempt, GivenPart}
 use Rattle.rc_model.specs.Model.{new_coordinator, begins_attempt}
 use Rattle.rc_model.specs.Model.{attempt_at, with_attempt}
 use Rattle.rc_model.specs.Model.{with_answer, decision_of}
-use Rattle.rc_model.specs.Model.{decides_on, range_of, grant_of, grant_to}
+use Rattle.rc_model.specs.Model.{decides_on, grant_of, grant_to}
 use Rattle.rc_model.specs.Model.{first_grant}
 use Rattle.rc_model.specs.Model.{NodeWork, Deliver, coordinator_step, in_range, In}
 use Rattle.rc_types.specs.declared.ids.Addr.TheVariants.{Coordinator as AtCoordinator}
@@ -71,12 +71,12 @@ module _ (sent : List Message) (c : Coordinator) (grants : GoodGrants c) (good :
   -- Grants
 
   new-term : (id : ServerId) (number term : ℕ) (part : Part) → IsSenders c id number term part →
-      grant_to c id term ≡ None → has_range (range_of part) c.tablets ≡ true →
+      grant_to c id term ≡ None → has_range part.range c.tablets ≡ true →
       In (to_coordinator id (Recovered number term)) sent →
-      IsNewTerm sent c (assigned (range_of part) id part.term c.tablets) (grant_of number id part) c.last_term
+      IsNewTerm sent c (assigned part.range id part.term c.tablets) (grant_of number id part) c.last_term
   new-term id number term part mine none has at = record {
-    within = λ table key e. assigned-within (range_of part) id part.term c.tablets table key grants.apart has e;
-    beside = λ table key e. ap (option_map owner_of) (assigned-beside (range_of part) id part.term c.tablets table key e);
+    within = λ table key e. assigned-within part.range id part.term c.tablets table key grants.apart has e;
+    beside = λ table key e. ap (option_map owner_of) (assigned-beside part.range id part.term c.tablets table key e);
     above = good.part_issued number mine.attempt.master mine.decision is_decided (gives id part) mine.among;
     upto = (grants.fresh number mine.attempt.master mine.decision is_decided (gives id part) mine.among).0;
     more = omega arith;
@@ -111,7 +111,7 @@ module _ (sent : List Message) (c : Coordinator) (grants : GoodGrants c) (good :
           mine.among (sym given.term_is ∙ e) in
           ungiven (record { grant = one; among = there; term = e; owner = ap (λ (g : GivenPart). g.to) once.1 })
 
-      waits : (table key : ℕ) → in_range (range_of part) table key ≡ true →
+      waits : (table key : ℕ) → in_range part.range table key ≡ true →
           owner_at c.tablets table key ≡ Some (mine.attempt.master, part.previous)
       waits table key e = grants.waiting number mine.attempt.master mine.decision is_decided mine.current
           (gives id part) mine.among ungiven table key e
@@ -158,7 +158,7 @@ module _ (sent : List Message) (c : Coordinator) (grants : GoodGrants c) (good :
         (decided-later c (decides_on c (c.current master) attempt
         (decision_of c (c.current master) attempt.master plan (id ∷ ids)) (id ∷ ids)).0 later);
     grants = λ id number term part is has later.
-        granted-terms sent c (assigned (range_of part) id part.term c.tablets) (grant_of number id part) c.last_term
+        granted-terms sent c (assigned part.range id part.term c.tablets) (grant_of number id part) c.last_term
         (new-term id number term part (senders c id number term part (attempt_at c number) (numbered-at c number) is.found)
         is.ungranted has is.heard) good;
     creates = λ table owner is fresh room later. granted-terms sent c (with_table table owner (c.last_term + 1) c.tablets)

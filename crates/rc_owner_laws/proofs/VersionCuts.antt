@@ -1,10 +1,9 @@
 -- Data, and the base of a grant, by what was sent.
 use Rattle.std.proofs.Common.{◌≡◌, ℕ, zero, suc, ◌<◌, Bool, true, false, cond, ◌&&◌, List, [], ◌∷◌, ◌++◌, map, filter}
-use Rattle.std.proofs.Common.{take, nat_eq, nat_le, slice_get, Some, refl, sym, ap, ◌∙◌, subst, inl, inr, arith}
-use Rattle.std.proofs.lemmas.Bool.{eqb-true, eq-eqb}
+use Rattle.std.proofs.Common.{take, nat_eq, slice_get, Some, refl, sym, ap, ◌∙◌, subst, inl, inr, arith}
 use Rattle.rc_model.specs.Model.{ServerId, Addr, Server, Outside, Entry, Part, PlanRow, Grant, Message, Body, between, made, one_of}
 use Rattle.rc_model.specs.Model.{made_below, recovered_entries, is_carried, base, is_in_part, places_of, under_term, Master, Task}
-use Rattle.rc_model.specs.Model.{Attempt, Decision, HostNode, range_of, Accepted, In, HasMade, WasAccepted}
+use Rattle.rc_model.specs.Model.{Attempt, Decision, HostNode, in_range, Accepted, In, HasMade, WasAccepted}
 use Rattle.rc_types.specs.declared.ids.Addr.TheVariants.{Coordinator as AtCoordinator}
 use Rattle.rc_types.specs.declared.rows.Plan.{Plan}
 use Rattle.rc_types.specs.declared.messages.Body.TheVariants as body
@@ -76,15 +75,6 @@ one-plan sent masters hosts c good one other was is same = joined one other same
 
     joined : (a b : Accepted) → a.attempt ≡ b.attempt → a.master ≡ b.master → a.rows ≡ b.rows → a ≡ b
     joined a b x y z j = record { attempt = x j; master = y j; rows = z j }
-
-nat_eq-turned : (a b : ℕ) → nat_eq a b ≡ nat_eq b a
-nat_eq-turned a b = by (nat_eq a b) refl (nat_eq b a) refl
-  where
-    by : (p : Bool) → nat_eq a b ≡ p → (q : Bool) → nat_eq b a ≡ q → p ≡ q
-    by true e true f = refl
-    by false e false f = refl
-    by true e false f = sym (eq-eqb b a (sym (eqb-true a b e))) ∙ f
-    by false e true f = sym e ∙ eq-eqb a b (sym (eqb-true b a f))
 
 -- What was made
 
@@ -199,16 +189,11 @@ module _ (sent : List Message) (masters : ServerId → Master) (hosts : ℕ → 
       ∙ sym (filter-append (is_in_part task.part) (made_below sent task.master row.seg row.len) (recovered_entries sent task.master rows))
 
   -- the tests of a grant and of its part are one
-  carried : (grant : Grant) (part : Part) → grant.range ≡ range_of part → grant.previous ≡ part.previous →
+  carried : (grant : Grant) (part : Part) → grant.range ≡ part.range → grant.previous ≡ part.previous →
       (entry : Entry) → is_in_part part entry ≡ is_carried (granted_of grant) entry
   carried grant part range before entry =
-      ap (λ b. nat_eq entry.term part.previous && (b && (nat_le part.lo entry.key && nat_le entry.key part.hi)))
-      (nat_eq-turned entry.table part.table)
-      ∙ ap (λ r. nat_eq entry.term part.previous &&
-      (nat_eq r.table entry.table && (nat_le r.lo entry.key && nat_le entry.key r.hi))) (sym range)
-      ∙ ap (λ n. nat_eq entry.term n &&
-      (nat_eq grant.range.table entry.table &&
-      (nat_le grant.range.lo entry.key && nat_le entry.key grant.range.hi))) (sym before)
+      ap (λ r. nat_eq entry.term part.previous && in_range r entry.table entry.key) (sym range)
+      ∙ ap (λ n. nat_eq entry.term n && in_range grant.range entry.table entry.key) (sym before)
 
   -- the recovery in which a grant was given
   abbrev pub plan-of : (grant : Grant) → IsGivenBy sent c grant → Accepted
@@ -228,7 +213,7 @@ module _ (sent : List Message) (masters : ServerId → Master) (hosts : ℕ → 
       ∙ ap (map (under_term grant.term)) (all-cut grant.owner s.task s.task_among s.task.rows (λ row there. there) s.joined.entries came)
       ∙ ap (map (under_term grant.term)) (filter-same (is_in_part s.task.part) (is_carried (granted_of grant))
       (recovered_entries sent s.task.master s.task.rows)
-      (carried grant s.task.part (given.range_is ∙ ap range_of (sym s.given_is))
+      (carried grant s.task.part (given.range_is ∙ ap (λ (part : Part). part.range) (sym s.given_is))
       (given.previous_is ∙ ap (λ (part : Part). part.previous) (sym s.given_is))))
     where
       s : IsStarted sent masters hosts c all grant given

@@ -1,10 +1,10 @@
 -- Under one term a key's versions rise with the place, in every log.
-use Rattle.std.proofs.Common.{◌≡◌, ◌⊎◌, ℕ, zero, suc, ◌+◌, ◌<◌, ◌≤◌, Bool, true, false, ◌&&◌, List, [], ◌∷◌, ◌++◌, length, map, filter}
+use Rattle.std.proofs.Common.{◌≡◌, ◌⊎◌, ℕ, zero, suc, ◌+◌, ◌<◌, ◌≤◌, Bool, true, false, List, [], ◌∷◌, ◌++◌, length, map, filter}
 use Rattle.std.proofs.Common.{take, nat_eq, slice_get, Some, refl, sym, ap, ◌∙◌, subst, inl, inr, arith}
-use Rattle.std.proofs.lemmas.Bool.{and_parts, eqb-true, and_from}
+use Rattle.std.proofs.lemmas.Bool.{and_parts, eqb-true}
 use Rattle.std.proofs.lemmas.List.{append_assoc, length-append, length-map}
 use Rattle.rc_model.specs.Model.{ServerId, Entry, Part, PlanRow, Message, recovered_entries, is_in_part, Segment, LogPlace, places_in}
-use Rattle.rc_model.specs.Model.{places_to, places_of, PartState, in_range, owns_term, under_term, count_under, range_of, Master, Task}
+use Rattle.rc_model.specs.Model.{places_to, places_of, PartState, in_range, owns_term, under_term, count_under, Master, Task}
 use Rattle.rc_model.specs.Model.{HostNode, In}
 use Rattle.rc_model.specs.Coordinator.{Coordinator}
 use Rattle.rc_model.proofs.Members.{In-left, In-right, In-append, In-get, place_of, In-map, In-filter}
@@ -18,7 +18,7 @@ use Rattle.rc_owner_laws.specs.Worlds.{AllHold}
 use Rattle.rc_owner_laws.proofs.Rows.{segs_of, waited, in-order, below-row}
 use Rattle.rc_owner_laws.proofs.Bases.{IsTaskOf, task-of, task-ascends}
 use Rattle.rc_owner_laws.proofs.VersionCuts.{all-cut, row-made}
-use Rattle.rc_model.proofs.Tests.{true_false, either}
+use Rattle.rc_model.proofs.Tests.{either}
 
 -- Lists whose versions rise
 
@@ -361,16 +361,8 @@ module _ (sent : List Message) (masters : ServerId → Master) (hosts : ℕ → 
       passes = (In-filter (is_in_part task.part) entry (recovered_entries sent task.master task.rows)
           (subst (In entry) (all-cut sent masters hosts c all x task at task.rows (λ row in_rows. in_rows) p.entries came) there)).1
 
-      within : in_range (range_of task.part) entry.table entry.key ≡ true
-      within = turned (nat_eq entry.table task.part.table) (nat_eq task.part.table entry.table) _ turns
-          (and_parts (nat_eq entry.term task.part.previous) _ passes).1
-        where
-          turns : nat_eq entry.table task.part.table ≡ true → nat_eq task.part.table entry.table ≡ true
-          turns e = Rattle.std.proofs.lemmas.Bool.eq-eqb task.part.table entry.table (sym (eqb-true entry.table task.part.table e))
-
-          turned : (a b d : Bool) → (a ≡ true → b ≡ true) → (a && d) ≡ true → (b && d) ≡ true
-          turned true b d turn e = and_from b d (turn refl) e
-          turned false b d turn e = true_false (sym e)
+      within : in_range task.part.range entry.table entry.key ≡ true
+      within = (and_parts (nat_eq entry.term task.part.previous) _ passes).1
 
   -- what a log has under the term up to a place that no client wrote is the beginning of a base
   pub replayed-begins : (m : ServerId) (before after : List LogPlace) (place : LogPlace)

@@ -12,7 +12,7 @@ use Rattle.rc_model.specs.Model.{new_coordinator, refuses_server}
 use Rattle.rc_model.specs.Model.{list_body, spreads_list, begins_attempt, attempt_at}
 use Rattle.rc_model.specs.Model.{with_attempt, up_of_host, with_crashed}
 use Rattle.rc_model.specs.Model.{with_answer, decision_of, decides_on}
-use Rattle.rc_model.specs.Model.{own_body, range_of, grant_of, grant_to}
+use Rattle.rc_model.specs.Model.{own_body, grant_of, grant_to}
 use Rattle.rc_model.specs.Model.{first_grant, creates_table}
 use Rattle.rc_model.specs.Model.{NodeWork, coordinator_step, In}
 use Rattle.rc_types.specs.declared.rows.Plan.{Plan}
@@ -49,7 +49,7 @@ refused-fine id _ e = refl
 -- What stays
 
 abbrev IsProper : Tablet → Type 0
-IsProper tablet = tablet.lo ≤ tablet.hi
+IsProper tablet = tablet.range.lo ≤ tablet.range.hi
 
 abbrev IsMarked : ServerList → Tablet → Type 0
 IsMarked servers tablet = (is_up servers tablet.owner ≡ true) ⊎ (tablet.crashed ≡ true)
@@ -165,10 +165,10 @@ module _ (sent : List Message) (c : Coordinator) (base : GoodCoordinator sent c)
       good.marked)
       (stay-split table at c.tablets is.tablet is.found is.unmarked)
     where
-      lower : (tablet : Tablet) → holds tablet table at ≡ true → nat_eq at tablet.lo ≡ false → tablet.lo ≤ at - 1
+      lower : (tablet : Tablet) → holds tablet table at ≡ true → nat_eq at tablet.range.lo ≡ false → tablet.range.lo ≤ at - 1
       lower tablet p q = grind (arith, nat_tests)
 
-      upper : (tablet : Tablet) → holds tablet table at ≡ true → at ≤ tablet.hi
+      upper : (tablet : Tablet) → holds tablet table at ≡ true → at ≤ tablet.range.hi
       upper tablet p = grind (arith, nat_tests)
 
       there : (tablets : List Tablet) → tablet_of tablets table at ≡ Some is.tablet → In is.tablet tablets
@@ -204,9 +204,7 @@ module _ (sent : List Message) (c : Coordinator) (base : GoodCoordinator sent c)
           record {
             tablet = of.tablet;
             among = mine.0;
-            table = sym (ap (λ (part : Part). part.table) of.part_is);
-            lo = sym (ap (λ (part : Part). part.lo) of.part_is);
-            hi = sym (ap (λ (part : Part). part.hi) of.part_is);
+            range = sym (ap (λ (part : Part). part.range) of.part_is);
             term = sym (ap (λ (part : Part). part.previous) of.part_is);
             owner_is = mine.1;
             marked = crashed-marked of.tablet mine.1 (good.marked of.tablet mine.0);
@@ -235,35 +233,35 @@ module _ (sent : List Message) (c : Coordinator) (base : GoodCoordinator sent c)
       (senders-open c id number term part mine none)
 
   granted-good : (id : ServerId) (number term : ℕ) (part : Part) → IsSenders c id number term part →
-      is_up c.servers id ≡ true → grant_to c id term ≡ None → has_range (range_of part) c.tablets ≡ true →
+      is_up c.servers id ≡ true → grant_to c id term ≡ None → has_range part.range c.tablets ≡ true →
       GoodTablets (record c {
-        tablets = assigned (range_of part) id part.term c.tablets;
+        tablets = assigned part.range id part.term c.tablets;
         grants = c.grants ++
             grant_of number id part ∷ [];
       })
   granted-good id number term part mine is_up_now none has = record {
-    proper = each-assigned IsProper (range_of part) id part.term c.tablets (λ tablet at. (good.proper tablet at, good.proper tablet at));
-    marked = each-assigned (IsMarked c.servers) (range_of part) id part.term c.tablets
+    proper = each-assigned IsProper part.range id part.term c.tablets (λ tablet at. (good.proper tablet at, good.proper tablet at));
+    marked = each-assigned (IsMarked c.servers) part.range id part.term c.tablets
         (λ tablet at. (good.marked tablet at, inl is_up_now));
     waiting = λ other master decision is current given at ungiven.
         by other master decision is current given at ungiven (good.waiting other master decision is current given at
         (λ was. ungiven (given-more c.grants (grant_of number id part) given was)));
   }
     where
-      new : IsNewGrant c (assigned (range_of part) id part.term c.tablets) (grant_of number id part) c.last_term
+      new : IsNewGrant c (assigned part.range id part.term c.tablets) (grant_of number id part) c.last_term
       new = new-grant sent c base grants id number term part mine is_up_now none has
 
       by : (other : ℕ) (master : ServerId) (decision : Decision) → IsDecided c.attempts other master decision →
           c.current master ≡ other → (given : GivenPart) → In given decision.parts →
           (IsGiven (c.grants ++ grant_of number id part ∷ []) given → ⊥) → IsTablet c.tablets master given.part →
-          IsTablet (assigned (range_of part) id part.term c.tablets) master given.part
-      by other master decision is current given at ungiven waits = split (is_range (range_of part) waits.tablet)
-          (λ same. absurd (new.elsewhere other master decision is current given at ungiven waits.tablet.table waits.tablet.lo
-          (first-key (range_of given.part) waits.tablet (its-range c.tablets master given.part waits)
+          IsTablet (assigned part.range id part.term c.tablets) master given.part
+      by other master decision is current given at ungiven waits = split (is_range part.range waits.tablet)
+          (λ same. absurd (new.elsewhere other master decision is current given at ungiven waits.tablet.range.table waits.tablet.range.lo
+          (first-key given.part.range waits.tablet (its-range c.tablets master given.part waits)
           (good.proper waits.tablet waits.among))
-          (first-key (range_of part) waits.tablet same (good.proper waits.tablet waits.among))))
-          (λ differs. tablet-in c.tablets (assigned (range_of part) id part.term c.tablets) master given.part waits
-          (stay-assigned (range_of part) id part.term c.tablets waits.tablet waits.among differs))
+          (first-key part.range waits.tablet same (good.proper waits.tablet waits.among))))
+          (λ differs. tablet-in c.tablets (assigned part.range id part.term c.tablets) master given.part waits
+          (stay-assigned part.range id part.term c.tablets waits.tablet waits.among differs))
 
   created-good : (table : ℕ) (owner : ServerId) → is_up c.servers owner ≡ true → GoodTablets (creates_table c table owner).0
   created-good table owner is_up_now =

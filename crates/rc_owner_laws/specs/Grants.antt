@@ -1,5 +1,6 @@
 -- What holds of the coordinator's tablets and grants: who owns each point, under which term, and after whom.
 use Rattle.std.specs.Prelude.{◌≡◌, ◌⊎◌, ℕ, ◌<◌, ◌≤◌, true, List, [], ◌∷◌, filter, Option, Some, None, option_map}
+use Rattle.rc_types.specs.Ranges.{in_range}
 use Rattle.rc_types.specs.declared.ids.ServerId.{ServerId}
 use Rattle.rc_types.specs.declared.ids.Addr.{Addr}
 use Rattle.rc_types.specs.declared.ids.Addr.TheVariants.{Server}
@@ -15,8 +16,7 @@ use Rattle.rc_model.specs.ServerList.{has_crashed}
 use Rattle.rc_model.specs.Tablets.{holds, tablet_of}
 use Rattle.rc_model.specs.Attempts.{Attempt, Decision, GivenPart}
 use Rattle.rc_model.specs.Coordinator.{Coordinator}
-use Rattle.rc_model.specs.Deciding.{own_body, range_of}
-use Rattle.rc_model.specs.Ownership.{in_range}
+use Rattle.rc_model.specs.Deciding.{own_body}
 use Rattle.rc_model.specs.Headline.{In}
 use Rattle.rc_step_laws.specs.Words.{IsNumbered}
 
@@ -76,8 +76,8 @@ pub record IsGiven (grants : List Grant) (given : GivenPart) : Type 0 where
 abbrev pub PartsApart : List GivenPart → Type 0
 PartsApart [] = Unit {0}
 PartsApart (given ∷ parts) =
-    ((other : GivenPart) (table key : ℕ) → In other parts → in_range (range_of given.part) table key ≡ true →
-    in_range (range_of other.part) table key ≡ true → ⊥) × PartsApart parts
+    ((other : GivenPart) (table key : ℕ) → In other parts → in_range given.part.range table key ≡ true →
+    in_range other.part.range table key ≡ true → ⊥) × PartsApart parts
 
 -- the attempt of this number was decided so
 pub record IsDecided (attempts : List Attempt) (number : ℕ) (master : ServerId) (decision : Decision) : Type 0 where
@@ -99,14 +99,14 @@ pub record GoodGrants (c : Coordinator) : Type 0 where
   -- what was decided: fresh terms, for parts that do not overlap
   pub fresh : (number : ℕ) (master : ServerId) (decision : Decision) → IsDecided c.attempts number master decision →
       (given : GivenPart) → In given decision.parts →
-      (given.part.term ≤ c.last_term) × ((table key : ℕ) → in_range (range_of given.part) table key ≡ true →
+      (given.part.term ≤ c.last_term) × ((table key : ℕ) → in_range given.part.range table key ≡ true →
       given.part.previous < given.part.term)
   pub parted : (number : ℕ) (master : ServerId) (decision : Decision) → IsDecided c.attempts number master decision →
       PartsApart decision.parts
   -- a part of a current attempt that wasn't granted still is its crashed master's
   pub waiting : (number : ℕ) (master : ServerId) (decision : Decision) → IsDecided c.attempts number master decision →
       c.current master ≡ number → (given : GivenPart) → In given decision.parts → (IsGiven c.grants given → ⊥) →
-      (table key : ℕ) → in_range (range_of given.part) table key ≡ true →
+      (table key : ℕ) → in_range given.part.range table key ≡ true →
       owner_at c.tablets table key ≡ Some (master, given.part.previous)
 
 -- What the coordinator says of it
@@ -129,7 +129,7 @@ pub record IsPlanOf (c : Coordinator) (to : Addr) (number : ℕ) (master : Serve
   pub given : (part : Part) → In part parts → In (record { to = id; part = part }) decision.parts
 
 abbrev pub own_said : Coordinator → Addr → Body → Type 0
-own_said c to (Own table lo hi term previous attempt) = IsOwn c to (Own table lo hi term previous attempt)
+own_said c to (Own range term previous attempt) = IsOwn c to (Own range term previous attempt)
 own_said c to (PlanBody head number master rows parts) = IsPlanOf c to number master rows parts
 own_said c to _ = Unit {0}
 

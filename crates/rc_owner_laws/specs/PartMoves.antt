@@ -101,7 +101,7 @@ PartsHear sent m v from (body.Plan head attempt master rows parts) =
     In (record { from = from; to = Server m; body = body.Plan head attempt master rows parts }) sent
 PartsHear sent m v (Server x) (body.Data attempt seg term entries) =
     In (between x m (body.Data attempt seg term entries)) sent
-PartsHear sent m v from (body.Own table lo hi term previous attempt) =
-    In (record { from = from; to = Server m; body = body.Own table lo hi term previous attempt }) sent
+PartsHear sent m v from (body.Own range term previous attempt) =
+    In (record { from = from; to = Server m; body = body.Own range term previous attempt }) sent
     × ((state : PartState) → In state v.own.parts → state.part.term ≡ term → IsComplete v term)
 PartsHear sent m v from _ = Unit {0}

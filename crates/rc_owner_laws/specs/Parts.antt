@@ -2,6 +2,7 @@
 -- replay hold.
 use Rattle.std.specs.Prelude.{◌≡◌, ◌⊎◌, ℕ, ◌<◌, ◌≤◌, true, false, nat_eq, List, [], ◌∷◌, ◌++◌, length, map, filter}
 use Rattle.std.specs.Prelude.{take, Some}
+use Rattle.rc_types.specs.Ranges.{in_range}
 use Rattle.rc_types.specs.declared.ids.ServerId.{ServerId}
 use Rattle.rc_types.specs.declared.ids.Addr.TheVariants.{Server}
 use Rattle.rc_types.specs.declared.entries.Entry.{Entry}
@@ -11,7 +12,7 @@ use Rattle.rc_types.specs.declared.messages.Message.{Message}
 use Rattle.rc_types.specs.declared.messages.Body.TheVariants.{Own, Data, Plan as PlanBody}
 use Rattle.rc_model.specs.Messages.{between}
 use Rattle.rc_model.specs.Log.{LogPlace, places_of}
-use Rattle.rc_model.specs.Ownership.{PartRow, PartState, Ownership, in_range, owns_term, has_part, knows_term}
+use Rattle.rc_model.specs.Ownership.{PartRow, PartState, Ownership, owns_term, has_part, knows_term}
 use Rattle.rc_model.specs.Ownership.{awaited_row, rows_in_order, under_term, count_under}
 use Rattle.rc_model.specs.Master.{Master, Task}
 use Rattle.rc_model.specs.FollowUps.{attempt_of}
@@ -51,7 +52,7 @@ pub record RangeWasGranted (sent : List Message) (m : ServerId) (grant : Granted
   pub to : message.to ≡ Server m
   pub previous : ℕ
   pub attempt : ℕ
-  pub says : message.body ≡ Own grant.range.table grant.range.lo grant.range.hi grant.term previous attempt
+  pub says : message.body ≡ Own grant.range grant.term previous attempt
 
 -- the task is one of a plan
 pub record WasPlanned (sent : List Message) (m : ServerId) (task : Task) : Type 0 where

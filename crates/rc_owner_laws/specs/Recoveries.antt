@@ -4,6 +4,7 @@ use Rattle.rc_types.specs.declared.ids.ServerId.{ServerId}
 use Rattle.rc_types.specs.declared.events.Setup.{Setup}
 use Rattle.rc_types.specs.declared.events.Event.{Event}
 use Rattle.rc_types.specs.declared.faults.Fault.TheVariants.{NoTable}
+use Rattle.rc_types.specs.declared.rows.KeyRange.{KeyRange}
 use Rattle.rc_types.specs.declared.rows.PlanRow.{PlanRow}
 use Rattle.rc_types.specs.declared.rows.Part.{Part}
 use Rattle.rc_types.specs.declared.kept.Grant.{Grant}
@@ -31,12 +32,10 @@ pub record IsPlanned (sent : List Message) (id : ServerId) (number : ℕ) (maste
 
 -- an Own of the part's term was sent to the server
 pub record IsOwned (sent : List Message) (id : ServerId) (part : Part) : Type 0 where
-  pub table : ℕ
-  pub lo : ℕ
-  pub hi : ℕ
+  pub range : KeyRange
   pub previous : ℕ
   pub attempt : ℕ
-  pub owned : In (from_coordinator id (Own table lo hi part.term previous attempt)) sent
+  pub owned : In (from_coordinator id (Own range part.term previous attempt)) sent
 
 -- each part of a plan is exactly a tablet of the crashed master, as long as its attempt is the current one and no Own
 -- of it was sent

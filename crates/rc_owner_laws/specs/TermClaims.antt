@@ -1,6 +1,7 @@
 -- What is claimed of terms, of every setup and every list of events.
 use Rattle.std.specs.Prelude.{◌≡◌, ℕ, List, [], ◌∷◌, map}
 use Rattle.rc_types.specs.declared.ids.Addr.{Addr}
+use Rattle.rc_types.specs.declared.rows.KeyRange.{KeyRange}
 use Rattle.rc_types.specs.declared.rows.Part.{Part}
 use Rattle.rc_types.specs.declared.events.Setup.{Setup}
 use Rattle.rc_types.specs.declared.events.Event.{Event}
@@ -22,9 +23,7 @@ TermsAlwaysHold = (setup : Setup) (events : List Event) →
 pub record Issue : Type 0 where
   pub term : ℕ
   pub to : Addr
-  pub table : ℕ
-  pub lo : ℕ
-  pub hi : ℕ
+  pub range : KeyRange
   pub previous : ℕ
   pub attempt : ℕ
 
@@ -34,16 +33,14 @@ issue_of to attempt part =
     record {
       term = part.term;
       to = to;
-      table = part.table;
-      lo = part.lo;
-      hi = part.hi;
+      range = part.range;
       previous = part.previous;
       attempt = attempt;
     }
 
 abbrev pub issues_in : Addr → Body → List Issue
-issues_in to (Own table lo hi term previous attempt) =
-    record { term = term; to = to; table = table; lo = lo; hi = hi; previous = previous; attempt = attempt } ∷ []
+issues_in to (Own range term previous attempt) =
+    record { term = term; to = to; range = range; previous = previous; attempt = attempt } ∷ []
 issues_in to (PlanBody head attempt master rows parts) = map (issue_of to attempt) parts
 issues_in to _ = []
 

@@ -1,6 +1,7 @@
 -- What holds of the terms that the coordinator issues: each was issued once, and a grant of a recovery comes after
 -- its base.
 use Rattle.std.specs.Prelude.{◌≡◌, ◌⊎◌, ℕ, ◌<◌, ◌≤◌, true, List, Some}
+use Rattle.rc_types.specs.Ranges.{in_range}
 use Rattle.rc_types.specs.declared.ids.ServerId.{ServerId}
 use Rattle.rc_types.specs.declared.rows.Part.{Part}
 use Rattle.rc_types.specs.declared.kept.Grant.{Grant}
@@ -9,8 +10,6 @@ use Rattle.rc_types.specs.declared.messages.Body.TheVariants.{Recovered}
 use Rattle.rc_model.specs.Messages.{to_coordinator}
 use Rattle.rc_model.specs.Attempts.{Decision, GivenPart}
 use Rattle.rc_model.specs.Coordinator.{Coordinator}
-use Rattle.rc_model.specs.Deciding.{range_of}
-use Rattle.rc_model.specs.Ownership.{in_range}
 use Rattle.rc_model.specs.Headline.{In}
 use Rattle.rc_owner_laws.specs.Grants.{owner_at, IsDecided}
 
@@ -30,7 +29,7 @@ pub record IsGivenBy (sent : List Message) (c : Coordinator) (grant : Grant) : T
   pub decided : IsDecided c.attempts grant.attempt master decision
   pub part : Part
   pub among : In (record { to = grant.owner; part = part }) decision.parts
-  pub range_is : grant.range ≡ range_of part
+  pub range_is : grant.range ≡ part.range
   pub term_is : grant.term ≡ part.term
   pub previous_is : grant.previous ≡ part.previous
   pub asked : In (to_coordinator grant.owner (Recovered grant.attempt grant.term)) sent

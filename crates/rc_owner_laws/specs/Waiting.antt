@@ -19,16 +19,14 @@ use Rattle.rc_owner_laws.specs.Grants.{IsGiven, IsDecided}
 pub record IsTablet (tablets : List Tablet) (owner : ServerId) (part : Part) : Type 0 where
   pub tablet : Tablet
   pub among : In tablet tablets
-  pub table : tablet.table ≡ part.table
-  pub lo : tablet.lo ≡ part.lo
-  pub hi : tablet.hi ≡ part.hi
+  pub range : tablet.range ≡ part.range
   pub term : tablet.term ≡ part.previous
   pub owner_is : tablet.owner ≡ owner
   pub marked : tablet.crashed ≡ true
 
 pub record GoodTablets (c : Coordinator) : Type 0 where
   -- each has a key
-  pub proper : (tablet : Tablet) → In tablet c.tablets → tablet.lo ≤ tablet.hi
+  pub proper : (tablet : Tablet) → In tablet c.tablets → tablet.range.lo ≤ tablet.range.hi
   -- each whose owner isn't up is marked
   pub marked : (tablet : Tablet) → In tablet c.tablets →
       (is_up c.servers tablet.owner ≡ true) ⊎ (tablet.crashed ≡ true)

@@ -1,5 +1,6 @@
 -- Words in which the claims on data, grants and handovers are said.
-use Rattle.std.specs.Prelude.{◌≡◌, ◌⊎◌, ℕ, ◌<◌, nat_eq, nat_le, Bool, ◌&&◌, List, filter, take, Some, slice_get}
+use Rattle.std.specs.Prelude.{◌≡◌, ◌⊎◌, ℕ, ◌<◌, nat_eq, Bool, ◌&&◌, List, filter, take, Some, slice_get}
+use Rattle.rc_types.specs.Ranges.{in_range}
 use Rattle.rc_types.specs.declared.ids.ServerId.{ServerId}
 use Rattle.rc_types.specs.declared.ids.Addr.TheVariants.{Server}
 use Rattle.rc_types.specs.declared.entries.Entry.{Entry}
@@ -51,9 +52,7 @@ pub record Keeps (Freed : Type 0) (sent : List Message) (m : ServerId) (log : Lo
 
 -- the entry has the part's previous term, and is of the part's table and of a key from its first to its last
 abbrev pub is_of_part : Part → Entry → Bool
-is_of_part part entry =
-    nat_eq entry.term part.previous
-    && (nat_eq entry.table part.table && (nat_le part.lo entry.key && nat_le entry.key part.hi))
+is_of_part part entry = nat_eq entry.term part.previous && in_range part.range entry.table entry.key
 
 -- A Data is of a plan to its addressee, with a part of its term and a row of its segment whose holder is the sender.
 -- Its entries are those made below that row's length that have the part's previous term and lie in its range, in

@@ -63,7 +63,7 @@ enum Outcome {
 
 /// A tablet by what the changes touch: its table, and its first and last key.
 fn range(tablet: Tablet) -> (u32, u64, u64) {
-    (tablet.table, tablet.lo, tablet.hi)
+    (tablet.range.table, tablet.range.lo, tablet.range.hi)
 }
 
 /// Both trees have the same tablets below as many forks.

@@ -23,7 +23,7 @@ fn number_of(answer: Result<(), Fault>) -> u8 {
 
 /// The first and the last key of a tablet.
 fn keys(tablet: Tablet) -> (u64, u64) {
-    (tablet.lo, tablet.hi)
+    (tablet.range.lo, tablet.range.hi)
 }
 
 /// The keys of each tablet of table 7, cut in the middle and before the last key.

@@ -63,7 +63,7 @@ taken master from body isn't = record {
   deposes = none;
   begins = λ other attempt crashed head rows parts part is at new. record { hushed = each-map is_hushed _ rows (λ row _. refl) };
   comes = λ holder attempt seg term entries is says. none;
-  owns = λ table lo hi term previous attempt is. none;
+  owns = λ range term previous attempt is. none;
 }
 
 ticked : Ticked By

@@ -128,14 +128,12 @@ module _ (setup : Setup) (events more : List Event) where
       same : (one other : Grant) → ◌≡◌ {A = Addr} (Server one.owner) (Server other.owner) → own_body one ≡ own_body other → other ≡ one
       same one other to says =
           let owners : other.owner ≡ one.owner = cc in
-          let tables : other.range.table ≡ one.range.table = cc in
-          let los : other.range.lo ≡ one.range.lo = cc in
-          let his : other.range.hi ≡ one.range.hi = cc in
+          let ranges : other.range ≡ one.range = cc in
           let terms : other.term ≡ one.term = cc in
           let befores : other.previous ≡ one.previous = cc in
           let attempts : other.attempt ≡ one.attempt = cc in
           λ i. record {
-            range = record { table = tables i; lo = los i; hi = his i };
+            range = ranges i;
             term = terms i;
             previous = befores i;
             attempt = attempts i;

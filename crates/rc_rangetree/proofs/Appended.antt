@@ -57,11 +57,11 @@ has_range-append range (x ∷ xs) ys = or_first (is_range range x) _ _ (has_rang
 
 pub has_table-append : (xs ys : List Tablet) (table : ℕ) → has_table (xs ++ ys) table ≡ (has_table xs table || has_table ys table)
 has_table-append [] ys table = refl
-has_table-append (x ∷ xs) ys table = or_first (nat_eq x.table table) _ _ (has_table-append xs ys table) ∙
-    sym (or_assoc (nat_eq x.table table) (has_table xs table) (has_table ys table))
+has_table-append (x ∷ xs) ys table = or_first (nat_eq x.range.table table) _ _ (has_table-append xs ys table) ∙
+    sym (or_assoc (nat_eq x.range.table table) (has_table xs table) (has_table ys table))
 
 -- a tablet of exactly this range holds its first key
-is_range_holds : (range : KeyRange) (x : Tablet) → x.lo ≤ x.hi → holds x range.table range.lo ≡ false → is_range range x ≡ false
+is_range_holds : (range : KeyRange) (x : Tablet) → x.range.lo ≤ x.range.hi → holds x range.table range.lo ≡ false → is_range range x ≡ false
 is_range_holds range x r h = grind (arith, nat_tests)
 
 none_here : (b : Bool) (x : Tablet) (rest : Option Tablet) → cond b (Some x) rest ≡ None → (b ≡ false) × (rest ≡ None)
@@ -144,19 +144,19 @@ insert_left true new x xs ys all with_new h = refl
 insert_left false new x xs ys all with_new h = ap (λ l. x ∷ l) h
 
 pub insert_tablet-append_left : (new : Tablet) (xs ys : List Tablet) (point : Point) → BeginsAt point ys →
-    new.table < point.table → insert_tablet new (xs ++ ys) ≡ insert_tablet new xs ++ ys
+    new.range.table < point.table → insert_tablet new (xs ++ ys) ≡ insert_tablet new xs ++ ys
 insert_tablet-append_left new xs [] point b h = absurd b
 insert_tablet-append_left new [] (y ∷ ys) point b h =
-    let earlier : new.table < y.table = omega (arith, b.0) in rw (lt-ltb new.table y.table earlier)
+    let earlier : new.range.table < y.range.table = omega (arith, b.0) in rw (lt-ltb new.range.table y.range.table earlier)
 insert_tablet-append_left new (x ∷ xs) (y ∷ ys) point b h =
-    insert_left (nat_lt new.table x.table) new x xs (y ∷ ys) _ _ (insert_tablet-append_left new xs (y ∷ ys) point b h)
+    insert_left (nat_lt new.range.table x.range.table) new x xs (y ∷ ys) _ _ (insert_tablet-append_left new xs (y ∷ ys) point b h)
 
-not_later : (x y new : Tablet) (point : Point) → LiesBefore x y → y.table ≡ point.table → point.table ≤ new.table →
-    nat_lt new.table x.table ≡ false
-not_later x y new point l e h = le-ltb new.table x.table (omega arith)
+not_later : (x y new : Tablet) (point : Point) → LiesBefore x.range y.range → y.range.table ≡ point.table → point.table ≤ new.range.table →
+    nat_lt new.range.table x.range.table ≡ false
+not_later x y new point l e h = le-ltb new.range.table x.range.table (omega arith)
 
 pub insert_tablet-append_right : (new : Tablet) (xs ys : List Tablet) (point : Point) → AreInOrder (xs ++ ys) →
-    BeginsAt point ys → point.table ≤ new.table → insert_tablet new (xs ++ ys) ≡ xs ++ insert_tablet new ys
+    BeginsAt point ys → point.table ≤ new.range.table → insert_tablet new (xs ++ ys) ≡ xs ++ insert_tablet new ys
 insert_tablet-append_right new xs [] point o b h = absurd b
 insert_tablet-append_right new [] (y ∷ ys) point o b h = refl
 insert_tablet-append_right new (x ∷ xs) (y ∷ ys) point o b h =

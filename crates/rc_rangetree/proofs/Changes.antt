@@ -63,7 +63,7 @@ tree_created {A} {root} {new} {count} table owner term tree absent room are boun
     (omega (arith, tree.counted, tree.tablets.few, room)) bounds shallow
 
 pub tree_split : {A : Type 0} {root new : Node A} {count : ℕ} (table at : ℕ) (tablet : Tablet) → IsTree root count →
-    tablet_of (leaves root) table at ≡ Some tablet → tablet.lo < at → (count ≡ MAX_TABLETS → ⊥) →
+    tablet_of (leaves root) table at ≡ Some tablet → tablet.range.lo < at → (count ≡ MAX_TABLETS → ⊥) →
     leaves new ≡ split_at table at (leaves root) → HasBounds new → node_depth new ≤ MAX_FORKS → IsTree new (count + 1)
 tree_split {A} {root} {new} {count} table at tablet tree found inside room are bounds shallow =
     is_tree new (count + 1) _ are (covers_split _ table at tablet tree.tablets.covering found inside)
@@ -79,7 +79,7 @@ none_of x y z false false false is = (refl, refl)
 
 -- a tablet that may be split at a key begins before it or after it, and is one of fewer than there may be
 pub not_refused : (at count : ℕ) (tablet : Tablet) → tablet_split_refusal at count (Some tablet) ≡ None →
-    (tablet.lo ≡ at → ⊥) × (count ≡ MAX_TABLETS → ⊥)
+    (tablet.range.lo ≡ at → ⊥) × (count ≡ MAX_TABLETS → ⊥)
 not_refused at count tablet is =
-    let none = none_of BadSplit Recovering TooManyTablets (nat_eq tablet.lo at) tablet.crashed (nat_eq count MAX_TABLETS) is in
+    let none = none_of BadSplit Recovering TooManyTablets (nat_eq tablet.range.lo at) tablet.crashed (nat_eq count MAX_TABLETS) is in
     (eqb-false _ _ none.0, eqb-false _ _ none.1)

@@ -64,12 +64,12 @@ count_by-append : (p : Tablet → Bool) (xs ys : List Tablet) → count_by p (xs
 count_by-append p xs ys = sum_by-append (λ x. cond (p x) 1 0) xs ys
 
 -- a key before the point at which the right end begins: no tablet there begins by it
-begins_first : (y : Tablet) (table key : ℕ) (point : Point) → y.table ≡ point.table → y.lo ≡ point.key →
+begins_first : (y : Tablet) (table key : ℕ) (point : Point) → y.range.table ≡ point.table → y.range.lo ≡ point.key →
     IsBefore table key point → begins_by table key y ≡ false
 begins_first y table key point t l h = grind (arith, nat_tests)
 
-begins_later : (y z : Tablet) (table key : ℕ) (point : Point) → LiesBefore y z → y.lo ≤ y.hi → y.table ≡ point.table →
-    y.lo ≡ point.key → IsBefore table key point → begins_by table key z ≡ false
+begins_later : (y z : Tablet) (table key : ℕ) (point : Point) → LiesBefore y.range z.range → y.range.lo ≤ y.range.hi →
+    y.range.table ≡ point.table → y.range.lo ≡ point.key → IsBefore table key point → begins_by table key z ≡ false
 begins_later y z table key point b r t l h = grind (arith, nat_tests)
 
 count_by-none : (p : Tablet → Bool) (x : Tablet) (xs : List Tablet) → p x ≡ false → count_by p xs ≡ 0 → count_by p (x ∷ xs) ≡ 0
@@ -78,8 +78,8 @@ count_by-none p x xs h e = sum_by-cons (λ y. cond (p y) 1 0) x xs ∙ (rw (h) (
 count_by-one : (p : Tablet → Bool) (x : Tablet) (xs : List Tablet) → p x ≡ true → count_by p (x ∷ xs) ≡ count_by p xs + 1
 count_by-one p x xs h = sum_by-cons (λ y. cond (p y) 1 0) x xs ∙ (rw (h) (omega arith))
 
-none_begin_later : (y : Tablet) (zs : List Tablet) (table key : ℕ) (point : Point) → LiesBeforeAll y zs → y.lo ≤ y.hi →
-    y.table ≡ point.table → y.lo ≡ point.key → IsBefore table key point → count_by (begins_by table key) zs ≡ 0
+none_begin_later : (y : Tablet) (zs : List Tablet) (table key : ℕ) (point : Point) → LiesBeforeAll y zs → y.range.lo ≤ y.range.hi →
+    y.range.table ≡ point.table → y.range.lo ≡ point.key → IsBefore table key point → count_by (begins_by table key) zs ≡ 0
 none_begin_later y [] table key point b r t l h = refl
 none_begin_later y (z ∷ zs) table key point b r t l h =
     count_by-none (begins_by table key) z zs (begins_later y z table key point b.0 r t l h)
@@ -93,8 +93,8 @@ none_begin (y ∷ ys) table key point o b h =
     (none_begin_later y ys table key point o.1 o.0 b.0 b.1 h)
 
 -- a key from that point on: all tablets on the left begin by it, and at least one on the right
-begins_before : (x y : Tablet) (table key : ℕ) (point : Point) → LiesBefore x y → x.lo ≤ x.hi → y.table ≡ point.table →
-    y.lo ≡ point.key → IsAtOrAfter table key point → begins_by table key x ≡ true
+begins_before : (x y : Tablet) (table key : ℕ) (point : Point) → LiesBefore x.range y.range → x.range.lo ≤ x.range.hi →
+    y.range.table ≡ point.table → y.range.lo ≡ point.key → IsAtOrAfter table key point → begins_by table key x ≡ true
 begins_before x y table key point b r t l h = grind (arith, nat_tests)
 
 all_begin : (xs ys : List Tablet) (table key : ℕ) (point : Point) → AreInOrder (xs ++ ys) → BeginsAt point ys →
@@ -106,7 +106,7 @@ all_begin (x ∷ xs) (y ∷ ys) table key point o b h =
     let later = all_begin xs (y ∷ ys) table key point o.2 b h in
     omega (arith, count_by-one (begins_by table key) x xs here, later)
 
-begins_at : (y : Tablet) (table key : ℕ) (point : Point) → y.table ≡ point.table → y.lo ≡ point.key →
+begins_at : (y : Tablet) (table key : ℕ) (point : Point) → y.range.table ≡ point.table → y.range.lo ≡ point.key →
     IsAtOrAfter table key point → begins_by table key y ≡ true
 begins_at y table key point t l h = grind (arith, nat_tests)
 

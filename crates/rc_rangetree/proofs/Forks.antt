@@ -115,11 +115,11 @@ pub no_table_right : {all left right : List Tablet} {bound : Point} (table : ℕ
 no_table_right table f none = (no_table table f none).1
 
 pub insert_left : {all left right : List Tablet} {bound : Point} (new : Tablet) → IsForkOf all bound left right →
-    new.table < bound.table → insert_tablet new all ≡ insert_tablet new left ++ right
+    new.range.table < bound.table → insert_tablet new all ≡ insert_tablet new left ++ right
 insert_left {all} {left} {right} {bound} new f earlier = rw f.are (insert_tablet-append_left new left right bound f.begins earlier)
 
 pub insert_right : {all left right : List Tablet} {bound : Point} (new : Tablet) → IsForkOf all bound left right →
-    bound.table ≤ new.table → insert_tablet new all ≡ left ++ insert_tablet new right
+    bound.table ≤ new.range.table → insert_tablet new all ≡ left ++ insert_tablet new right
 insert_right {all} {left} {right} {bound} new f later = rw f.are (insert_tablet-append_right new left right bound f.in_order f.begins later)
 
 -- where a change of one end went through, it is the change of all; else all is as it was

@@ -16,4 +16,4 @@ pub record IsAtOrAfter (table key : ℕ) (point : Point) : Type 0 where
 -- there is a first tablet, and it begins at the point
 abbrev pub BeginsAt : Point → List Tablet → Type 0
 BeginsAt point [] = ⊥
-BeginsAt point (tablet ∷ tablets) = (tablet.table ≡ point.table) × (tablet.lo ≡ point.key)
+BeginsAt point (tablet ∷ tablets) = (tablet.range.table ≡ point.table) × (tablet.range.lo ≡ point.key)

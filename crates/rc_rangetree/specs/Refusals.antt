@@ -18,7 +18,7 @@ create_refusal table tablets =
 abbrev pub tablet_split_refusal : ℕ → ℕ → Option Tablet → Option Fault
 tablet_split_refusal at count None = Some NoTable
 tablet_split_refusal at count (Some tablet) =
-    if nat_eq tablet.lo at then Some BadSplit
+    if nat_eq tablet.range.lo at then Some BadSplit
     else if tablet.crashed then Some Recovering
     else if nat_eq count MAX_TABLETS then Some TooManyTablets
     else None

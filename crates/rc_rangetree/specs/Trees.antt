@@ -19,7 +19,8 @@ depth tree = greatest tree.forks
 
 -- the tablet begins at this key of the table, or before it
 abbrev pub begins_by : ℕ → ℕ → Tablet → Bool
-begins_by table key tablet = nat_lt tablet.table table || (nat_eq tablet.table table && nat_le tablet.lo key)
+begins_by table key tablet =
+    nat_lt tablet.range.table table || (nat_eq tablet.range.table table && nat_le tablet.range.lo key)
 
 -- the number of forks that a search for the key passes: those above the last tablet that begins at
 -- the key or before it, or above the first tablet where none does

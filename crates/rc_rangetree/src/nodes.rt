@@ -6,7 +6,7 @@ ghost use Rattle.std.specs.List.{count_by};
 ghost use Rattle.rc_rangetree.specs.Nodes.{leaves, forks_above, node_depth, is_made, IsSearchTree, HasBounds};
 ghost use Rattle.rc_rangetree.specs.Points.{BeginsAt};
 ghost use Rattle.rc_rangetree.specs.Trees.{begins_by};
-ghost use Rattle.rc_model.specs.Tablets.{holds, tablet_of, has_table, tablets_of, insert_tablet, split_at, is_range};
+ghost use Rattle.rc_model.specs.Tablets.{tablet_of, has_table, tablets_of, insert_tablet, split_at, is_range};
 ghost use Rattle.rc_model.specs.Tablets.{has_range, assigned, marked_crashed, count_to_mark};
 
 use crate::limits::MAX_FORKS;
@@ -27,13 +27,6 @@ pub enum Node<A: Allocator> {
     Fork(Point, Box<Node<A>, A>, Box<Node<A>, A>),
 }
 
-/// Whether the tablet holds the point.
-fn is_in(point: Point, tablet: &Tablet) -> bool
-    ensures { result ≡ holds tablet.now point.table point.key }
-{
-    tablet.table == point.table && tablet.lo <= point.key && point.key <= tablet.hi
-}
-
 impl<A: Allocator> Node<A> {
     /// The tablet that holds the point, and how many forks the search for it passed.
     pub fn find_counted(&self, point: Point) -> (Option<Tablet>, usize)
@@ -47,7 +40,7 @@ impl<A: Allocator> Node<A> {
         match self {
             Node::Empty => (None, 0),
             Node::Leaf(tablet) => {
-                if is_in(point, tablet) {
+                if tablet.range.holds(point.table, point.key) {
                     (Some(*tablet), 0)
                 } else {
                     (None, 0)
@@ -154,9 +147,7 @@ impl<A: Allocator> Node<A> {
         match self {
             Node::Empty => false,
             Node::Leaf(tablet) => {
-                let found = tablet.table == range.table
-                    && tablet.lo == range.lo
-                    && tablet.hi == range.hi;
+                let found = tablet.range == range;
                 if found {
                     tablet.owner = owner;
                     tablet.term = term;
@@ -208,8 +199,8 @@ fn fork_of_two<A: Allocator + Clone>(
     ensures depth { IfOk result (λ node. node_depth node ≡ 1) }
 {
     let bound = Point {
-        table: high.table,
-        key: high.lo,
+        table: high.range.table,
+        key: high.range.lo,
     };
     fork(alloc, bound, Node::Leaf(low), Node::Leaf(high))
 }
@@ -229,8 +220,8 @@ pub fn balanced<A: Allocator + Clone>(alloc: &A, tablets: &[Tablet]) -> Result<N
             let middle = tablets.len() / 2;
             let first = tablets[middle];
             let bound = Point {
-                table: first.table,
-                key: first.lo,
+                table: first.range.table,
+                key: first.range.lo,
             };
             let left = balanced(alloc, &tablets[..middle])?;
             let right = balanced(alloc, &tablets[middle..])?;
@@ -259,7 +250,7 @@ impl<A: Allocator + Clone> Node<A> {
     #[tactic(auto, using(crate::proofs::Covered::lengths))]
     fn insert_within(&mut self, alloc: &A, tablet: Tablet, room: usize) -> Result<bool, AllocError>
         requires tree { IsSearchTree self.old }
-        requires new { has_table (leaves self.old) tablet.table ≡ false }
+        requires new { has_table (leaves self.old) tablet.range.table ≡ false }
         requires shallow { node_depth self.old ≤ room }
         ensures list { leaves self.new ≡
             (if is_made result then insert_tablet tablet (leaves self.old) else leaves self.old) }
@@ -277,7 +268,7 @@ impl<A: Allocator + Clone> Node<A> {
                 if room == 0 {
                     return Ok(false);
                 }
-                let (low, high) = if tablet.table < other.table {
+                let (low, high) = if tablet.range.table < other.range.table {
                     (tablet, *other)
                 } else {
                     (*other, tablet)
@@ -286,7 +277,7 @@ impl<A: Allocator + Clone> Node<A> {
                 Ok(true)
             }
             Node::Fork(bound, left, right) => {
-                if tablet.table < bound.table {
+                if tablet.range.table < bound.table {
                     left.insert_within(alloc, tablet, room - 1)
                 } else {
                     right.insert_within(alloc, tablet, room - 1)
@@ -307,11 +298,11 @@ impl<A: Allocator + Clone> Node<A> {
         room: usize,
     ) -> Result<bool, AllocError>
         requires tree { IsSearchTree self.old }
-        requires found { tablet_of (leaves self.old) tablet.table at ≡ Some tablet }
-        requires inside { tablet.lo < at }
+        requires found { tablet_of (leaves self.old) tablet.range.table at ≡ Some tablet }
+        requires inside { tablet.range.lo < at }
         requires shallow { node_depth self.old ≤ room }
         ensures list { leaves self.new ≡
-            (if is_made result then split_at tablet.table at (leaves self.old) else leaves self.old) }
+            (if is_made result then split_at tablet.range.table at (leaves self.old) else leaves self.old) }
         ensures bounds { HasBounds self.new }
         ensures depth { node_depth self.new ≤ room }
         ensures unchanged { is_made result ≡ false → forks_above self.new ≡ forks_above self.old }
@@ -324,16 +315,25 @@ impl<A: Allocator + Clone> Node<A> {
                     return Ok(false);
                 }
                 let low = Tablet {
-                    hi: at - 1,
+                    range: KeyRange {
+                        hi: at - 1,
+                        ..tablet.range
+                    },
                     ..tablet
                 };
-                let high = Tablet { lo: at, ..tablet };
+                let high = Tablet {
+                    range: KeyRange {
+                        lo: at,
+                        ..tablet.range
+                    },
+                    ..tablet
+                };
                 *self = fork_of_two(alloc, low, high)?;
                 Ok(true)
             }
             Node::Fork(bound, left, right) => {
                 let point = Point {
-                    table: tablet.table,
+                    table: tablet.range.table,
                     key: at,
                 };
                 if point.is_before(*bound) {
@@ -351,7 +351,7 @@ impl<A: Allocator + Clone> Node<A> {
     /// way down would pass more than `MAX_FORKS` forks, the tree is built anew.
     pub fn insert(&mut self, alloc: &A, tablet: Tablet, count: usize) -> Result<(), AllocError>
         requires tree { IsSearchTree self.old }
-        requires new { has_table (leaves self.old) tablet.table ≡ false }
+        requires new { has_table (leaves self.old) tablet.range.table ≡ false }
         requires shallow { node_depth self.old ≤ MAX_FORKS }
         requires counted { count ≡ length (leaves self.old) }
         requires few { count ≤ MAX_TABLETS }
@@ -381,13 +381,13 @@ impl<A: Allocator + Clone> Node<A> {
         count: usize,
     ) -> Result<(), AllocError>
         requires tree { IsSearchTree self.old }
-        requires found { tablet_of (leaves self.old) tablet.table at ≡ Some tablet }
-        requires inside { tablet.lo < at }
+        requires found { tablet_of (leaves self.old) tablet.range.table at ≡ Some tablet }
+        requires inside { tablet.range.lo < at }
         requires shallow { node_depth self.old ≤ MAX_FORKS }
         requires counted { count ≡ length (leaves self.old) }
         requires few { count ≤ MAX_TABLETS }
         ensures list { leaves self.new ≡
-            (if is_ok result then split_at tablet.table at (leaves self.old) else leaves self.old) }
+            (if is_ok result then split_at tablet.range.table at (leaves self.old) else leaves self.old) }
         ensures bounds { HasBounds self.new }
         ensures depth { node_depth self.new ≤ MAX_FORKS }
         ensures unchanged { OnErr result (forks_above self.new ≡ forks_above self.old) }

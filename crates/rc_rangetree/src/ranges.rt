@@ -3,8 +3,8 @@
 ghost use Rattle.std.specs.Prelude.{◌≡◌, ◌↔◌, true};
 ghost use Rattle.rc_rangetree.specs.Ranges.{Follows, CoversFrom, CoverTables, AreTablets};
 
-use rc_types::Tablet;
 use rc_types::limits::{LAST_KEY, MAX_TABLETS};
+use rc_types::{KeyRange, Tablet};
 
 /// Whether a tree can have these tablets: they are in order, do not overlap, cover each table that is there from its
 /// first key to its last, and are at most 1,024. It takes no memory.
@@ -21,7 +21,7 @@ fn cover_tables(tablets: &[Tablet]) -> bool
 {
     match tablets {
         [] => true,
-        [first, rest @ ..] => first.lo == 0 && covers_from(first, rest),
+        [first, rest @ ..] => first.range.lo == 0 && covers_from(first, rest),
     }
 }
 
@@ -31,20 +31,22 @@ fn covers_from(tablet: &Tablet, tablets: &[Tablet]) -> bool
     ensures { (result ≡ true) ↔ CoversFrom tablet.now tablets.now }
 {
     match tablets {
-        [] => tablet.lo <= tablet.hi && tablet.hi == LAST_KEY,
+        [] => tablet.range.lo <= tablet.range.hi && tablet.range.hi == LAST_KEY,
         [next, rest @ ..] => {
-            tablet.lo <= tablet.hi && follows(tablet, next) && covers_from(next, rest)
+            tablet.range.lo <= tablet.range.hi
+                && follows(&tablet.range, &next.range)
+                && covers_from(next, rest)
         }
     }
 }
 
-/// Whether the second tablet comes right after the first.
-fn follows(tablet: &Tablet, next: &Tablet) -> bool
-    ensures { (result ≡ true) ↔ Follows tablet.now next.now }
+/// Whether the second range comes right after the first.
+fn follows(range: &KeyRange, next: &KeyRange) -> bool
+    ensures { (result ≡ true) ↔ Follows range.now next.now }
 {
-    if tablet.table == next.table {
-        tablet.hi < LAST_KEY && next.lo == tablet.hi + 1
+    if range.table == next.table {
+        range.hi < LAST_KEY && next.lo == range.hi + 1
     } else {
-        tablet.table < next.table && tablet.hi == LAST_KEY && next.lo == 0
+        range.table < next.table && range.hi == LAST_KEY && next.lo == 0
     }
 }

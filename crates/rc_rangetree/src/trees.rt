@@ -12,7 +12,7 @@ ghost use Rattle.rc_rangetree.specs.Trees.{depth, forks_passed};
 use crate::limits::MAX_FORKS;
 use crate::nodes::{Node, balanced};
 use crate::points::Point;
-use rc_types::limits::{LAST_KEY, MAX_TABLETS};
+use rc_types::limits::MAX_TABLETS;
 use rc_types::{Fault, KeyRange, ServerId, Tablet};
 use std::alloc::{AllocError, Allocator, Global};
 use std::marker::Model;
@@ -170,9 +170,7 @@ impl<A: Allocator + Clone> RangeTree<A> {
             return Err(Fault::TooManyTablets);
         }
         let tablet = Tablet {
-            table,
-            lo: 0,
-            hi: LAST_KEY,
+            range: KeyRange::all_keys(table),
             owner,
             term,
             crashed: false,
@@ -259,7 +257,7 @@ impl<A: Allocator + Clone> RangeTree<A> {
 fn split_refusal(tablet: &Tablet, at: u64, count: usize) -> Option<Fault>
     ensures { result ≡ tablet_split_refusal at count (Some tablet.now) }
 {
-    if tablet.lo == at {
+    if tablet.range.lo == at {
         return Some(Fault::BadSplit);
     }
     if tablet.crashed {

@@ -117,10 +117,7 @@ pub(crate) fn place_first(
 fn is_in_part(part: &Part, entry: &Entry) -> bool
     ensures { result ≡ is_in_part part.now entry.now }
 {
-    entry.term == part.previous
-        && entry.table == part.table
-        && part.lo <= entry.key
-        && entry.key <= part.hi
+    entry.term == part.previous && part.range.holds(entry.table, entry.key)
 }
 
 /// Copies of those entries that belong to the part, in their order. Only memory can be refused (F1).

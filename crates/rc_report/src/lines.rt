@@ -5,7 +5,7 @@ ghost use Rattle.rc_types.specs.declared.messages.Body.TheVariants.{WriteOk, Rea
 ghost use Rattle.rc_types.specs.Texts.{addr_text};
 ghost use Rattle.rc_model.specs.Report.{body_line, message_line, message_lines, rows_text};
 
-use rc_types::{Addr, Body, Message, PlanRow, ServerId};
+use rc_types::{Addr, Body, KeyRange, Message, PlanRow, ServerId};
 use std::alloc::AllocError;
 
 /// Adds the lines of these messages, in order.
@@ -63,9 +63,7 @@ fn add_line(text: &mut String, from: Addr, to: Addr, body: &Body) -> Result<(), 
             ..
         } => add_plan(text, to, *attempt, *master, *head, rows.as_slice()),
         Body::Own {
-            table,
-            lo,
-            hi,
+            range: KeyRange { table, lo, hi },
             term,
             previous,
             attempt,

@@ -63,12 +63,14 @@ lacks_holder servers decision = list_any (λ row. not (is_up servers row.holder)
 -- the master still has the tablet that begins at this point
 abbrev pub waits_at : List Tablet → ServerId → ℕ → ℕ → Bool
 waits_at tablets master table lo =
-    list_any (λ tablet. nat_eq tablet.table table && (nat_eq tablet.lo lo && same_id master tablet.owner)) tablets
+    list_any (λ tablet. nat_eq tablet.range.table table &&
+    (nat_eq tablet.range.lo lo && same_id master tablet.owner)) tablets
 
 -- a part whose tablet the master still has was given to a server that isn't up
 abbrev pub lacks_master : ServerList → Decision → List Tablet → ServerId → Bool
 lacks_master servers decision tablets master = list_any
-    (λ given. not (is_up servers given.to) && waits_at tablets master given.part.table given.part.lo) decision.parts
+    (λ given. not (is_up servers given.to) &&
+    waits_at tablets master given.part.range.table given.part.range.lo) decision.parts
 
 abbrev pub is_vain : Book → List Tablet → ServerId → Option Decision → Bool
 is_vain book tablets master None = false

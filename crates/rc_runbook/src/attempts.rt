@@ -125,7 +125,8 @@ fn lacks_master(
     ensures { result ≡ runbook.lacks_master servers.now decision.now tablets.now master }
 {
     decision.parts().iter().any(|given| {
-        !servers.is_up(given.to) && waits_at(tablets, master, given.part.table, given.part.lo)
+        !servers.is_up(given.to)
+            && waits_at(tablets, master, given.part.range.table, given.part.range.lo)
     })
 }
 
@@ -133,5 +134,7 @@ fn lacks_master(
 fn waits_at(tablets: &[Tablet], master: ServerId, table: u32, lo: u64) -> bool
     ensures { result ≡ waits_at tablets.now master table lo }
 {
-    tablets.iter().any(|tablet| tablet.table == table && tablet.lo == lo && master == tablet.owner)
+    tablets.iter().any(|tablet| tablet.range.table == table
+        && tablet.range.lo == lo
+        && master == tablet.owner)
 }

@@ -84,12 +84,10 @@ fn put_tablet(tablet: &Tablet, out: &mut Vec<u8>) -> Result<(), AllocError>
     ensures { OnOk result (out.new.items ≡ out.old.items ++ tablet_code tablet.now) }
 {
     let Tablet {
-        table,
-        lo,
-        hi,
+        range,
         owner,
         term,
         crashed,
     } = *tablet;
-    (table, lo, hi, owner, term, crashed).put(out)
+    (range, owner, term, crashed).put(out)
 }

@@ -242,7 +242,7 @@ fn tell_tablet<E: Write>(
     let _ = write!(
         errors.inner,
         "table {}, keys {} to {}: ",
-        tablet.table, tablet.lo, tablet.hi
+        tablet.range.table, tablet.range.lo, tablet.range.hi
     );
     let served = healed
         .served
@@ -257,7 +257,7 @@ fn tell_tablet<E: Write>(
             let _ = writeln!(
                 errors.inner,
                 "served by {}, which acknowledges a new write of key {} as version {version}, and shows it",
-                tablet.owner, tablet.lo
+                tablet.owner, tablet.range.lo
             );
         }
         (None, Some(gone)) => tell_gone(places, gone, errors),
@@ -273,7 +273,7 @@ fn tell_tablet<E: Write>(
 
 /// Whether they are one tablet.
 fn is_same(tablet: &Tablet, other: &Tablet) -> bool {
-    tablet.table == other.table && tablet.lo == other.lo
+    tablet.range.table == other.range.table && tablet.range.lo == other.range.lo
 }
 
 /// Tells which segment is gone, and since when.

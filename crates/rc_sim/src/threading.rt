@@ -23,7 +23,7 @@ use std::thread;
 
 /// Runs the nodes of so many hosts, each on a thread of its own, with so many writes and a recovery, and writes the
 /// report of the world in which all has happened that they did; and where a node could not take its next work (F18), a
-/// last line that says so, with the number of the event that there was no room for or that was not possible.
+/// last line that says so, with how many events had happened.
 ///
 /// It fails as `fuzz` does: `Memory` also where a thread was refused.
 pub fn threads<R: thread::Threads + Wait + Sync, W: Write, E: Write>(

@@ -26,7 +26,7 @@ pub enum Verdict {
     /// The scenario or the trace is wrong at this place (F17).
     Bad(usize),
     /// The run stopped at this event of the scenario: F18 where it was not possible, F1 where its step
-    /// found no memory. For nodes on threads: F18, where one could not do a step, and 0, since which one is not known.
+    /// found no memory. For nodes on threads: F18, where one could not go on, and how many events had happened.
     Stopped(usize, Code),
     /// What was looked for is not there: no line of the report begins with the text that is to be kept, or no seed
     /// reaches what is to be reached.

@@ -6,7 +6,7 @@ use Rattle.rc_model.specs.Model.{Replicas, Gather, SplitOk, Refused, code_of, pu
 use Rattle.rc_model.specs.Model.{coordinator_tells, ServerList, is_up, has_crashed, enlisted, crashed, up, up_rows}
 use Rattle.rc_model.specs.Model.{split_at, marked_crashed, assigned, is_below, pick, greater_pair, Attempt, Decision, new_attempt}
 use Rattle.rc_model.specs.Model.{plan_messages, list_body, spreads_list, begins_attempt, attempt_at}
-use Rattle.rc_model.specs.Model.{with_attempt, suspects, with_answer, decision_of, decides_on, decides, own_body, range_of, grant_of}
+use Rattle.rc_model.specs.Model.{with_attempt, suspects, with_answer, decision_of, decides_on, decides, own_body, grant_of}
 use Rattle.rc_model.specs.Model.{creates_table, first_grant, creates, splits, tablet_of, coordinator_ticks, coordinator_takes, In}
 use Rattle.rc_types.specs.declared.ids.Addr.TheVariants.{Coordinator as AtCoordinator}
 use Rattle.rc_model.specs.Coordinator.{Coordinator}
@@ -234,10 +234,10 @@ module _ (sent : List Message) (c : Coordinator) (good : GoodCoordinator sent c)
         decided_on (c.current master) attempt (decision_of c (c.current master) attempt.master plan (id ∷ ids)) (id ∷ ids)
         numbered undecided
         (ap (λ (m : ServerId). pick (c.least m) attempt.replies) (good.current_master master attempt numbered) ∙ picked));
-    grants = λ id number term part is has. quiet c.ready (assigned (range_of part) id part.term c.tablets)
+    grants = λ id number term part is has. quiet c.ready (assigned part.range id part.term c.tablets)
         (c.grants ++ grant_of number id part ∷ []) c.last_term (from_coordinator id (own_body (grant_of number id part)) ∷ [])
         (says-one (record c {
-          tablets = assigned (range_of part) id part.term c.tablets;
+          tablets = assigned part.range id part.term c.tablets;
           grants = c.grants ++ grant_of number id part ∷ [];
         }) (Server id) (own_body (grant_of number id part)) tt);
     creates = λ table owner is fresh room. quiet c.ready (creates_table c table owner).0.tablets

@@ -131,9 +131,9 @@ moved-first sent m master from (Plan head attempt crashed rows parts) view may =
     moved-takes_plan sent m attempt crashed rows parts master view
 moved-first sent m master (Server from) (Data attempt seg term entries) view may =
     quietly sent m master (record master { ownership = put_data term seg from entries master.ownership }) view refl refl
-moved-first sent m master from (Own table lo hi term previous attempt) view may =
+moved-first sent m master from (Own range term previous attempt) view may =
     quietly sent m master (record master {
-      ownership = grant (record { range = record { table = table; lo = lo; hi = hi }; term = term })
+      ownership = grant (record { range = range; term = term })
           master.ownership;
     }) view refl refl
 moved-first sent m master from body view may = still sent m master view

@@ -55,7 +55,7 @@ body_said sent sent_now m old log to (body.Gather number master) = ⊥
 body_said sent sent_now m old log to (body.Replicas number rows) = ⊥
 body_said sent sent_now m old log to (body.Plan head number master rows parts) = ⊥
 body_said sent sent_now m old log to (body.Data attempt s term entries) = ⊥
-body_said sent sent_now m old log to (body.Own table lo hi term previous attempt) = ⊥
+body_said sent sent_now m old log to (body.Own range term previous attempt) = ⊥
 body_said sent sent_now m old log to (body.SplitOk table at) = ⊥
 body_said sent sent_now m old log to _ = Unit {0}
 
@@ -111,7 +111,7 @@ backup_body_said sent_now masters hosts c host backup to (body.Gather number mas
 backup_body_said sent_now masters hosts c host backup to (body.Plan head number master rows parts) = ⊥
 backup_body_said sent_now masters hosts c host backup to (body.Fetch attempt master s len part) = ⊥
 backup_body_said sent_now masters hosts c host backup to (body.Recovered attempt term) = ⊥
-backup_body_said sent_now masters hosts c host backup to (body.Own table lo hi term previous attempt) = ⊥
+backup_body_said sent_now masters hosts c host backup to (body.Own range term previous attempt) = ⊥
 backup_body_said sent_now masters hosts c host backup to (body.SplitOk table at) = ⊥
 backup_body_said sent_now masters hosts c host backup to (body.Free s) = ⊥
 backup_body_said sent_now masters hosts c host backup to _ = Unit {0}

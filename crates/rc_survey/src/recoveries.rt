@@ -1,6 +1,6 @@
 //! What is known of recoveries: what was answered in their attempts, and the parts of their plans.
 
-use rc_types::{Pair, Part, Row, Seq, ServerId};
+use rc_types::{KeyRange, Pair, Part, Row, Seq, ServerId};
 use std::alloc::{AllocError, Global};
 use std::collections::HashMap;
 
@@ -152,17 +152,14 @@ impl Recoveries {
     }
 
     /// Keys have one owner more, if the term is a new one for them. A new table begins anew.
-    pub(crate) fn own(&mut self, table: u32, lo: u64, hi: u64, term: u32) {
-        if table > self.table {
-            self.table = table;
+    pub(crate) fn own(&mut self, range: &KeyRange, term: u32) {
+        if range.table > self.table {
+            self.table = range.table;
             self.terms = [0; KEYS];
             self.owners = [0; KEYS];
         }
-        if table < self.table {
-            return;
-        }
         for key in 0..KEYS {
-            if lo <= key as u64 && key as u64 <= hi && self.terms[key] < term {
+            if range.holds(self.table, key as u64) && self.terms[key] < term {
                 self.terms[key] = term;
                 self.owners[key] = self.owners[key].saturating_add(1);
             }

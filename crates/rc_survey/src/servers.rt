@@ -74,7 +74,7 @@ impl Server {
     /// Whether it was given a part with this key that was not granted.
     pub(crate) fn awaits(&self, table: u32, key: u64) -> bool {
         for part in &self.waiting {
-            if part.table == table && part.lo <= key && key <= part.hi {
+            if part.range.holds(table, key) {
                 return true;
             }
         }

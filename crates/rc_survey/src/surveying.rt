@@ -8,7 +8,9 @@ use crate::recoveries::Recoveries;
 use crate::replicas::{Freed, Replica};
 use crate::rules::Rule;
 use crate::servers::Servers;
-use rc_types::{Addr, Body, Code, Entry, Event, Message, Pair, Part, Seq, ServerId, Shared};
+use rc_types::{
+    Addr, Body, Code, Entry, Event, KeyRange, Message, Pair, Part, Seq, ServerId, Shared,
+};
 use std::alloc::{AllocError, Global};
 
 /// What a run has reached so far, and what has to be known of it to see more.
@@ -345,13 +347,7 @@ impl Survey {
                     server.commit(pair);
                 }
             }
-            Body::Own {
-                table,
-                lo,
-                hi,
-                term,
-                ..
-            } => self.own(*table, *lo, *hi, *term),
+            Body::Own { range, term, .. } => self.own(range, *term),
             _ => {}
         }
         Ok(())
@@ -368,7 +364,8 @@ impl Survey {
     /// A plan was sent to a recovery master.
     fn plan(&mut self, to: ServerId, parts: &Seq<Part>) -> Result<(), AllocError> {
         for part in parts.as_slice() {
-            self.counts.reach_if(part.lo > 0, Rule::SplitRangeRecovered);
+            self.counts
+                .reach_if(part.range.lo > 0, Rule::SplitRangeRecovered);
             if self.recoveries.give(to, *part)? {
                 if let Some(server) = self.servers.get_mut(to) {
                     server.await_part(*part)?;
@@ -379,8 +376,8 @@ impl Survey {
     }
 
     /// A range was granted, for the first time or once more.
-    fn own(&mut self, table: u32, lo: u64, hi: u64, term: u32) {
-        self.recoveries.own(table, lo, hi, term);
+    fn own(&mut self, range: &KeyRange, term: u32) {
+        self.recoveries.own(range, term);
         if let Some(master) = self.recoveries.grant(term) {
             self.counts.recovered = self.counts.recovered.saturating_add(1);
             if let Some(server) = self.servers.get_mut(master) {

@@ -4,7 +4,7 @@
 use crate::passages::Passages;
 use crate::story::Story;
 use crate::tables::Table;
-use rc_types::{Addr, Body, Kind, Message};
+use rc_types::{Addr, Body, KeyRange, Kind, Message};
 use std::alloc::{AllocError, Global};
 
 /// How many messages of a group are told by number.
@@ -56,12 +56,8 @@ impl Group {
 /// The last grant of a range.
 #[derive(Clone, Copy)]
 pub(crate) struct Range {
-    /// The table.
-    pub(crate) table: u32,
-    /// The first key.
-    pub(crate) lo: u64,
-    /// The last key.
-    pub(crate) hi: u64,
+    /// The keys.
+    pub(crate) keys: KeyRange,
     /// The term of the grant.
     pub(crate) term: u32,
     /// To whom it was granted.
@@ -144,21 +140,13 @@ impl Ending {
     /// Notes what a message grants or acknowledges.
     fn note(&mut self, message: &Message) -> Result<(), AllocError> {
         match &message.body {
-            Body::Own {
-                table,
-                lo,
-                hi,
-                term,
-                ..
-            } => {
-                let range = Range {
-                    table: *table,
-                    lo: *lo,
-                    hi: *hi,
+            Body::Own { range, term, .. } => {
+                let last = Range {
+                    keys: *range,
                     term: *term,
                     owner: message.to,
                 };
-                self.ranges.put((*table, *lo, *hi), range)
+                self.ranges.put((range.table, range.lo, range.hi), last)
             }
             _ => acknowledge(&mut self.newest, message),
         }
@@ -182,10 +170,10 @@ impl Ending {
     /// Whether a later term has taken a key of this range.
     pub(crate) fn is_passed_on(&self, range: &Range) -> bool {
         for other in self.ranges.entries.values() {
-            if other.table == range.table
+            if other.keys.table == range.keys.table
                 && other.term > range.term
-                && other.lo <= range.hi
-                && range.lo <= other.hi
+                && other.keys.lo <= range.keys.hi
+                && range.keys.lo <= other.keys.hi
             {
                 return true;
             }

@@ -268,18 +268,16 @@ fn tell_other(pen: &mut Pen, body: &Body) {
         Body::Refused { code } => tell_code(pen, *code),
         Body::List { version, rows } => tell_list(pen, *version, rows),
         Body::Own {
-            table,
-            lo,
-            hi,
+            range,
             term,
             previous,
             attempt,
         } => pen.say_all(
             "table % keys %..% term % after % attempt %",
             &[
-                Piece::U32(*table),
-                Piece::U64(*lo),
-                Piece::U64(*hi),
+                Piece::U32(range.table),
+                Piece::U64(range.lo),
+                Piece::U64(range.hi),
                 Piece::U32(*term),
                 Piece::U32(*previous),
                 Piece::U32(*attempt),
@@ -387,9 +385,9 @@ fn tell_part(pen: &mut Pen, part: &Part) {
     pen.say_all(
         "table % keys %..% term % to %",
         &[
-            Piece::U32(part.table),
-            Piece::U64(part.lo),
-            Piece::U64(part.hi),
+            Piece::U32(part.range.table),
+            Piece::U64(part.range.lo),
+            Piece::U64(part.range.hi),
             Piece::U32(part.previous),
             Piece::U32(part.term),
         ],

@@ -169,7 +169,7 @@ fn tell_lost_own(course: &Course, pen: &mut Pen, messages: &[Message]) {
     for (number, message) in messages.iter().enumerate() {
         if let (
             Body::Own {
-                table,
+                range,
                 attempt: 0,
                 ..
             },
@@ -180,7 +180,7 @@ fn tell_lost_own(course: &Course, pen: &mut Pen, messages: &[Message]) {
                 pen.say_all(
                     "hint: the Own of table % has not reached %, and nothing sends it again: where it is lost, stop % \
                      and start its host, and decide\n",
-                    &[Piece::U32(*table), Piece::Id(id), Piece::Id(id)],
+                    &[Piece::U32(range.table), Piece::Id(id), Piece::Id(id)],
                 );
                 return;
             }

@@ -220,9 +220,9 @@ fn put_ranges(pen: &mut Pen, ending: &Ending) {
             "%|,|\n{\"table\":%,\"lo\":\"%\",\"hi\":\"%\",\"term\":%,\"owner\":\"%\"}",
             &[
                 Piece::Flag(place == 0),
-                Piece::U32(range.table),
-                Piece::U64(range.lo),
-                Piece::U64(range.hi),
+                Piece::U32(range.keys.table),
+                Piece::U64(range.keys.lo),
+                Piece::U64(range.keys.hi),
                 Piece::U32(range.term),
                 Piece::Node(range.owner),
             ],

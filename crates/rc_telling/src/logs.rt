@@ -189,9 +189,9 @@ fn tell_ranges(pen: &mut Pen, story: &Story<'_>, ending: &Ending) {
         pen.say_all(
             "\n    table % keys %..% term % owner %",
             &[
-                Piece::U32(range.table),
-                Piece::U64(range.lo),
-                Piece::U64(range.hi),
+                Piece::U32(range.keys.table),
+                Piece::U64(range.keys.lo),
+                Piece::U64(range.keys.hi),
                 Piece::U32(range.term),
                 Piece::Node(range.owner),
             ],

@@ -4,6 +4,7 @@ use Rattle.rc_types.specs.declared.ids.ServerId.{ServerId}
 use Rattle.rc_types.specs.declared.ids.Addr.{Addr}
 use Rattle.rc_types.specs.declared.ids.Addr.TheVariants.{Server, Coordinator, Outside}
 use Rattle.rc_types.specs.declared.entries.Entry.{Entry}
+use Rattle.rc_types.specs.declared.rows.KeyRange.{KeyRange}
 use Rattle.rc_types.specs.declared.rows.PlanRow.{PlanRow}
 use Rattle.rc_types.specs.declared.messages.Message.{Message}
 use Rattle.rc_types.specs.declared.messages.Body.{Body}
@@ -46,14 +47,14 @@ from_none (Server from) body = sent_none from body
 from_none Coordinator body = refl
 from_none Outside body = refl
 
-own_none : (to : Addr) (n l h t p a : ℕ) → found_float (grant_in to (Own n l h t p a)) ≡ false
-own_none (Server to) n l h t p a = refl
-own_none Coordinator n l h t p a = refl
-own_none Outside n l h t p a = refl
+own_none : (to : Addr) (r : KeyRange) (t p a : ℕ) → found_float (grant_in to (Own r t p a)) ≡ false
+own_none (Server to) r t p a = refl
+own_none Coordinator r t p a = refl
+own_none Outside r t p a = refl
 
 body_none : (from to : Addr) (body : Body) → found_float (body_data from to body) ≡ false
 body_none from to (Plan h a m rows p) = ap (λ b. b || false) (rows_none rows)
-body_none from to (Own n l h t p a) = own_none to n l h t p a
+body_none from to (Own r t p a) = own_none to r t p a
 body_none from to given = from_none from given
 
 found_none : (d : Option Json) (ds : List Json) → found_float d ≡ false → items_have_float (items_of ds) ≡ false →

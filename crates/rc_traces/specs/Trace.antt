@@ -6,6 +6,7 @@ use Rattle.rc_types.specs.declared.ids.ServerId.{ServerId}
 use Rattle.rc_types.specs.declared.ids.Addr.{Addr}
 use Rattle.rc_types.specs.declared.ids.Addr.TheVariants.{Server, Coordinator, Outside}
 use Rattle.rc_types.specs.declared.entries.Entry.{Entry}
+use Rattle.rc_types.specs.declared.rows.KeyRange.{KeyRange}
 use Rattle.rc_types.specs.declared.rows.PlanRow.{PlanRow}
 use Rattle.rc_types.specs.declared.messages.Message.{Message}
 use Rattle.rc_types.specs.declared.messages.Body.TheVariants as body
@@ -101,7 +102,8 @@ plan_of d = only plan_members d (given3 plan_with
 
 abbrev pub own_with : ServerId → ℕ → ℕ → ℕ → ℕ → ℕ → ℕ → Message
 own_with to table lo hi term previous attempt =
-    record { from = Coordinator; to = Server to; body = body.Own table lo hi term previous attempt }
+    let range : KeyRange = record { table = table; lo = lo; hi = hi } in
+    record { from = Coordinator; to = Server to; body = body.Own range term previous attempt }
 
 abbrev pub own_of : Data → Option Message
 own_of d = only own_members d (given7 own_with

@@ -5,6 +5,7 @@ use Rattle.rc_types.specs.declared.ids.ServerId.{ServerId}
 use Rattle.rc_types.specs.declared.ids.Addr.{Addr}
 use Rattle.rc_types.specs.declared.ids.Addr.TheVariants.{Server}
 use Rattle.rc_types.specs.declared.entries.Entry.{Entry}
+use Rattle.rc_types.specs.declared.rows.KeyRange.{KeyRange}
 use Rattle.rc_types.specs.declared.rows.PlanRow.{PlanRow}
 use Rattle.rc_types.specs.declared.messages.Message.{Message}
 use Rattle.rc_types.specs.declared.messages.Body.{Body}
@@ -67,10 +68,11 @@ plan_data attempt master rows = object (member (codes "attempt") (count_data att
     (member (codes "m") (string (codes "plan")) (member (codes "of") (id_data master)
     (member (codes "rows") (array (rows_data rows)) no_members))))
 
-abbrev pub own_data : ServerId → ℕ → ℕ → ℕ → ℕ → ℕ → ℕ → Data
-own_data to table lo hi term previous attempt = object (member (codes "attempt") (count_data attempt)
-    (member (codes "hi") (count_data hi) (member (codes "lo") (count_data lo) (member (codes "m") (string (codes "own"))
-    (member (codes "previous") (count_data previous) (member (codes "table") (count_data table)
+abbrev pub own_data : ServerId → KeyRange → ℕ → ℕ → ℕ → Data
+own_data to range term previous attempt = object (member (codes "attempt") (count_data attempt)
+    (member (codes "hi") (count_data range.hi) (member (codes "lo") (count_data range.lo)
+    (member (codes "m") (string (codes "own"))
+    (member (codes "previous") (count_data previous) (member (codes "table") (count_data range.table)
     (member (codes "term") (count_data term) (member (codes "to") (id_data to) no_members))))))))
 
 -- what stands in a trace for an acknowledgement of this server
@@ -86,7 +88,7 @@ sent_data from body = ok_in from body
 
 -- for a grant to this server
 abbrev pub own_in : ServerId → Body → Option Data
-own_in to (Own table lo hi term previous attempt) = Some (own_data to table lo hi term previous attempt)
+own_in to (Own range term previous attempt) = Some (own_data to range term previous attempt)
 own_in to _ = None
 
 abbrev pub grant_in : Addr → Body → Option Data
@@ -100,7 +102,7 @@ sent_from _ body = None
 -- what stands in a trace for a message: nothing for one of another kind
 abbrev pub body_data : Addr → Addr → Body → Option Data
 body_data from to (Plan head attempt master rows parts) = Some (plan_data attempt master rows)
-body_data from to (Own table lo hi term previous attempt) = grant_in to (Own table lo hi term previous attempt)
+body_data from to (Own range term previous attempt) = grant_in to (Own range term previous attempt)
 body_data from to body = sent_from from body
 
 unfoldable pub message_data : Message → Option Data

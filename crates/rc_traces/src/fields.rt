@@ -18,7 +18,7 @@ use rc_reading::lists::{Said, read_list};
 use rc_reading::objects::{Object, read_object};
 use rc_reading::tokens::{pass, simple};
 use rc_reading::wanted::id;
-use rc_types::{Addr, Body, Entry, Message, PlanRow, Seq, ServerId, Shared};
+use rc_types::{Addr, Body, Entry, KeyRange, Message, PlanRow, Seq, ServerId, Shared};
 use std::alloc::Global;
 
 /// A member that some message has.
@@ -407,9 +407,11 @@ fn own(
         from: Addr::Coordinator,
         to: Addr::Server(to?),
         body: Body::Own {
-            table: table?,
-            lo: lo?,
-            hi: hi?,
+            range: KeyRange {
+                table: table?,
+                lo: lo?,
+                hi: hi?,
+            },
             term: term?,
             previous: previous?,
             attempt: attempt?,

@@ -149,9 +149,7 @@ fn own_value(alloc: Global, to: ServerId, body: &Body) -> Result<Option<Value>, 
     ensures { IfOk result (λ value. option_map view value ≡ own_in to body.now) }
 {
     let Body::Own {
-        table,
-        lo,
-        hi,
+        range,
         term,
         previous,
         attempt,
@@ -160,8 +158,9 @@ fn own_value(alloc: Global, to: ServerId, body: &Body) -> Result<Option<Value>, 
         return Ok(None);
     };
     let to = id(alloc, to)?;
-    let value = json!(in alloc; {"to": to, "attempt": *attempt, "hi": *hi, "lo": *lo, "m": "own",
-        "previous": *previous, "table": *table, "term": *term})?;
+    let value =
+        json!(in alloc; {"to": to, "attempt": *attempt, "hi": range.hi, "lo": range.lo, "m": "own",
+        "previous": *previous, "table": range.table, "term": *term})?;
     Ok(Some(value))
 }
 

@@ -31,7 +31,7 @@ kind_of (body.Plan head attempt master rows parts) = kind.Plan
 kind_of (body.Fetch attempt master seg len part) = kind.Fetch
 kind_of (body.Data attempt seg term entries) = kind.Data
 kind_of (body.Recovered attempt term) = kind.Recovered
-kind_of (body.Own table lo hi term previous attempt) = kind.Own
+kind_of (body.Own range term previous attempt) = kind.Own
 kind_of (body.SplitOk table at) = kind.SplitOk
 kind_of (body.Free seg) = kind.Free
 

@@ -3,4 +3,5 @@ pub mod Codes
 pub mod Counts
 pub mod Kinds
 pub mod Names
+pub mod Ranges
 pub mod Texts

@@ -3,7 +3,7 @@
 use crate::entries::Entry;
 use crate::faults::Code;
 use crate::ids::{Addr, ServerId};
-use crate::rows::{Part, PlanRow, Row};
+use crate::rows::{KeyRange, Part, PlanRow, Row};
 use crate::sequence::{Seq, TryClone};
 use crate::shared::Shared;
 use std::alloc::{AllocError, Global};
@@ -206,12 +206,8 @@ pub enum Body {
     },
     /// C to S: the range is yours under this term. `previous` and `attempt` are 0 for a new table.
     Own {
-        /// The table.
-        table: u32,
-        /// The first key of the range.
-        lo: u64,
-        /// The last key of the range.
-        hi: u64,
+        /// The keys.
+        range: KeyRange,
         /// The term of the new ownership.
         term: u32,
         /// The term of the owner before; 0 for a new table.
@@ -373,16 +369,12 @@ impl TryClone for Body {
                 term: *term,
             },
             Body::Own {
-                table,
-                lo,
-                hi,
+                range,
                 term,
                 previous,
                 attempt,
             } => Body::Own {
-                table: *table,
-                lo: *lo,
-                hi: *hi,
+                range: *range,
                 term: *term,
                 previous: *previous,
                 attempt: *attempt,

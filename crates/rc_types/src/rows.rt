@@ -1,6 +1,10 @@
 //! Rows of answers and plans, ranges of keys, parts of a recovery, and tablets.
 
+ghost use Rattle.std.specs.Prelude.{◌≡◌};
+ghost use Rattle.rc_types.specs.Ranges.{all_keys, in_range};
+
 use crate::ids::ServerId;
+use crate::limits::LAST_KEY;
 use crate::sequence::{Seq, TryClone};
 use crate::shared::Shared;
 use std::alloc::{AllocError, Global};
@@ -70,7 +74,7 @@ impl TryClone for Plan {
 }
 
 /// A contiguous range of the keys of one table.
-#[derive(Clone, Copy)]
+#[derive(Clone, Copy, PartialEq, Eq)]
 pub struct KeyRange {
     /// The table.
     pub table: u32,
@@ -80,16 +84,32 @@ pub struct KeyRange {
     pub hi: u64,
 }
 
+impl KeyRange {
+    /// All keys of a table.
+    pub fn all_keys(table: u32) -> KeyRange
+        ensures { result ≡ all_keys table }
+    {
+        KeyRange {
+            table,
+            lo: 0,
+            hi: LAST_KEY,
+        }
+    }
+
+    /// Whether this key of this table lies in the range.
+    pub fn holds(&self, table: u32, key: u64) -> bool
+        ensures { result ≡ in_range self.now table key }
+    {
+        self.table == table && self.lo <= key && key <= self.hi
+    }
+}
+
 /// A recovery master's part of a crashed master's tablets: a range, the term that its entries have
 /// in the crashed master's log, and the term that they get.
 #[derive(Clone, Copy)]
 pub struct Part {
-    /// The table.
-    pub table: u32,
-    /// The first key.
-    pub lo: u64,
-    /// The last key.
-    pub hi: u64,
+    /// The keys.
+    pub range: KeyRange,
     /// The term that the tablet had when its owner crashed.
     pub previous: u32,
     /// The term that it is recovered under.
@@ -105,12 +125,8 @@ impl TryClone for Part {
 /// A range of keys with its one owner.
 #[derive(Clone, Copy)]
 pub struct Tablet {
-    /// The table.
-    pub table: u32,
-    /// The first key.
-    pub lo: u64,
-    /// The last key.
-    pub hi: u64,
+    /// The keys.
+    pub range: KeyRange,
     /// Who owns it, or owned it when it crashed.
     pub owner: ServerId,
     /// The term of this ownership.

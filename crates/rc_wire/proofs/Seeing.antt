@@ -1,5 +1,6 @@
 -- The first message that a seat sees, which it has delivered or holds.
-use Rattle.std.proofs.Common.{◌≡◌, ◌⊎◌, inl, inr, ℕ, ◌+◌, ◌≤◌, Bool, true, false, length, List, Some, None, sym, ap, ◌∙◌, subst, arith}
+use Rattle.std.proofs.Common.{◌≡◌, ◌⊎◌, inl, inr, ℕ, ◌+◌, ◌≤◌, Bool, true, false, length, List}
+use Rattle.std.proofs.Common.{Some, None, sym, ap, ◌∙◌, subst, arith}
 use Rattle.rc_model.specs.Model.{Setup, Event, replay}
 use Rattle.rc_wire.specs.Numbers.{least_to}
 use Rattle.rc_wire.specs.SeatView.{SeatData, world_at}
@@ -12,7 +13,8 @@ use Rattle.rc_wire.proofs.Turning.{progress-later, progress-had, grows-later, gr
 
 -- a number that was found is that of a message there
 found-is-there : (setup : Setup) (looked new : SeatData) (from number : ℕ) →
-    least_to looked.name from (world_at setup looked).sent ≡ Some number → new.seen ≡ looked.seen → Misses setup looked number new → ⊥
+    least_to looked.name from (world_at setup looked).sent ≡ Some number → new.seen ≡ looked.seen →
+    Misses setup looked number new → ⊥
 found-is-there setup looked new from number first same misses =
     let within = within-found from 0 number looked.name (world_at setup looked).sent first in
     let none : length (world_at setup looked).sent ≤ number =
@@ -44,7 +46,8 @@ idle-sees setup old from number new sees idle =
       | inr finds ↦ ap (λ (s : SeatData). s.pending) finds.1.after ∙ before
     ]
 
-pub grows-sees : (setup : Setup) (old : SeatData) (from number : ℕ) (new : SeatData) → SeesNext setup old from number new → Grows old new
+pub grows-sees : (setup : Setup) (old : SeatData) (from number : ℕ) (new : SeatData) →
+    SeesNext setup old from number new → Grows old new
 grows-sees setup old from number new sees =
     let before = grows-later old sees.looked sees.later in
     elim sees.held [

@@ -1,6 +1,7 @@
 //! The wire, and what seats do at it.
 
-ghost use Rattle.std.specs.Prelude.{◌≡◌, ◌⊎◌, ◌+◌, ◌≤◌, true, [], ℕ, None, is_some, length, All, IfOk, IfErr, OnErr};
+ghost use Rattle.std.specs.Prelude.{◌≡◌, ◌⊎◌, ◌+◌, ◌≤◌, true, [], ℕ, None, is_some, length};
+ghost use Rattle.std.specs.Prelude.{All, IfOk, IfErr, OnErr};
 ghost use Rattle.std.specs.Option.{IfSome, IfNone};
 ghost use Rattle.rc_types.specs.declared.faults.Fault.TheVariants.{OutOfMemory, BadEvent};
 ghost use Rattle.rc_types.specs.declared.limits.TheConstants.{MAX_EVENTS, MAX_HOSTS};
@@ -80,8 +81,9 @@ impl<N: Naming> Wire<N> {
         seat.hold(&mut self.journal.lock(rt), number)
     }
 
-    /// `next` and `fetch` at once, under one lock: the seat holds the message whose number is the answer, unless it has
-    /// delivered it.
+    /// The least number, from `from` on, of a message to the seat's node, as `next` gives it; the seat holds that
+    /// message then, unless it has delivered it. One lock for both. None where there is no such message. No step of
+    /// the seat may be pending.
     ///
     /// # Errors
     ///

@@ -87,7 +87,7 @@ module _ (Asked : Entry → Type 0) (R : Master → Master × List Message → T
     begins = λ one attempt crashed head rows parts part is at new. kept.quiet one _ _ (quiet-refl one.log)
         (soft-all _ (each-map is_soft _ rows (λ row _. refl)));
     comes = λ holder attempt seg term entries is says. same master _ refl;
-    owns = λ table lo hi term previous attempt is. same master _ refl;
+    owns = λ range term previous attempt is. same master _ refl;
   }
 
   pub first-kept_by : (master : Master) (from : Addr) (body : Body) → WritesAsked master body →

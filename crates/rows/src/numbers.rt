@@ -135,13 +135,11 @@ impl Numbers {
 
     /// The next five numbers as a part.
     pub fn part(&mut self) -> Part {
-        let KeyRange { table, lo, hi } = self.range();
+        let range = self.range();
         let previous = self.long();
         let term = self.long();
         Part {
-            table,
-            lo,
-            hi,
+            range,
             previous,
             term,
         }

@@ -1,7 +1,7 @@
 //! Which servers there are, and who owns what, as far as the messages tell.
 
 use crate::exploring::options::MOST_HOSTS;
-use rc_types::{Addr, Body, Message, ServerId};
+use rc_types::{Addr, Body, KeyRange, Message, ServerId};
 use rc_world::World;
 use std::alloc::{AllocError, Global};
 
@@ -199,20 +199,11 @@ impl Roster {
     /// What a message tells of owners and of plans.
     pub(crate) fn notice(&mut self, message: &Message) -> Result<(), AllocError> {
         match (message.to, &message.body) {
-            (
-                Addr::Server(id),
-                Body::Own {
-                    table,
-                    lo,
-                    hi,
-                    term,
-                    ..
-                },
-            ) => {
+            (Addr::Server(id), Body::Own { range, term, .. }) => {
                 if !self.owned.contains(&id) {
                     self.owned.push(id)?;
                 }
-                self.grant(id, *table, *lo, *hi);
+                self.grant(id, range);
                 self.forget(*term);
             }
             (_, Body::Plan { master, parts, .. }) => {
@@ -229,14 +220,11 @@ impl Roster {
         Ok(())
     }
 
-    /// The server owns these keys of the table.
-    fn grant(&mut self, id: ServerId, table: u32, lo: u64, hi: u64) {
-        if table != self.table {
-            return;
-        }
+    /// The server owns these keys.
+    fn grant(&mut self, id: ServerId, range: &KeyRange) {
+        let table = self.table;
         for (key, owners) in self.owners.iter_mut().enumerate() {
-            let key = key as u64;
-            if lo <= key && key <= hi && owners.last != id {
+            if range.holds(table, key as u64) && owners.last != id {
                 owners.before = owners.last;
                 owners.last = id;
             }

@@ -10,8 +10,8 @@ pub insert_within-requires : goal.insert_within-requires
 insert_within-requires g t c κs within =
     let f = is_fork c.requires.tree c.in-Fork.is in
     let tree : IsSearchTree c.deref_mut.result.now = left_tree c.requires.tree c.in-Fork.is _ c.deref_mut.ensures.value in
-    let new : has_table (leaves c.deref_mut.result.now) c.args.tablet.table ≡ false =
-    cc (no_table_left c.args.tablet.table f c.requires.new) in
+    let new : has_table (leaves c.deref_mut.result.now) c.args.tablet.range.table ≡ false =
+    cc (no_table_left c.args.tablet.range.table f c.requires.new) in
     search (rules, the_lemmas)
 
 pub insert_within-requires-else-tablet-bound : goal.insert_within-requires-else-tablet-bound
@@ -19,8 +19,8 @@ insert_within-requires-else-tablet-bound g t c κs within =
     let f = is_fork c.requires.tree c.in-Fork.is in
     let tree : IsSearchTree c.deref_mut-else-tablet-bound.result.now =
     right_tree c.requires.tree c.in-Fork.is _ c.deref_mut-else-tablet-bound.ensures.value in
-    let new : has_table (leaves c.deref_mut-else-tablet-bound.result.now) c.args.tablet.table ≡ false =
-    cc (no_table_right c.args.tablet.table f c.requires.new) in
+    let new : has_table (leaves c.deref_mut-else-tablet-bound.result.now) c.args.tablet.range.table ≡ false =
+    cc (no_table_right c.args.tablet.range.table f c.requires.new) in
     search (rules, the_lemmas)
 
 pub returns-then-tablet-bound-clause-list : goal.returns-then-tablet-bound-clause-list

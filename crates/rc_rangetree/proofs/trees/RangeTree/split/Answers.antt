@@ -40,7 +40,7 @@ invariant_of-self-2 g c =
     let same = tablet_of-table (leaves c.self.inside.root) c.args.table c.args.at c.in-Some.tablet found in
     let unrefused = not_refused c.args.at c.self.inside.count c.in-Some.tablet
     (sym c.split_refusal.ensures ∙ c.in_default-split_refusal.is) in
-    let inside : c.in-Some.tablet.lo < c.args.at =
+    let inside : c.in-Some.tablet.range.lo < c.args.at =
     omega (arith, tablet_of-lo (leaves c.self.inside.root) c.args.table c.args.at c.in-Some.tablet found, unrefused.0) in
     let are : leaves c.split.new.self ≡ split_at c.args.table c.args.at (leaves c.self.inside.root) =
     cc (same, c.in_ok-split.ensures.list) in
