@@ -5,7 +5,7 @@ use crate::{bodies, looks, told};
 use rc_headroll::{LogHead, Segment};
 use rc_master::Master;
 use rc_types::limits::{MAX_FACTOR, MAX_SEGMENT};
-use rc_types::{Fault, Member, Message, Phase, Told};
+use rc_types::{Fault, MasterSetup, Member, Message, Phase, Told};
 use rows::{Numbers, Page};
 use std::alloc::Global;
 
@@ -14,7 +14,7 @@ pub fn new(alloc: Global, numbers: &mut Numbers, free: bool) -> Master {
     let own = numbers.id();
     let factor = numbers.byte().clamp(1, MAX_FACTOR);
     let size = numbers.short().clamp(1, MAX_SEGMENT);
-    Master::new(alloc, own, factor, size, free)
+    Master::new(alloc, own, MasterSetup { factor, size, free })
 }
 
 /// One command for the master.

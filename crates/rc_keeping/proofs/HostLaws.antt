@@ -48,8 +48,13 @@ held_law = made_lawful (four_lawful id_law flag_law (listed_lawful replica_law) 
 
 head_law : Lawful head_code head_at
 head_law = made_lawful (six_lawful u8_law u8_law u16_law flag_law u32_law flag_law)
-    (λ p. record { index = p.0; factor = p.1; size = p.2; free = p.3; generation = p.4; runs = p.5 })
-    (λ h. (h.index, h.factor, h.size, h.free, h.generation, h.runs)) head_code (λ h. refl) (λ p. refl)
+    (λ p. record {
+      index = p.0;
+      setup = record { factor = p.1; size = p.2; free = p.3 };
+      generation = p.4;
+      runs = p.5;
+    })
+    (λ h. (h.index, h.setup.factor, h.setup.size, h.setup.free, h.generation, h.runs)) head_code (λ h. refl) (λ p. refl)
 
 pub host_law : Lawful host_code host_at
 host_law = made_lawful (three_lawful head_law id_law (listed_lawful held_law))

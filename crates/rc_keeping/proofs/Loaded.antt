@@ -9,7 +9,7 @@ use Rattle.rc_model.proofs.Tests.{true_false}
 use Rattle.rc_history.specs.Remade.{host_keeps, coordinator_keeps, SameButMaster}
 use Rattle.rc_coordinator.specs.Book.{Book, coordinator_of}
 use Rattle.rc_world.specs.HostView.{HostData, host_of}
-use Rattle.rc_world.specs.HostParts.{HostParts, head_of, setup_of, last_server, host_from}
+use Rattle.rc_world.specs.HostParts.{HostParts, head_of, last_server, host_from}
 use Rattle.rc_world.specs.NodeView.{NodeData, OutsideData, CoordinatorData, HostNodeData, node_seen}
 use Rattle.rc_types.specs.declared.events.NodeWork.{NodeWork}
 use Rattle.rc_types.specs.declared.events.NodeWork.TheVariants as work
@@ -33,7 +33,7 @@ parts_in host = record { head = head_of (host_of host); backup = host.backup }
 same-host : (host : HostData) → SameButMaster (host_from (parts_in host)) (host_of host)
 same-host host =
     let head = head_of (host_of host) in record {
-      runs = runs-where (runs (host_of host)) (new_master (last_server head) (setup_of head));
+      runs = runs-where (runs (host_of host)) (new_master (last_server head) head.setup);
       rest = refl;
     }
 

@@ -10,7 +10,7 @@ use Rattle.rc_codec.proofs.Promises.{is_prefix_free}
 use Rattle.rc_codec.proofs.Lawful.{IsBytes, some_is}
 use Rattle.rc_coordinator.specs.Book.{Book, IsBook}
 use Rattle.rc_world.specs.HostView.{IsMasterSetup}
-use Rattle.rc_world.specs.HostParts.{HostParts, setup_of, host_parts_in}
+use Rattle.rc_world.specs.HostParts.{HostParts, host_parts_in}
 use Rattle.rc_world.specs.NodeView.{NodeData, OutsideData, CoordinatorData, HostNodeData, node_seen, book_in}
 use Rattle.rc_keeping.specs.Spelling.{sealed, sum_of}
 use Rattle.rc_keeping.proofs.RecordLaws.{head_code, head_law, head_of}
@@ -40,7 +40,7 @@ saved_nothing (CoordinatorData book) no_host no_coordinator = absurd cc
 saved_nothing (HostNodeData host) no_host no_coordinator = absurd cc
 
 pub is_saved_host : (node : NodeData) (parts : HostParts) (before after : List ℕ) → host_parts_in node ≡ Some parts →
-    IsMasterSetup (setup_of parts.head) → IsInOrder parts.backup.table → after ≡ before ++ save_of (HostSave parts) →
+    IsMasterSetup parts.head.setup → IsInOrder parts.backup.table → after ≡ before ++ save_of (HostSave parts) →
     IsSaved node before after
 is_saved_host node parts before after its limits order written = record {
   saved = HostSave parts;

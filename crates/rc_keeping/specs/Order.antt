@@ -10,7 +10,7 @@ use Rattle.rc_model.specs.Backup.{Held}
 use Rattle.rc_backup.specs.BackupView.{id_order}
 use Rattle.rc_coordinator.specs.Book.{IsBook}
 use Rattle.rc_world.specs.HostView.{IsMasterSetup}
-use Rattle.rc_world.specs.HostParts.{HostParts, setup_of}
+use Rattle.rc_world.specs.HostParts.{HostParts}
 use Rattle.rc_keeping.specs.Saved.{Saved, HostSave, CoordinatorSave}
 
 -- replicas and freed segments ascend by segment
@@ -29,7 +29,7 @@ pub record IsInOrder (table : List (ServerId × Held)) : Type 0 where
 
 -- every host has such parts; not all such parts are of a host that a run leads to
 pub record AreSound (parts : HostParts) : Type 0 where
-  pub limits : IsMasterSetup (setup_of parts.head)
+  pub limits : IsMasterSetup parts.head.setup
   pub order : IsInOrder parts.backup.table
 
 -- every node has such a save

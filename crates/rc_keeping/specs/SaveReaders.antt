@@ -27,7 +27,12 @@ held_at = made (four id_at flag_at (listed_at replica_at) (listed_at u16_at))
 
 abbrev pub head_at : Reader HostHead
 head_at = made (six u8_at u8_at u16_at flag_at u32_at flag_at)
-    (λ p. record { index = p.0; factor = p.1; size = p.2; free = p.3; generation = p.4; runs = p.5 })
+    (λ p. record {
+      index = p.0;
+      setup = record { factor = p.1; size = p.2; free = p.3 };
+      generation = p.4;
+      runs = p.5;
+    })
 
 -- what stands behind the version and the kind
 abbrev pub host_at : Reader HostParts

@@ -32,7 +32,7 @@ abbrev pub backup_code : Holdings → List ℕ
 backup_code backup = id_code backup.own ++ listed held_code backup.table
 
 abbrev pub head_code : HostHead → List ℕ
-head_code head = byte head.index ++ byte head.factor ++ two_bytes head.size ++ flag head.free
+head_code head = byte head.index ++ byte head.setup.factor ++ two_bytes head.setup.size ++ flag head.setup.free
     ++ four_bytes head.generation ++ flag head.runs
 
 abbrev pub host_code : HostParts → List ℕ

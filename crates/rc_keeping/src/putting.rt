@@ -107,9 +107,9 @@ fn put_head(head: &HostHead, out: &mut Vec<u8>) -> Result<(), AllocError>
 {
     (
         head.index,
-        head.factor,
-        head.size,
-        head.free,
+        head.setup.factor,
+        head.setup.size,
+        head.setup.free,
         head.generation,
         head.runs,
     )

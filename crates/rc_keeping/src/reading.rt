@@ -7,7 +7,7 @@ ghost use Rattle.rc_keeping.specs.SaveReaders.{alone_at, coded_at};
 use crate::book_reading::WrittenBook;
 use rc_codec::{DecodeFault, Take};
 use rc_replica::Replica;
-use rc_types::{Entry, Seq, ServerId, Shared};
+use rc_types::{Entry, MasterSetup, Seq, ServerId, Shared};
 use rc_world::HostHead;
 use std::alloc::Global;
 use std::marker::Model;
@@ -226,9 +226,7 @@ impl Take for Head {
         )>::take(alloc, bytes)?;
         let head = HostHead {
             index,
-            factor,
-            size,
-            free,
+            setup: MasterSetup { factor, size, free },
             generation,
             runs,
         };

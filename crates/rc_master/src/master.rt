@@ -10,7 +10,7 @@ ghost use Rattle.rc_master.specs.Steps.{steps};
 
 use crate::state::State;
 use rc_headroll::LogHead;
-use rc_types::{Addr, Body, Message, NodeWork, ServerId};
+use rc_types::{Addr, Body, MasterSetup, Message, NodeWork, ServerId};
 use std::alloc::{AllocError, Global};
 use std::fmt;
 use std::marker::Model;
@@ -55,17 +55,15 @@ impl Model for Master {
 }
 
 impl Master {
-    /// A master that knows nobody, owns nothing and has no head. Each segment is to have `factor`
-    /// replicas and take `size` entries; `free` says whether dead segments are freed. It takes no
-    /// memory.
-    pub fn new(alloc: Global, own: ServerId, factor: u8, size: u16, free: bool) -> Master
-        requires some { 0 < factor }
-        requires factor { factor ≤ FACTOR }
-        requires size { size ≤ SEGMENT }
-        ensures { master_of result ≡ new_master own (record { factor = factor; size = size; free = free }) }
+    /// A master that knows nobody, owns nothing and has no head. It takes no memory.
+    pub fn new(alloc: Global, own: ServerId, setup: MasterSetup) -> Master
+        requires some { 0 < setup.factor }
+        requires factor { setup.factor ≤ FACTOR }
+        requires size { setup.size ≤ SEGMENT }
+        ensures { master_of result ≡ new_master own setup }
     {
         Master {
-            state: State::new(alloc, own, factor, size, free),
+            state: State::new(alloc, own, setup),
         }
     }
 

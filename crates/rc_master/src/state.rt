@@ -16,7 +16,7 @@ use rc_headroll::LogHead;
 use rc_notices::{Task, add_append, refusal, roll};
 use rc_ownership::Ownership;
 use rc_serverlist::ServerList;
-use rc_types::{Entry, Fault, Message, ServerId};
+use rc_types::{Entry, Fault, MasterSetup, Message, ServerId};
 use std::alloc::{AllocError, Global};
 
 /// What a master knows.
@@ -42,11 +42,11 @@ pub(crate) struct State {
 
 impl State {
     /// A master that knows nobody, owns nothing and has no head. It takes no memory.
-    pub(crate) fn new(alloc: Global, own: ServerId, factor: u8, size: u16, free: bool) -> State
-        requires some { 0 < factor }
-        requires factor { factor ≤ FACTOR }
-        requires size { size ≤ SEGMENT }
-        ensures state { state_view result ≡ new_master own (record { factor = factor; size = size; free = free }) }
+    pub(crate) fn new(alloc: Global, own: ServerId, setup: MasterSetup) -> State
+        requires some { 0 < setup.factor }
+        requires factor { setup.factor ≤ FACTOR }
+        requires size { setup.size ≤ SEGMENT }
+        ensures state { state_view result ≡ new_master own setup }
         ensures noted { IsNoted result }
         ensures quiet { IsQuiet (state_view result) }
     {
@@ -54,8 +54,8 @@ impl State {
             alloc,
             known: ServerList::new(alloc),
             earlier: None,
-            log: LogHead::new(alloc, own, factor, size),
-            free,
+            log: LogHead::new(alloc, own, setup.factor, setup.size),
+            free: setup.free,
             ownership: Ownership::new(alloc),
             tasks: Vec::new(alloc),
             kept: 0,

@@ -1,6 +1,7 @@
 -- A master: its log, what it owns, what it recovers, and which servers it knows. Here is what its rules have in common.
 use Rattle.std.specs.Prelude.{ℕ, Bool, false, not, ◌&&◌, if◌then◌else◌, List, [], ◌∷◌, length, map, filter, take}
 use Rattle.rc_types.specs.declared.ids.ServerId.{ServerId}
+use Rattle.rc_types.specs.declared.events.MasterSetup.{MasterSetup}
 use Rattle.rc_types.specs.declared.entries.Entry.{Entry}
 use Rattle.rc_types.specs.declared.rows.Part.{Part}
 use Rattle.rc_types.specs.declared.rows.PlanRow.{PlanRow}
@@ -21,13 +22,6 @@ pub record Task : Type 0 where
   pub master : ServerId
   pub rows : List PlanRow
   pub part : Part
-
--- what a host's masters are made with: replicas of each segment, entries a segment takes, whether dead segments are
--- freed
-pub record MasterSetup : Type 0 where
-  pub factor : ℕ
-  pub size : ℕ
-  pub free : Bool
 
 pub record Master : Type 0 where
   -- the greatest server list that it has taken

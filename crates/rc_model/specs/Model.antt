@@ -105,7 +105,8 @@ pub use Rattle.rc_model.specs.Log.{Log, LogPlace, durable_among, durable_now, en
 pub use Rattle.rc_model.specs.Log.{head_of, is_closing, is_opening, is_writing, new_log, numbers_to, old_head_of}
 pub use Rattle.rc_model.specs.Log.{places_in, places_of, places_to, replayed_at, with_segment}
 pub use Rattle.rc_model.specs.Made.{entry_at, made}
-pub use Rattle.rc_model.specs.Master.{Master, MasterSetup, Task, appends_entry, dead_segments, durable_entries}
+pub use Rattle.rc_types.specs.declared.events.MasterSetup.{MasterSetup}
+pub use Rattle.rc_model.specs.Master.{Master, Task, appends_entry, dead_segments, durable_entries}
 pub use Rattle.rc_model.specs.Master.{durable_replayed, ids_of, is_dead_segment, new_master, not_lost, place_of}
 pub use Rattle.rc_model.specs.Master.{places_head, to_ids, to_unlost, with_log}
 pub use Rattle.rc_model.specs.MasterClaims.{FollowUpsLower, NoneAppliesAfterwards, ShutIsMarked}

@@ -19,7 +19,8 @@ use Rattle.rc_types.specs.declared.messages.Body.TheVariants.{Enlist}
 use Rattle.rc_model.specs.Ids.{is_server}
 use Rattle.rc_model.specs.Messages.{to_coordinator}
 use Rattle.rc_model.specs.Backup.{Backup, new_backup, backup_takes, restart}
-use Rattle.rc_model.specs.Master.{Master, MasterSetup, new_master}
+use Rattle.rc_types.specs.declared.events.MasterSetup.{MasterSetup}
+use Rattle.rc_model.specs.Master.{Master, new_master}
 use Rattle.rc_model.specs.MasterStep.{master_takes, master_ticks}
 use Rattle.rc_model.specs.Coordinator.{Coordinator, suspects}
 use Rattle.rc_model.specs.Deciding.{decides}

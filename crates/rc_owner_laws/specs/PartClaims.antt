@@ -4,7 +4,8 @@ use Rattle.rc_types.specs.declared.ids.ServerId.{ServerId}
 use Rattle.rc_types.specs.declared.ids.Addr.{Addr}
 use Rattle.rc_types.specs.declared.messages.Message.{Message}
 use Rattle.rc_types.specs.declared.messages.Body.{Body}
-use Rattle.rc_model.specs.Master.{Master, MasterSetup, new_master}
+use Rattle.rc_types.specs.declared.events.MasterSetup.{MasterSetup}
+use Rattle.rc_model.specs.Master.{Master, new_master}
 use Rattle.rc_model.specs.MasterStep.{master_takes, master_ticks}
 use Rattle.rc_owner_laws.specs.Parts.{part_view, GoodParts}
 use Rattle.rc_owner_laws.specs.PartMoves.{HasHead, PartsMoved, PartsHear}

@@ -3,7 +3,7 @@
 use rc_backup::Backup;
 use rc_codec::DecodeFault;
 use rc_keeping::{SaveFault, load, save_into};
-use rc_types::{Addr, Body, Entry, Fault, Message, NodeWork, Seq, ServerId, Setup, Shared};
+use rc_types::{Addr, Body, Entry, Fault, MasterSetup, Message, NodeWork, Seq, ServerId, Setup, Shared};
 use rc_world::{HostHead, NodeState};
 use std::alloc::{AllocError, Global};
 use std::process::Abort;
@@ -106,9 +106,11 @@ fn example(alloc: Global) -> Result<NodeState<Global>, Fault> {
     backup.step_into(&to_own(Addr::Coordinator, gather), &mut sent)?;
     let head = HostHead {
         index: 2,
-        factor: 2,
-        size: 4,
-        free: true,
+        setup: MasterSetup {
+            factor: 2,
+            size: 4,
+            free: true,
+        },
         generation: 1,
         runs: true,
     };

@@ -30,6 +30,17 @@ impl TryClone for Setup {
     }
 }
 
+/// What a host's masters are made with.
+#[derive(Clone, Copy, Debug, PartialEq, Eq)]
+pub struct MasterSetup {
+    /// How many replicas each segment has, 1 to 5.
+    pub factor: u8,
+    /// How many entries a segment takes, 1 to 1,024.
+    pub size: u16,
+    /// Whether segments that have become wholly dead are freed.
+    pub free: bool,
+}
+
 /// One event of a world: one input, taken by one node.
 #[derive(Drop)]
 pub enum Event {

@@ -5,7 +5,7 @@ use Rattle.rc_model.specs.Model.{Setup, Event}
 use Rattle.rc_history.specs.Events.{events_of}
 use Rattle.rc_types.specs.declared.ids.NodeName.{NodeName}
 use Rattle.rc_wire.specs.SeatView.{SeatData, new_seat}
-use Rattle.rc_wire.specs.SeatCalls.{Covers}
+use Rattle.rc_wire.specs.SeatCalls.{IsSeat, Covers}
 use Rattle.rc_wire.specs.Views.{name_at}
 use Rattle.rc_wire.specs.Seats.{new_seats}
 use Rattle.rc_wire.specs.declared.steps.Step.{Step}
@@ -51,9 +51,10 @@ works-done setup events steps nodes olds news are ran covers =
 -- seats that were new, of which one could not go on
 pub was-stuck : (setup : Setup) (events : List Event) (steps : List Step) (nodes : ℕ) (olds news : List SeatData) →
     olds ≡ new_seats nodes → (all_seated olds steps ≡ false) ⊎ SomeCannotGoOn setup olds steps news →
-    All (Covers setup events) news → SomeWasStuck setup events steps nodes
-was-stuck setup events steps nodes olds news are stuck covers = record {
+    All (Covers setup events) news → All (IsSeat setup) news → SomeWasStuck setup events steps nodes
+was-stuck setup events steps nodes olds news are stuck covers whole = record {
   seats = news;
+  whole = whole;
   covered = covers;
   stuck = subst (λ (l : List SeatData). (all_seated l steps ≡ false) ⊎ SomeCannotGoOn setup l steps news) are stuck;
 }

@@ -7,7 +7,7 @@ use Rattle.rc_wire.specs.Seats.{new_seats}
 use Rattle.rc_wire.specs.SeatView.{SeatData}
 use Rattle.rc_wire.specs.declared.steps.Step.{Step}
 use Rattle.rc_wire.specs.Runs.{works_in, works_for}
-use Rattle.rc_wire.specs.SeatCalls.{Covers}
+use Rattle.rc_wire.specs.SeatCalls.{IsSeat, Covers}
 use Rattle.rc_wire.specs.Ends.{all_seated, SomeCannotGoOn}
 
 -- besides deliveries the node of this seat has taken its works of the steps, in order, and nothing else
@@ -22,5 +22,6 @@ AllHaveWorked setup events steps nodes = All (HasWorked setup events steps) (new
 -- can't do there, or had seen as many events as there may be
 pub record SomeWasStuck (setup : Setup) (events : List Event) (steps : List Step) (nodes : ℕ) : Type 0 where
   pub seats : List SeatData
+  pub whole : All (IsSeat setup) seats
   pub covered : All (Covers setup events) seats
   pub stuck : (all_seated (new_seats nodes) steps ≡ false) ⊎ SomeCannotGoOn setup (new_seats nodes) steps seats

@@ -3,7 +3,7 @@
 ghost use Rattle.std.specs.Prelude.{◌≡◌, All, IfOk};
 ghost use Rattle.rc_world.specs.HostView.{IsWithinLimits};
 ghost use Rattle.rc_wire.specs.Sound.{IsHistory};
-ghost use Rattle.rc_wire.specs.SeatCalls.{Covers};
+ghost use Rattle.rc_wire.specs.SeatCalls.{IsSeat, Covers};
 
 use crate::journal::Journal;
 use crate::names::Naming;
@@ -34,6 +34,7 @@ pub(crate) fn replayed<N: Naming>(
 pub(crate) fn look_at_last<N: Naming>(journal: &mut Journal<N>, seats: Vec<Seat<N>>)
     ensures journal { journal.new ≡ journal.old }
     ensures covers { All (Covers N.wire.setup journal.old) seats.items }
+    ensures whole { All (IsSeat N.wire.setup) seats.items }
 {
     let mut seats = seats;
     while let Some(seat) = seats.pop() {
@@ -45,6 +46,7 @@ pub(crate) fn look_at_last<N: Naming>(journal: &mut Journal<N>, seats: Vec<Seat<
 fn look<N: Naming>(journal: &mut Journal<N>, seat: Seat<N>)
     ensures journal { journal.new ≡ journal.old }
     ensures covers { Covers N.wire.setup journal.old seat }
+    ensures whole { IsSeat N.wire.setup seat }
 {
     let mut seat = seat;
     seat.see(journal);

@@ -1,7 +1,7 @@
 //! The wire, and what seats do at it.
 
 ghost use Rattle.std.specs.Prelude.{◌≡◌, ◌⊎◌, ◌+◌, ◌≤◌, true, [], ℕ, None, is_some, length};
-ghost use Rattle.std.specs.Prelude.{All, IfOk, IfErr, OnErr};
+ghost use Rattle.std.specs.Prelude.{All, IfOk, IfErr, OnOk, OnErr};
 ghost use Rattle.std.specs.Option.{IfSome, IfNone};
 ghost use Rattle.rc_types.specs.declared.faults.Fault.TheVariants.{OutOfMemory, BadEvent};
 ghost use Rattle.rc_types.specs.declared.limits.TheConstants.{MAX_EVENTS, MAX_HOSTS};
@@ -12,7 +12,7 @@ ghost use Rattle.rc_wire.specs.Numbers.{least_to};
 ghost use Rattle.rc_wire.specs.JournalCalls.{new_places};
 ghost use Rattle.rc_wire.specs.Sound.{IsHistory};
 ghost use Rattle.rc_wire.specs.SeatView.{world_at};
-ghost use Rattle.rc_wire.specs.SeatCalls.{Covers, Later, Fetches, SeesNone, SeesNext, Commits};
+ghost use Rattle.rc_wire.specs.SeatCalls.{IsSeat, Covers, Later, Fetches, SeesNone, SeesNext, Commits};
 ghost use Rattle.rc_wire.specs.Seats.{new_seats};
 
 use crate::begin::seats_of;
@@ -121,7 +121,7 @@ impl<N: Naming> Wire<N> {
     }
 
     /// The world of the history, in which each of these seats has done exactly what it committed, and
-    /// nodes without a seat nothing. What is still pending is dropped.
+    /// nodes without a seat nothing; and what is true of each seat is true of these. What is still pending is dropped.
     ///
     /// # Errors
     ///
@@ -133,6 +133,7 @@ impl<N: Naming> Wire<N> {
     ) -> Result<World<Global>, (Wire<N>, Vec<Seat<N>>, AllocError)>
         ensures world { IfOk result (λ world. world.setup ≡ N.wire.setup) }
         ensures seats { IfOk result (λ world. All (Covers N.wire.setup world.events) seats.items) }
+        ensures whole { OnOk result (All (IsSeat N.wire.setup) seats.items) }
         ensures others { IfOk result (λ world. (number : ℕ) → N.wire.nodes ≤ number →
             events_of N.wire.setup (name_at number) world.events ≡ []) }
         ensures back { IfErr result (λ refused. refused.1.items ≡ seats.items) }

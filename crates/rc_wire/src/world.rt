@@ -1,10 +1,10 @@
 //! The world that the steps of the command `threads` lead to.
 
-ghost use Rattle.std.specs.Prelude.{◌≡◌, ◌≤◌, ◌+◌, true, false, All, IfOk};
+ghost use Rattle.std.specs.Prelude.{◌≡◌, ◌≤◌, ◌+◌, true, false, All, IfOk, OnOk};
 ghost use Rattle.rc_types.specs.declared.limits.TheConstants.{MAX_HOSTS};
 ghost use Rattle.rc_world.specs.HostView.{IsWithinLimits};
 ghost use Rattle.rc_wire.specs.Runs.{none_fetched};
-ghost use Rattle.rc_wire.specs.SeatCalls.{Covers};
+ghost use Rattle.rc_wire.specs.SeatCalls.{IsSeat, Covers};
 ghost use Rattle.rc_wire.specs.Worked.{AllHaveWorked, SomeWasStuck};
 ghost use Rattle.rc_wire.specs.Workload.{threads_setup, workload};
 
@@ -106,6 +106,7 @@ fn closed<N: Naming>(
 ) -> Result<World<Global>, AllocError>
     ensures setup { IfOk result (λ world. world.setup ≡ N.wire.setup) }
     ensures seats { IfOk result (λ world. All (Covers N.wire.setup world.events) seats.items) }
+    ensures whole { OnOk result (All (IsSeat N.wire.setup) seats.items) }
 {
     match wire.close(alloc, seats) {
         Ok(world) => Ok(world),

@@ -2,16 +2,12 @@
 use Rattle.std.specs.Prelude.{Option, Some, None, if◌then◌else◌}
 use Rattle.rc_types.specs.declared.ids.ServerId.{ServerId}
 use Rattle.rc_model.specs.Backup.{Backup}
-use Rattle.rc_model.specs.Master.{Master, MasterSetup, new_master}
+use Rattle.rc_model.specs.Master.{Master, new_master}
 use Rattle.rc_model.specs.Nodes.{HostNode, runs}
 use Rattle.rc_backup.specs.BackupView.{Holdings, backup_of}
 use Rattle.rc_world.specs.HostView.{host_of}
 use Rattle.rc_world.specs.NodeView.{NodeData, HostNodeData}
 use Rattle.rc_world.specs.declared.head.HostHead.{HostHead}
-
--- what its masters are made with
-abbrev pub setup_of : HostHead → MasterSetup
-setup_of head = record { factor = head.factor; size = head.size; free = head.free }
 
 -- the server of its last start
 abbrev pub last_server : HostHead → ServerId
@@ -21,22 +17,20 @@ last_server head = record { index = head.index; generation = head.generation }
 abbrev pub head_of : HostNode → HostHead
 head_of host = record {
   index = host.index;
-  factor = host.setup.factor;
-  size = host.setup.size;
-  free = host.setup.free;
+  setup = host.setup;
   generation = host.generation;
   runs = runs host;
 }
 
 -- where it runs, a master that has just begun
 abbrev pub begun_master : HostHead → Option Master
-begun_master head = if head.runs then Some (new_master (last_server head) (setup_of head)) else None
+begun_master head = if head.runs then Some (new_master (last_server head) head.setup) else None
 
 -- the host that is so, and keeps this
 abbrev pub host_with : HostHead → Backup → HostNode
 host_with head backup = record {
   index = head.index;
-  setup = setup_of head;
+  setup = head.setup;
   generation = head.generation;
   backup = backup;
   master = begun_master head;

@@ -4,7 +4,8 @@ use Rattle.std.specs.Prelude.{All}
 use Rattle.rc_types.specs.declared.events.Setup.{Setup}
 use Rattle.rc_types.specs.declared.limits.TheConstants.{MAX_FACTOR, MAX_SEGMENT}
 use Rattle.rc_model.specs.Backup.{Backup}
-use Rattle.rc_model.specs.Master.{Master, MasterSetup}
+use Rattle.rc_types.specs.declared.events.MasterSetup.{MasterSetup}
+use Rattle.rc_model.specs.Master.{Master}
 use Rattle.rc_model.specs.Nodes.{HostNode}
 use Rattle.rc_backup.specs.BackupView.{Holdings, backup_of}
 use Rattle.rc_master.specs.Data.{MasterData, master_of}

@@ -2,8 +2,8 @@
 
 ghost use Rattle.std.specs.Prelude.{◌↔◌, ◌≡◌, true};
 ghost use Rattle.rc_world.specs.HostView.{IsMasterSetup};
-ghost use Rattle.rc_world.specs.HostParts.{setup_of};
 
+use rc_types::MasterSetup;
 use rc_types::limits::{MAX_FACTOR, MAX_SEGMENT};
 
 /// What a host is without what it keeps as a backup, and without its master: small, and of one size.
@@ -11,12 +11,8 @@ use rc_types::limits::{MAX_FACTOR, MAX_SEGMENT};
 pub struct HostHead {
     /// The host's index, 0 to 63.
     pub index: u8,
-    /// How many replicas each segment of its masters has, 1 to 5.
-    pub factor: u8,
-    /// How many entries a segment of its masters takes, 1 to 1,024.
-    pub size: u16,
-    /// Whether its masters free segments that have become wholly dead.
-    pub free: bool,
+    /// What its masters are made with.
+    pub setup: MasterSetup,
     /// How often it was started.
     pub generation: u32,
     /// Whether a server runs on it.
@@ -26,8 +22,9 @@ pub struct HostHead {
 impl HostHead {
     /// Whether masters can be made with these numbers.
     pub fn is_within_limits(&self) -> bool
-        ensures { (result ≡ true) ↔ IsMasterSetup (setup_of self.now) }
+        ensures { (result ≡ true) ↔ IsMasterSetup self.now.setup }
     {
-        self.factor > 0 && self.factor <= MAX_FACTOR && self.size <= MAX_SEGMENT
+        let setup = self.setup;
+        setup.factor > 0 && setup.factor <= MAX_FACTOR && setup.size <= MAX_SEGMENT
     }
 }

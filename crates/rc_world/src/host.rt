@@ -12,13 +12,13 @@ ghost use Rattle.rc_backup.specs.BackupView.{backup_of};
 ghost use Rattle.rc_master.specs.Data.{master_of};
 ghost use Rattle.rc_world.specs.HostView.{host_of, IsMasterSetup, IsWithinLimits, IsFactor, HostHasRoom};
 ghost use Rattle.rc_world.specs.Stops.{IsBelow, halted};
-ghost use Rattle.rc_world.specs.HostParts.{setup_of, head_of, begun_master, host_with};
+ghost use Rattle.rc_world.specs.HostParts.{head_of, begun_master, host_with};
 
 use crate::head::HostHead;
 use rc_backup::Backup;
 use rc_master::Master;
 use rc_types::limits::MAX_HOSTS;
-use rc_types::{Addr, Body, Message, ServerId, Setup, TryClone};
+use rc_types::{Addr, Body, MasterSetup, Message, ServerId, Setup, TryClone};
 use std::alloc::{AllocError, Global};
 use std::marker::Model;
 use std::{fmt, mem};
@@ -29,29 +29,27 @@ use std::{fmt, mem};
 pub(crate) struct Host {
     alloc: Global,
     index: u8,
-    factor: u8,
-    size: u16,
-    free: bool,
+    setup: MasterSetup,
     generation: u32,
     backup: Backup,
     master: Option<Master>,
 }
 
 impl Model for Host {
-    ghost use Rattle.rc_model.specs.Master.{MasterSetup};
+    ghost use Rattle.rc_types.specs.declared.events.MasterSetup.{MasterSetup};
     ghost use Rattle.rc_world.specs.HostView.{HostData, IsMasterSetup};
 
     ghost Value = { HostData };
 
     ghost view = { λ h. record {
       index = h.index;
-      setup = record { factor = h.factor; size = h.size; free = h.free };
+      setup = h.setup;
       generation = h.generation;
       backup = h.backup;
       master = h.master;
     } };
 
-    ghost invariant = { λ h. IsMasterSetup (record { factor = h.factor; size = h.size; free = h.free }) };
+    ghost invariant = { λ h. IsMasterSetup h.setup };
 }
 
 impl Host {
@@ -63,9 +61,7 @@ impl Host {
         Host {
             alloc,
             index,
-            factor: factor_of(setup, index),
-            size: setup.segment,
-            free: setup.free,
+            setup: master_setup(setup, index),
             generation: 0,
             backup: Backup::new(
                 alloc,
@@ -80,16 +76,14 @@ impl Host {
 
     /// A host that is so, keeps this, and has a master that has just begun where it runs. It takes no memory.
     pub(crate) fn of_parts(alloc: Global, head: HostHead, backup: Backup) -> Host
-        requires { IsMasterSetup (setup_of head) }
+        requires { IsMasterSetup head.setup }
         ensures host { host_of result ≡ host_with head (backup_of backup) }
         ensures backup { result.backup ≡ backup }
     {
         Host {
             alloc,
             index: head.index,
-            factor: head.factor,
-            size: head.size,
-            free: head.free,
+            setup: head.setup,
             generation: head.generation,
             backup,
             master: begun_master(alloc, head),
@@ -114,9 +108,7 @@ impl Host {
         Ok(Host {
             alloc: self.alloc,
             index: self.index,
-            factor: self.factor,
-            size: self.size,
-            free: self.free,
+            setup: self.setup,
             generation: self.generation,
             backup: self.backup.try_clone(self.alloc)?,
             master: None,
@@ -126,13 +118,11 @@ impl Host {
     /// What it is without what it keeps as a backup, and without its master.
     pub(crate) fn head(&self) -> HostHead
         ensures head { result ≡ head_of (host_of self.now) }
-        ensures limits { IsMasterSetup (setup_of result) }
+        ensures limits { IsMasterSetup result.setup }
     {
         HostHead {
             index: self.index,
-            factor: self.factor,
-            size: self.size,
-            free: self.free,
+            setup: self.setup,
             generation: self.generation,
             runs: self.runs(),
         }
@@ -284,9 +274,22 @@ impl Host {
         let own = self.server();
         let backup = mem::replace(&mut self.backup, Backup::new(self.alloc, own));
         self.backup = backup.restart(own, kept);
-        self.master = Some(Master::new(self.alloc, own, self.factor, self.size, self.free));
+        self.master = Some(Master::new(self.alloc, own, self.setup));
         sent.push(enlist(own)).unwrap();
         Ok(())
+    }
+}
+
+/// What the masters of the host of this index are made with.
+fn master_setup(setup: &Setup, index: u8) -> MasterSetup
+    requires { IsWithinLimits setup.now }
+    ensures setup { result ≡ master_setup setup.now index }
+    ensures within { IsMasterSetup result }
+{
+    MasterSetup {
+        factor: factor_of(setup, index),
+        size: setup.segment,
+        free: setup.free,
     }
 }
 
@@ -304,7 +307,7 @@ fn factor_of(setup: &Setup, index: u8) -> u8
 
 /// A master of the last server that has just begun, where one runs.
 fn begun_master(alloc: Global, head: HostHead) -> Option<Master>
-    requires { IsMasterSetup (setup_of head) }
+    requires { IsMasterSetup head.setup }
     ensures { option_map master_of result ≡ begun_master head }
 {
     let own = ServerId {
@@ -312,7 +315,7 @@ fn begun_master(alloc: Global, head: HostHead) -> Option<Master>
         generation: head.generation,
     };
     if head.runs {
-        Some(Master::new(alloc, own, head.factor, head.size, head.free))
+        Some(Master::new(alloc, own, head.setup))
     } else {
         None
     }

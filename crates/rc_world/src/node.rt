@@ -11,7 +11,7 @@ ghost use Rattle.rc_model.specs.Coordinator.{new_coordinator};
 ghost use Rattle.rc_coordinator.specs.Book.{coordinator_of};
 ghost use Rattle.rc_coordinator.specs.Steps.{HasNumbers};
 ghost use Rattle.rc_world.specs.HostView.{host_of, HostHasRoom, IsMasterSetup, IsWithinLimits};
-ghost use Rattle.rc_world.specs.HostParts.{setup_of, host_parts_in, host_from};
+ghost use Rattle.rc_world.specs.HostParts.{host_parts_in, host_from};
 ghost use Rattle.rc_history.specs.Nodes.{TheOutside, TheCoordinator, TheHost, name_of};
 ghost use Rattle.rc_world.specs.NodeView.{CoordinatorData, node_seen, book_in, NodeHasRoom};
 ghost use Rattle.rc_world.specs.NodeView.{node_runs, master_in, backup_in};
@@ -109,7 +109,7 @@ impl<A: Allocator + Clone> NodeState<A> {
     /// host. It takes no memory.
     pub fn parts(&self) -> Option<(HostHead, &Backup)>
         ensures parts { option_map (λ p. record { head = p.0; backup = p.1.now }) result ≡ host_parts_in self.now }
-        ensures limits { IfSome result (λ p. IsMasterSetup (setup_of p.0)) }
+        ensures limits { IfSome result (λ p. IsMasterSetup p.0.setup) }
     {
         match &self.node {
             Node::Outside | Node::Coordinator(_) => None,
@@ -120,7 +120,7 @@ impl<A: Allocator + Clone> NodeState<A> {
     /// The host of these parts. Where it runs, its master is one that has just begun, so it is where the host was that
     /// had these parts but for its master: a stop makes the two equal. It takes no memory.
     pub fn of_parts(alloc: Global, head: HostHead, backup: Backup) -> NodeState<A>
-        requires { IsMasterSetup (setup_of head) }
+        requires { IsMasterSetup head.setup }
         ensures node { node_seen result ≡ TheHost (host_from (record { head = head; backup = backup })) }
         ensures parts { host_parts_in result ≡ Some (record { head = head; backup = backup }) }
     {

@@ -1,7 +1,7 @@
 use Rattle.std.proofs.Common.{All, List, sym, ◌∙◌, subst}
 use Rattle.std.proofs.lemmas.List.Elements.{All-push}
 use Rattle.rc_types.specs.declared.events.Event.{Event}
-use Rattle.rc_wire.specs.SeatCalls.{Covers}
+use Rattle.rc_wire.specs.SeatCalls.{IsSeat, Covers}
 use Rattle.rc_wire.proofs.end.look_at_last.Goals as goal
 
 pub loop-seat-preserved : goal.loop-seat-preserved
@@ -14,4 +14,7 @@ loop-seat-preserved g c =
       covers = λ rest. c.loop-seat.invariant.covers
           (subst (All (Covers setup c.args.journal.now)) (sym c.in-Some.ensures.items)
           (All-push (Covers setup c.args.journal.now) c.pop.new.self.items c.in-Some.seat rest covers));
+      whole = λ rest. c.loop-seat.invariant.whole
+          (subst (All (IsSeat setup)) (sym c.in-Some.ensures.items)
+          (All-push (IsSeat setup) c.pop.new.self.items c.in-Some.seat rest c.look.ensures.whole));
     }

@@ -25,4 +25,5 @@ returns-in_ok-closed-in-Err-default-BadEvent-clause-stuck g c = λ failed.
     (was-stuck wire.setup events c.args.steps.now wire.nodes c.in_ok-wire.seats.items
     c.in-Err-default-BadEvent.seats.items c.in_ok-wire.ensures
     (c.in-Err-default-BadEvent.ensures.bad c.in-Err-default-BadEvent.field-0-1-is)
-    c.in_ok-closed-in-Err-default-BadEvent.ensures.seats)
+    c.in_ok-closed-in-Err-default-BadEvent.ensures.seats
+    c.in_ok-closed-in-Err-default-BadEvent.ensures.whole)

@@ -25,10 +25,10 @@ returns-clause-quiet c =
     let made : Master = record {
       known = c.new.result;
       log = log_of c.new-2.result;
-      free = c.args.free;
+      free = c.args.setup.free;
       ownership = c.new-3.result.own;
       tasks = c.new-4.result.items;
       deposed = false;
     } in
-    let is : made ≡ new_master c.args.own (record { factor = c.args.factor; size = c.args.size; free = c.args.free }) = cc in
-    subst IsQuiet (sym is) (new-quiet c.args.own (record { factor = c.args.factor; size = c.args.size; free = c.args.free }))
+    let is : made ≡ new_master c.args.own c.args.setup = cc in
+    subst IsQuiet (sym is) (new-quiet c.args.own c.args.setup)
