@@ -8,7 +8,7 @@ use Rattle.rc_types.specs.declared.events.Event.{Event}
 use Rattle.rc_types.specs.declared.messages.Message.{Message}
 use Rattle.rc_model.specs.World.{replay}
 use Rattle.rc_history.specs.Events.{events_of, StartsWith}
-use Rattle.rc_wire.specs.SeatView.{SeatData, Offered, world_at}
+use Rattle.rc_wire.specs.SeatView.{SeatData, Offered, offered_events, world_at}
 use Rattle.rc_wire.specs.Steps.{HoldsItsMessage}
 use Rattle.rc_wire.specs.Numbers.{least_to}
 use Rattle.rc_wire.specs.Works.{IsOffer, was_delivered}
@@ -53,6 +53,10 @@ abbrev pub Fetches : Setup → SeatData → ℕ → Bool → SeatData → Type 0
 Fetches setup old number true new = Finds setup old number new
 Fetches setup old number false new = Misses setup old number new
 
+-- the seat has delivered the message of this number, or its pending step does
+abbrev pub has_delivered : SeatData → ℕ → Bool
+has_delivered seat number = was_delivered (seat.mine ++ offered_events seat.pending) number
+
 -- there is no message to the seat's node from this number on
 pub record SeesNone (setup : Setup) (old : SeatData) (from : ℕ) (new : SeatData) : Type 0 where
   pub later : Later old new
@@ -63,8 +67,8 @@ pub record SeesNext (setup : Setup) (old : SeatData) (from number : ℕ) (new : 
   pub looked : SeatData
   pub later : Later old looked
   pub first : least_to looked.name from (world_at setup looked).sent ≡ Some number
-  pub held : ((was_delivered looked.mine number ≡ true) × (new ≡ looked)) ⊎
-      ((was_delivered looked.mine number ≡ false) × Finds setup looked number new)
+  pub held : ((has_delivered looked number ≡ true) × (new ≡ looked)) ⊎
+      ((has_delivered looked number ≡ false) × Finds setup looked number new)
 
 -- the pending step stands at the end of a history that begins with what was seen; its event has this number, and in
 -- the world before it sends exactly its messages

@@ -10,11 +10,11 @@ ghost use Rattle.rc_history.specs.Nodes.{event_of};
 ghost use Rattle.rc_world.specs.HostView.{IsWithinLimits};
 ghost use Rattle.rc_world.specs.NodeView.{node_seen};
 ghost use Rattle.rc_types.specs.Names.{number_of};
-ghost use Rattle.rc_wire.specs.SeatView.{new_seat, offered_events, node_at, world_at};
+ghost use Rattle.rc_wire.specs.SeatView.{new_seat, node_at, world_at};
 ghost use Rattle.rc_wire.specs.Steps.{HasTaken};
-ghost use Rattle.rc_wire.specs.Works.{event_for, can_do, held_after, Offers, is_offered, Prepares, was_delivered};
+ghost use Rattle.rc_wire.specs.Works.{event_for, can_do, held_after, Offers, is_offered, Prepares};
 ghost use Rattle.rc_wire.specs.Given.{is_delivery};
-ghost use Rattle.rc_wire.specs.SeatCalls.{IsSeat};
+ghost use Rattle.rc_wire.specs.SeatCalls.{IsSeat, has_delivered};
 ghost use Rattle.rc_wire.specs.declared.work.Work.TheVariants.{Fetched};
 
 use crate::names::Naming;
@@ -135,7 +135,7 @@ impl<N: Naming> Seat<N> {
     /// Whether the message of this number was delivered to the seat's node, or the pending step delivers
     /// it. It takes no memory, and its cost does not grow with what has happened.
     pub fn has_delivered(&self, number: usize) -> bool
-        ensures { result ≡ was_delivered (self.now.mine ++ offered_events self.now.pending) number }
+        ensures { result ≡ has_delivered self.now number }
     {
         self.delivered.contains(&number)
     }

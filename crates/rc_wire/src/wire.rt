@@ -82,8 +82,7 @@ impl<N: Naming> Wire<N> {
     }
 
     /// The least number, from `from` on, of a message to the seat's node, as `next` gives it; the seat holds that
-    /// message then, unless it has delivered it. One lock for both. None where there is no such message. No step of
-    /// the seat may be pending.
+    /// message then, unless it has delivered it. One lock for both. None where there is no such message.
     ///
     /// # Errors
     ///
@@ -94,7 +93,6 @@ impl<N: Naming> Wire<N> {
         seat: &mut Seat<N>,
         from: usize,
     ) -> Result<Option<usize>, AllocError>
-        requires { seat.old.pending ≡ None }
         ensures none { IfOk result (λ found. IfNone found (SeesNone N.wire.setup seat.old from seat.new)) }
         ensures some { IfOk result (λ found. IfSome found (λ number.
             SeesNext N.wire.setup seat.old from number seat.new)) }
@@ -171,7 +169,6 @@ fn fetch_next_at<N: Naming>(
     seat: &mut Seat<N>,
     from: usize,
 ) -> Result<Option<usize>, AllocError>
-    requires { seat.old.pending ≡ None }
     ensures none { IfOk result (λ found. IfNone found (SeesNone N.wire.setup seat.old from seat.new)) }
     ensures some { IfOk result (λ found. IfSome found (λ number.
         SeesNext N.wire.setup seat.old from number seat.new)) }

@@ -44,7 +44,7 @@ returns-then-has_delivered-clause-some g c = λ start steps at p.
     had-idle now.mine now.pending number c.has_delivered.result true
     (idle-sees setup old c.args.from number now sees c.requires.idle) c.has_delivered.ensures c.if-has_delivered.true in
     progress-lower setup start steps at (number + 1) c.after.result now c.after.ensures
-    (progress-saw setup start steps at c.args.from number old now p sees had)
+    (progress-saw setup start steps at c.args.from number old now p sees c.requires.idle had)
 
 -- it is delivered now
 
@@ -60,7 +60,7 @@ returns-in_err-take_step-clause-bad g c =
     had-idle now.mine now.pending number c.has_delivered.result false
     (idle-sees setup old c.args.from number now sees c.requires.idle) c.has_delivered.ensures c.if-has_delivered.false in
     let can = can-deliver setup sees.looked now c.args.from number sees.first
-    (sees-new setup old c.args.from number now sees fresh).1 in
+    (sees-new setup old c.args.from number now sees c.requires.idle fresh).1 in
     let p = err_from_is_err_and c.from_residual-in_err-take_step.result c.from_residual-in_err-take_step.ensures.1 in
     bad-at (length c.take_step.new.seat.seen ≡ MAX_EVENTS) c.from_residual-in_err-take_step.result c.in_err-take_step.field-0.0
     (p.1 ∙ ap Err p.2) (λ bad. refused-is-full setup now c.take_step.new.seat Fetched can (c.in_err-take_step.ensures.bad bad))
@@ -76,7 +76,7 @@ returns-clause-some g c = λ start steps at p.
     let fresh : was_delivered now.mine number ≡ false =
     had-idle now.mine now.pending number c.has_delivered.result false
     (idle-sees setup old c.args.from number now sees c.requires.idle) c.has_delivered.ensures c.if-has_delivered.false in
-    let finds = sees-new setup old c.args.from number now sees fresh in
+    let finds = sees-new setup old c.args.from number now sees c.requires.idle fresh in
     progress-lower setup start steps at (number + 1) c.after-2.result c.take_step.new.seat c.after-2.ensures
     (progress-fetched setup start steps at c.args.from number sees.looked now c.take_step.new.seat
     (progress-later setup start steps at c.args.from old sees.looked p sees.later) sees.first finds.0 finds.1
