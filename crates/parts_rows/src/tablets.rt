@@ -2,7 +2,7 @@
 
 use rc_rangetree::RangeTree;
 use rc_types::limits::LAST_KEY;
-use rc_types::{Fault, ServerId, Tablet};
+use rc_types::{Fault, KeyRange, ServerId, Tablet};
 use rows::{Numbers, Page};
 use std::alloc::Global;
 
@@ -125,7 +125,7 @@ fn look_up_tables(tree: &Tree, numbers: &mut Numbers, page: &mut Page) {
     let mut count = 0u64;
     for table in numbers.long()..=numbers.long() {
         let (found, forks) = tree.find_counted(table, 5);
-        let spans = found.is_some_and(|tablet| tablet.range.lo == 0 && tablet.range.hi == LAST_KEY);
+        let spans = found.is_some_and(|tablet| tablet.range == KeyRange::all_keys(table));
         count = count.saturating_add(u64::from(spans && forks <= tree.depth()));
     }
     page.number(" ", count);
@@ -169,7 +169,8 @@ fn singles(tree: &Tree, numbers: &mut Numbers, page: &mut Page) {
         let (found, forks) = tree.find_counted(table, key);
         most = most.max(forks);
         let hi = if key == last { LAST_KEY } else { key };
-        let single = found.is_some_and(|tablet| tablet.range.lo == key && tablet.range.hi == hi);
+        let range = KeyRange { table, lo: key, hi };
+        let single = found.is_some_and(|tablet| tablet.range == range);
         count = count.saturating_add(u64::from(single));
     }
     page.number(" ", count);

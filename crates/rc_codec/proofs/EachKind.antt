@@ -120,7 +120,7 @@ pub plan_row_law : Lawful plan_row_code plan_row_at
 plan_row_law = made_lawful (three_lawful u16_law id_law u64_law) (λ p. record { seg = p.0; holder = p.1; len = p.2 })
     (λ r. (r.seg, r.holder, r.len)) plan_row_code (λ r. refl) (λ p. refl)
 
-range_law : Lawful range_code range_at
+pub range_law : Lawful range_code range_at
 range_law = made_lawful (three_lawful u32_law u64_law u64_law) (λ p. record { table = p.0; lo = p.1; hi = p.2 })
     (λ r. (r.table, r.lo, r.hi)) range_code (λ r. refl) (λ p. refl)
 

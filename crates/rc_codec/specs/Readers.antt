@@ -3,6 +3,7 @@ use Rattle.std.specs.Prelude.{ℕ, zero, suc, List, [], ◌∷◌, Bool, Option,
 use Rattle.rc_types.specs.declared.entries.Entry.{Entry}
 use Rattle.rc_types.specs.declared.events.Event.{Event}
 use Rattle.rc_types.specs.declared.events.Event.TheVariants as event
+use Rattle.rc_types.specs.declared.events.MasterSetup.{MasterSetup}
 use Rattle.rc_types.specs.declared.faults.Code.{Code}
 use Rattle.rc_types.specs.declared.faults.Code.TheVariants as code
 use Rattle.rc_types.specs.declared.ids.Addr.{Addr}
@@ -77,6 +78,9 @@ plan_row_at = made (three u16_at id_at u64_at) (λ p. record { seg = p.0; holder
 
 abbrev pub range_at : Reader KeyRange
 range_at = made (three u32_at u64_at u64_at) (λ p. record { table = p.0; lo = p.1; hi = p.2 })
+
+abbrev pub setup_at : Reader MasterSetup
+setup_at = made (three u8_at u16_at flag_at) (λ p. record { factor = p.0; size = p.1; free = p.2 })
 
 abbrev pub part_at : Reader Part
 part_at = made (three range_at u32_at u32_at) (λ p. record { range = p.0; previous = p.1; term = p.2 })

@@ -4,6 +4,7 @@ use Rattle.rc_types.specs.Codes.{code_number}
 use Rattle.rc_types.specs.declared.entries.Entry.{Entry}
 use Rattle.rc_types.specs.declared.events.Event.{Event}
 use Rattle.rc_types.specs.declared.events.Event.TheVariants as event
+use Rattle.rc_types.specs.declared.events.MasterSetup.{MasterSetup}
 use Rattle.rc_types.specs.declared.faults.Code.{Code}
 use Rattle.rc_types.specs.declared.ids.Addr.{Addr}
 use Rattle.rc_types.specs.declared.ids.Addr.TheVariants as addr
@@ -48,6 +49,9 @@ plan_row_code row = two_bytes row.seg ++ id_code row.holder ++ eight_bytes row.l
 
 abbrev pub range_code : KeyRange → List ℕ
 range_code range = four_bytes range.table ++ eight_bytes range.lo ++ eight_bytes range.hi
+
+abbrev pub setup_code : MasterSetup → List ℕ
+setup_code setup = byte setup.factor ++ two_bytes setup.size ++ flag setup.free
 
 abbrev pub part_code : Part → List ℕ
 part_code part = range_code part.range ++ four_bytes part.previous ++ four_bytes part.term

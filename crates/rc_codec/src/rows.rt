@@ -1,9 +1,10 @@
-//! Ids, addresses, refusals, entries and rows.
+//! Ids, addresses, refusals, entries, rows, and what masters are made with.
 
 use crate::coded::{Put, Take};
 use crate::faults::DecodeFault;
 use rc_types::{
-    Addr, Code, Entry, Grant, KeyRange, Pair, Part, PlanRow, Row, Seq, ServerId, Shared, Tablet,
+    Addr, Code, Entry, Grant, KeyRange, MasterSetup, Pair, Part, PlanRow, Row, Seq, ServerId,
+    Shared, Tablet,
 };
 use std::alloc::{AllocError, Global};
 
@@ -294,6 +295,27 @@ impl Take for KeyRange {
     fn take(alloc: Global, bytes: &[u8]) -> Result<(KeyRange, &[u8]), DecodeFault> {
         let ((table, lo, hi), rest) = <(u32, u64, u64)>::take(alloc, bytes)?;
         Ok((KeyRange { table, lo, hi }, rest))
+    }
+}
+
+impl Put for MasterSetup {
+    ghost use Rattle.rc_codec.specs.Spelling.{setup_code};
+
+    ghost code = { setup_code };
+
+    fn put(&self, out: &mut Vec<u8>) -> Result<(), AllocError> {
+        (self.factor, self.size, self.free).put(out)
+    }
+}
+
+impl Take for MasterSetup {
+    ghost use Rattle.rc_codec.specs.Readers.{setup_at};
+
+    ghost read = { setup_at };
+
+    fn take(alloc: Global, bytes: &[u8]) -> Result<(MasterSetup, &[u8]), DecodeFault> {
+        let ((factor, size, free), rest) = <(u8, u16, bool)>::take(alloc, bytes)?;
+        Ok((MasterSetup { factor, size, free }, rest))
     }
 }
 

@@ -3,30 +3,13 @@ use Rattle.std.proofs.Common.{ℕ, Bool, List, ◌++◌, refl}
 use Rattle.rc_model.specs.Model.{Pair, ServerId, Grant, Tablet, Attempt}
 use Rattle.rc_codec.specs.Parts.{four_bytes, listed}
 use Rattle.rc_codec.specs.Reading.{◌⊗◌}
-use Rattle.rc_codec.specs.Spelling.{id_code, row_code, plan_row_code, part_code, pair_code, tablet_code, range_code, grant_code, up_code}
-use Rattle.rc_codec.specs.Readers.{u32_at, id_at, row_at, plan_row_at, part_at, pair_at, tablet_at, range_at, grant_at, up_at}
+use Rattle.rc_codec.specs.Spelling.{id_code, pair_code, tablet_code, grant_code, up_code}
+use Rattle.rc_codec.specs.Readers.{u32_at, id_at, pair_at, tablet_at, grant_at}
 use Rattle.rc_codec.proofs.Lawful.{Lawful, made_lawful, pair_lawful, three_lawful, four_lawful, five_lawful}
 use Rattle.rc_codec.proofs.Lawful.{optional_lawful, listed_lawful}
+use Rattle.rc_codec.proofs.EachKind.{u16_law, u32_law, flag_law, id_law, row_law, plan_row_law, range_law, part_law, up_law}
 use Rattle.rc_keeping.specs.Saved.{reply_code, given_code, decision_code, attempt_code, least_code, current_code, book_code}
 use Rattle.rc_keeping.specs.SaveReaders.{reply_at, given_at, decision_at, attempt_at, known_at, begun_at, book_at}
-use Rattle.rc_keeping.proofs.HostLaws.{u16_law, u32_law, u64_law, flag_law, id_law}
-
-row_law : Lawful row_code row_at
-row_law = made_lawful (five_lawful u16_law u16_law flag_law u64_law (listed_lawful u16_law))
-    (λ p. record { seg = p.0; epoch = p.1; closed = p.2; len = p.3; digest = p.4 })
-    (λ r. (r.seg, r.epoch, r.closed, r.len, r.digest)) row_code (λ r. refl) (λ p. refl)
-
-plan_row_law : Lawful plan_row_code plan_row_at
-plan_row_law = made_lawful (three_lawful u16_law id_law u64_law) (λ p. record { seg = p.0; holder = p.1; len = p.2 })
-    (λ r. (r.seg, r.holder, r.len)) plan_row_code (λ r. refl) (λ p. refl)
-
-range_law : Lawful range_code range_at
-range_law = made_lawful (three_lawful u32_law u64_law u64_law) (λ p. record { table = p.0; lo = p.1; hi = p.2 })
-    (λ r. (r.table, r.lo, r.hi)) range_code (λ r. refl) (λ p. refl)
-
-part_law : Lawful part_code part_at
-part_law = made_lawful (three_lawful range_law u32_law u32_law) (λ p. record { range = p.0; previous = p.1; term = p.2 })
-    (λ r. (r.range, r.previous, r.term)) part_code (λ r. refl) (λ p. refl)
 
 pair_law : Lawful pair_code pair_at
 pair_law = made_lawful (pair_lawful u16_law u16_law) (λ p. record { seg = p.0; epoch = p.1 }) (λ r. (r.seg, r.epoch)) pair_code
@@ -41,9 +24,6 @@ grant_law : Lawful grant_code grant_at
 grant_law = made_lawful (five_lawful range_law u32_law u32_law u32_law id_law)
     (λ p. record { range = p.0; term = p.1; previous = p.2; attempt = p.3; owner = p.4 })
     (λ g. (g.range, g.term, g.previous, g.attempt, g.owner)) grant_code (λ g. refl) (λ p. refl)
-
-up_law : Lawful up_code up_at
-up_law = pair_lawful id_law flag_law
 
 reply_law : Lawful reply_code reply_at
 reply_law = pair_lawful id_law (listed_lawful row_law)

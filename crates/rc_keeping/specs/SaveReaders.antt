@@ -8,9 +8,9 @@ use Rattle.rc_types.specs.declared.rows.Tablet.{Tablet}
 use Rattle.rc_model.specs.Attempts.{GivenPart, Decision, Attempt}
 use Rattle.rc_model.specs.Replica.{Replica}
 use Rattle.rc_model.specs.Backup.{Held}
-use Rattle.rc_codec.specs.Reading.{◌>>=◌, Reader, made, ◌⊗◌, three, four, five, six, flag_at, optional_at, listed_at}
+use Rattle.rc_codec.specs.Reading.{◌>>=◌, Reader, made, ◌⊗◌, three, four, five, flag_at, optional_at, listed_at}
 use Rattle.rc_codec.specs.Readers.{u8_at, u16_at, u32_at, id_at, entry_at, row_at, plan_row_at, part_at, pair_at}
-use Rattle.rc_codec.specs.Readers.{tablet_at, grant_at, up_at, versioned_at}
+use Rattle.rc_codec.specs.Readers.{tablet_at, grant_at, up_at, setup_at, versioned_at}
 use Rattle.rc_coordinator.specs.Book.{Book}
 use Rattle.rc_world.specs.declared.head.HostHead.{HostHead}
 use Rattle.rc_world.specs.HostParts.{HostParts}
@@ -26,13 +26,8 @@ held_at = made (four id_at flag_at (listed_at replica_at) (listed_at u16_at))
     (λ p. (p.0, record { fenced = p.1; replicas = p.2; freed = p.3 }))
 
 abbrev pub head_at : Reader HostHead
-head_at = made (six u8_at u8_at u16_at flag_at u32_at flag_at)
-    (λ p. record {
-      index = p.0;
-      setup = record { factor = p.1; size = p.2; free = p.3 };
-      generation = p.4;
-      runs = p.5;
-    })
+head_at = made (four u8_at setup_at u32_at flag_at)
+    (λ p. record { index = p.0; setup = p.1; generation = p.2; runs = p.3 })
 
 -- what stands behind the version and the kind
 abbrev pub host_at : Reader HostParts

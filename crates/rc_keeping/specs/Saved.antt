@@ -8,7 +8,7 @@ use Rattle.rc_model.specs.Attempts.{GivenPart, Decision, Attempt}
 use Rattle.rc_types.specs.declared.rows.Row.{Row}
 use Rattle.rc_codec.specs.Parts.{byte, two_bytes, four_bytes, flag, optional, listed}
 use Rattle.rc_codec.specs.Spelling.{id_code, entry_code, row_code, plan_row_code, part_code, pair_code, tablet_code}
-use Rattle.rc_codec.specs.Spelling.{grant_code, up_code}
+use Rattle.rc_codec.specs.Spelling.{grant_code, up_code, setup_code}
 use Rattle.rc_backup.specs.BackupView.{Holdings}
 use Rattle.rc_coordinator.specs.Book.{Book, coordinator_of}
 use Rattle.rc_history.specs.Nodes.{Node, TheCoordinator, TheHost}
@@ -32,8 +32,7 @@ abbrev pub backup_code : Holdings → List ℕ
 backup_code backup = id_code backup.own ++ listed held_code backup.table
 
 abbrev pub head_code : HostHead → List ℕ
-head_code head = byte head.index ++ byte head.setup.factor ++ two_bytes head.setup.size ++ flag head.setup.free
-    ++ four_bytes head.generation ++ flag head.runs
+head_code head = byte head.index ++ setup_code head.setup ++ four_bytes head.generation ++ flag head.runs
 
 abbrev pub host_code : HostParts → List ℕ
 host_code parts = head_code parts.head ++ backup_code parts.backup

@@ -105,15 +105,7 @@ fn put_backup(backup: &Backup, out: &mut Vec<u8>) -> Result<(), AllocError>
 fn put_head(head: &HostHead, out: &mut Vec<u8>) -> Result<(), AllocError>
     ensures { OnOk result (out.new.items ≡ out.old.items ++ head_code head.now) }
 {
-    (
-        head.index,
-        head.setup.factor,
-        head.setup.size,
-        head.setup.free,
-        head.generation,
-        head.runs,
-    )
-        .put(out)
+    (head.index, head.setup, head.generation, head.runs).put(out)
 }
 
 /// Both, behind the version and the kind.

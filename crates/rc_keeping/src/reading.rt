@@ -216,17 +216,12 @@ impl Take for Head {
     ghost read = { head_at };
 
     fn take(alloc: Global, bytes: &[u8]) -> Result<(Head, &[u8]), DecodeFault> {
-        let ((index, factor, size, free, generation, runs), rest) = <(
-            u8,
-            u8,
-            u16,
-            bool,
-            u32,
-            bool,
-        )>::take(alloc, bytes)?;
+        let ((index, setup, generation, runs), rest) = <(u8, MasterSetup, u32, bool)>::take(
+            alloc, bytes,
+        )?;
         let head = HostHead {
             index,
-            setup: MasterSetup { factor, size, free },
+            setup,
             generation,
             runs,
         };

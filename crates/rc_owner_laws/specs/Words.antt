@@ -1,6 +1,5 @@
 -- Words in which the claims on data, grants and handovers are said.
-use Rattle.std.specs.Prelude.{◌≡◌, ◌⊎◌, ℕ, ◌<◌, nat_eq, Bool, ◌&&◌, List, filter, take, Some, slice_get}
-use Rattle.rc_types.specs.Ranges.{in_range}
+use Rattle.std.specs.Prelude.{◌≡◌, ◌⊎◌, ℕ, ◌<◌, List, filter, take, Some, slice_get}
 use Rattle.rc_types.specs.declared.ids.ServerId.{ServerId}
 use Rattle.rc_types.specs.declared.ids.Addr.TheVariants.{Server}
 use Rattle.rc_types.specs.declared.entries.Entry.{Entry}
@@ -8,6 +7,7 @@ use Rattle.rc_types.specs.declared.rows.Part.{Part}
 use Rattle.rc_types.specs.declared.rows.PlanRow.{PlanRow}
 use Rattle.rc_types.specs.declared.messages.Message.{Message}
 use Rattle.rc_types.specs.declared.messages.Body.TheVariants.{Plan as PlanBody}
+use Rattle.rc_model.specs.Backup.{is_in_part}
 use Rattle.rc_model.specs.Recovered.{Ack, Accepted}
 use Rattle.rc_model.specs.Owners.{Granted, IsGranted, IsEarlier}
 use Rattle.rc_model.specs.Base.{made_below, base}
@@ -50,10 +50,6 @@ pub record Keeps (Freed : Type 0) (sent : List Message) (m : ServerId) (log : Lo
   pub term_is : entry.term ≡ term
   pub keeps : IsKeptBy Freed was entry
 
--- the entry has the part's previous term, and is of the part's table and of a key from its first to its last
-abbrev pub is_of_part : Part → Entry → Bool
-is_of_part part entry = nat_eq entry.term part.previous && in_range part.range entry.table entry.key
-
 -- A Data is of a plan to its addressee, with a part of its term and a row of its segment whose holder is the sender.
 -- Its entries are those made below that row's length that have the part's previous term and lie in its range, in
 -- order.
@@ -74,7 +70,7 @@ pub record IsPlanCut (sent : List Message) (message : Message) (attempt seg term
   pub row_among : In row rows
   pub seg_is : row.seg ≡ seg
   pub from : message.from ≡ Server row.holder
-  pub entries_are : entries ≡ filter (is_of_part part) (made_below sent master seg row.len)
+  pub entries_are : entries ≡ filter (is_in_part part) (made_below sent master seg row.len)
 
 -- The base of the grant, by the one accepted recovery of its attempt, however often its Plan was sent, is the first
 -- that its owner's log has under its term. All of it is durable, and each of its entries stands at a safe place.

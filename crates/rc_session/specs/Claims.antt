@@ -1,11 +1,11 @@
 -- What calls of a session promise.
 use Rattle.std.specs.Prelude.{◌≡◌, ◌<◌, ◌≤◌, ℕ, Bool, List, [], ◌++◌, length, drop, true, false}
 use Rattle.std.specs.Prelude.{Some, None}
+use Rattle.rc_types.specs.declared.events.MasterSetup.{MasterSetup}
 use Rattle.rc_types.specs.declared.events.NodeWork.{NodeWork}
 use Rattle.rc_types.specs.declared.events.NodeWork.TheVariants.{Deliver}
 use Rattle.rc_types.specs.declared.limits.TheConstants.{MAX_HOSTS, MAX_FACTOR, MAX_SEGMENT}
 use Rattle.rc_types.specs.declared.messages.Message.{Message}
-use Rattle.rc_types.specs.declared.events.MasterSetup.{MasterSetup}
 use Rattle.rc_history.specs.Nodes.{Node, node_can}
 use Rattle.rc_codec.specs.Spelling.{coded_message}
 use Rattle.rc_keeping.specs.Spelling.{coded_work}

@@ -1,5 +1,5 @@
 -- What is true of each seat.
-use Rattle.std.specs.Prelude.{◌≡◌, ℕ, ◌≤◌, nat_eq, List, ◌++◌, length, Option}
+use Rattle.std.specs.Prelude.{◌≡◌, ℕ, ◌≤◌, nat_eq, List, length, Option}
 use Rattle.std.specs.List.{list_any}
 use Rattle.rc_types.specs.declared.limits.TheConstants.{MAX_EVENTS}
 use Rattle.rc_types.specs.declared.events.Setup.{Setup}
@@ -10,9 +10,9 @@ use Rattle.rc_wire.specs.declared.view.Place.{Place}
 use Rattle.rc_types.specs.declared.ids.NodeName.{NodeName}
 use Rattle.rc_types.specs.Names.{number_of}
 use Rattle.rc_wire.specs.declared.offer.Offer.{Offer}
-use Rattle.rc_wire.specs.SeatView.{SeatData, offered_by, offered_events, world_at, node_at}
+use Rattle.rc_wire.specs.SeatView.{SeatData, offered_by, world_at, node_at}
 use Rattle.rc_wire.specs.Steps.{HasTaken, HoldsItsMessage}
-use Rattle.rc_wire.specs.Works.{was_delivered}
+use Rattle.rc_wire.specs.SeatCalls.{has_delivered}
 
 -- a seat's fields as its value: what it has seen and done, its token knows
 abbrev pub seat_data : NodeName → Place → Option (ℕ × Message) → Option Offer → SeatData
@@ -29,4 +29,4 @@ pub record SeatSound (setup : Setup) (seat : SeatData) (number : ℕ) (node : No
   -- the state is that of the node there, or the one that the pending step leads it to
   pub state : HasTaken (world_at setup seat).sent seat.name (node_at setup seat) seat.pending node
   pub held : HoldsItsMessage (world_at setup seat).sent seat.held
-  pub delivered : (n : ℕ) → list_any (nat_eq n) numbers ≡ was_delivered (seat.mine ++ offered_events seat.pending) n
+  pub delivered : (n : ℕ) → list_any (nat_eq n) numbers ≡ has_delivered seat n

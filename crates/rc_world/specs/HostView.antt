@@ -1,10 +1,10 @@
 -- What a contract sees of a host: plain data, since a function cannot be the value of a type.
 use Rattle.std.specs.Prelude.{◌≡◌, ℕ, ◌-◌, ◌^◌, ◌<◌, ◌≤◌, nat_lt, if◌then◌else◌, List, Option, Some, None, option_map}
 use Rattle.std.specs.Prelude.{All}
+use Rattle.rc_types.specs.declared.events.MasterSetup.{MasterSetup}
 use Rattle.rc_types.specs.declared.events.Setup.{Setup}
 use Rattle.rc_types.specs.declared.limits.TheConstants.{MAX_FACTOR, MAX_SEGMENT}
 use Rattle.rc_model.specs.Backup.{Backup}
-use Rattle.rc_types.specs.declared.events.MasterSetup.{MasterSetup}
 use Rattle.rc_model.specs.Master.{Master}
 use Rattle.rc_model.specs.Nodes.{HostNode}
 use Rattle.rc_backup.specs.BackupView.{Holdings, backup_of}

@@ -36,7 +36,6 @@ pub(crate) struct Host {
 }
 
 impl Model for Host {
-    ghost use Rattle.rc_types.specs.declared.events.MasterSetup.{MasterSetup};
     ghost use Rattle.rc_world.specs.HostView.{HostData, IsMasterSetup};
 
     ghost Value = { HostData };
