@@ -1,11 +1,10 @@
 //! A master, as its callers see it.
 
-ghost use Rattle.std.specs.Prelude.{◌≡◌, ◌↔◌, ◌++◌, ◌<◌, ◌≤◌, true, IfOk, OnOk, OnErr};
-ghost use Rattle.rc_types.specs.declared.limits.TheConstants.{MAX_FACTOR as FACTOR, MAX_SEGMENT as SEGMENT};
+ghost use Rattle.std.specs.Prelude.{◌≡◌, ◌↔◌, ◌++◌, true, IfOk, OnOk, OnErr};
 ghost use Rattle.rc_model.specs.Master.{new_master};
 ghost use Rattle.rc_model.specs.MasterStep.{master_takes, master_ticks};
 ghost use Rattle.rc_master.specs.Data.{master_of};
-ghost use Rattle.rc_master.specs.Numbers.{HasVersions};
+ghost use Rattle.rc_master.specs.Numbers.{HasVersions, IsMasterSetup};
 ghost use Rattle.rc_master.specs.Steps.{steps};
 
 use crate::state::State;
@@ -57,9 +56,7 @@ impl Model for Master {
 impl Master {
     /// A master that knows nobody, owns nothing and has no head. It takes no memory.
     pub fn new(alloc: Global, own: ServerId, setup: MasterSetup) -> Master
-        requires some { 0 < setup.factor }
-        requires factor { setup.factor ≤ FACTOR }
-        requires size { setup.size ≤ SEGMENT }
+        requires { IsMasterSetup setup }
         ensures { master_of result ≡ new_master own setup }
     {
         Master {

@@ -1,13 +1,13 @@
 //! The master's state, and what its rules have in common.
 
-ghost use Rattle.std.specs.Prelude.{◌≡◌, ◌++◌, ◌∷◌, [], ◌<◌, ◌≤◌, ◌⊎◌, true, not, None, Ok, Err, OnOk, IfErr};
+ghost use Rattle.std.specs.Prelude.{◌≡◌, ◌++◌, ◌∷◌, [], ◌⊎◌, true, not, None, Ok, Err, OnOk, IfErr};
 ghost use Rattle.rc_types.specs.declared.faults.Fault.TheVariants.{OutOfMemory};
-ghost use Rattle.rc_types.specs.declared.limits.TheConstants.{MAX_FACTOR as FACTOR, MAX_SEGMENT as SEGMENT};
 ghost use Rattle.rc_model.specs.Messages.{refuses};
 ghost use Rattle.rc_model.specs.Log.{is_writing};
 ghost use Rattle.rc_model.specs.Heads.{append_fault, begin_roll};
 ghost use Rattle.rc_model.specs.Master.{new_master, with_log, appends_entry, dead_segments, places_head};
 ghost use Rattle.rc_headroll.specs.LogData.{log_of};
+ghost use Rattle.rc_master.specs.Numbers.{IsMasterSetup};
 ghost use Rattle.rc_master.specs.Quiet.{IsQuiet};
 ghost use Rattle.rc_master.specs.View.{state_view, before_step, IsNoted, WereNoted};
 ghost use Rattle.rc_ownership.specs.Owner.{was_handed};
@@ -43,9 +43,7 @@ pub(crate) struct State {
 impl State {
     /// A master that knows nobody, owns nothing and has no head. It takes no memory.
     pub(crate) fn new(alloc: Global, own: ServerId, setup: MasterSetup) -> State
-        requires some { 0 < setup.factor }
-        requires factor { setup.factor ≤ FACTOR }
-        requires size { setup.size ≤ SEGMENT }
+        requires { IsMasterSetup setup }
         ensures state { state_view result ≡ new_master own setup }
         ensures noted { IsNoted result }
         ensures quiet { IsQuiet (state_view result) }

@@ -10,6 +10,7 @@ use Rattle.rc_model.specs.Nodes.{HostNode}
 use Rattle.rc_backup.specs.BackupView.{Holdings, backup_of}
 use Rattle.rc_master.specs.Data.{MasterData, master_of}
 use Rattle.rc_master.specs.Numbers.{HasVersions}
+pub use Rattle.rc_master.specs.Numbers.{IsMasterSetup}
 
 pub record HostData : Type 0 where
   pub index : ℕ
@@ -31,12 +32,6 @@ host_of host = record {
 -- what a host keeps as a backup, once it was started
 abbrev pub backup_once_started : HostNode → Option Backup
 backup_once_started host = if nat_lt 0 host.generation then Some host.backup else None
-
--- masters can be made with these numbers
-pub record IsMasterSetup (setup : MasterSetup) : Type 0 where
-  pub some : 0 < setup.factor
-  pub factor : setup.factor ≤ MAX_FACTOR
-  pub size : setup.size ≤ MAX_SEGMENT
 
 -- a number of replicas that a segment can have
 abbrev pub IsFactor : ℕ → Type 0
