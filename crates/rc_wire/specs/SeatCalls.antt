@@ -62,7 +62,8 @@ pub record SeesNone (setup : Setup) (old : SeatData) (from : ℕ) (new : SeatDat
   pub later : Later old new
   pub none : least_to new.name from (world_at setup new).sent ≡ None
 
--- the first message to the seat's node from a number on has this one; it was delivered before, or is held now
+-- the first message to the seat's node from a number on has this one; it was delivered before, or the pending step
+-- delivers it, or it is held now
 pub record SeesNext (setup : Setup) (old : SeatData) (from number : ℕ) (new : SeatData) : Type 0 where
   pub looked : SeatData
   pub later : Later old looked

@@ -19,7 +19,8 @@ abbrev pub AllHaveWorked : Setup → List Event → List Step → ℕ → Type 0
 AllHaveWorked setup events steps nodes = All (HasWorked setup events steps) (new_seats nodes)
 
 -- a step is of none of so many nodes; or one of them, after what it had done of these events, came to a work that it
--- can't do there, or had seen as many events as there may be
+-- can't do there, or had seen as many events as there may be. Each of the seats is as a seat is, and what it has done
+-- is what its node does in these events
 pub record SomeWasStuck (setup : Setup) (events : List Event) (steps : List Step) (nodes : ℕ) : Type 0 where
   pub seats : List SeatData
   pub whole : All (IsSeat setup) seats

@@ -82,7 +82,8 @@ impl<N: Naming> Wire<N> {
     }
 
     /// The least number, from `from` on, of a message to the seat's node, as `next` gives it; the seat holds that
-    /// message then, unless it has delivered it. One lock for both. None where there is no such message.
+    /// message then, unless it has delivered it or its pending step does. One lock for both. None where there is no
+    /// such message.
     ///
     /// # Errors
     ///
