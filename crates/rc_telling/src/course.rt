@@ -1,5 +1,6 @@
-//! What ran in the course of a run, and what was delivered.
+//! What was delivered in the course of a run, and what was asked for of servers that did not run or were not ready.
 
+use crate::servers::Servers;
 use rc_types::limits::MAX_HOSTS;
 use rc_types::{Addr, Body, Event, Message, ServerId};
 use std::alloc::{AllocError, Global};
@@ -13,41 +14,15 @@ pub(crate) enum Early {
     Write(ServerId),
 }
 
-/// What has become of a host.
-#[derive(Clone, Copy)]
-struct Host {
-    /// How often it was started.
-    generation: u32,
-    /// The newest of its generations that was suspected.
-    suspected: u32,
-    /// The newest of its generations whose Ready has reached the coordinator.
-    ready: u32,
-    /// Whether it runs.
-    runs: bool,
-}
-
-impl Host {
-    /// It was never started.
-    const NEW: Host = Host {
-        generation: 0,
-        suspected: 0,
-        ready: 0,
-        runs: false,
-    };
-
-    /// Whether it runs, and its server was not suspected.
-    fn is_up(&self) -> bool {
-        self.runs && self.suspected != self.generation
-    }
-}
-
 /// What ran, and what was delivered.
 #[derive(Drop)]
 pub(crate) struct Course {
+    /// The servers.
+    pub(crate) servers: Servers,
     /// Of each message, whether it was delivered.
     pub(crate) delivered: Vec<bool>,
-    /// What has become of each host.
-    hosts: [Host; MAX_HOSTS as usize],
+    /// Of each host, the generation whose Ready has reached the coordinator last.
+    ready: [u32; MAX_HOSTS as usize],
     /// The first create or write that came before its server was ready.
     pub(crate) early: Option<Early>,
     /// The first server that was suspected and had never been started.
@@ -62,8 +37,9 @@ impl Course {
     /// Nothing yet.
     pub(crate) fn new(alloc: Global) -> Course {
         Course {
+            servers: Servers::new(alloc),
             delivered: Vec::new(alloc),
-            hosts: [Host::NEW; MAX_HOSTS as usize],
+            ready: [0; MAX_HOSTS as usize],
             early: None,
             unstarted: None,
             unheard: None,
@@ -71,33 +47,39 @@ impl Course {
         }
     }
 
-    /// None of so many messages was delivered yet.
-    pub(crate) fn begin(&mut self, count: usize) -> Result<(), AllocError> {
-        self.delivered.resize(count, false)?;
+    /// These events have happened, and sent these messages.
+    pub(crate) fn take_all(
+        &mut self,
+        events: &[Event],
+        messages: &[Message],
+    ) -> Result<(), AllocError> {
+        self.delivered.resize(messages.len(), false)?;
+        for (at, event) in events.iter().enumerate() {
+            self.take(event, at, messages)?;
+        }
         Ok(())
     }
 
-    /// These events have happened, and sent these messages.
-    pub(crate) fn take_all(&mut self, events: &[Event], messages: &[Message]) {
-        for event in events {
-            self.take(event, messages);
-        }
-    }
-
-    /// An event has happened.
-    fn take(&mut self, event: &Event, messages: &[Message]) {
+    /// The event of this number has happened. The servers are told of those alone that concern them: most are
+    /// deliveries.
+    fn take(&mut self, event: &Event, at: usize, messages: &[Message]) -> Result<(), AllocError> {
         match event {
             Event::Deliver(number) => {
                 self.deliver(*number);
                 self.arrive(messages.get(*number));
             }
             Event::Create { table, owner } => self.ask(Early::Create(*table, *owner), *owner),
-            Event::Start { host, .. } => self.start(*host),
-            Event::Stop(id) => self.stop(id.index),
-            Event::Suspect(id) => self.suspect(*id),
-            Event::Ask { to, .. } if !self.runs(*to) => self.miss(*to),
+            Event::Start { .. } | Event::Stop(_) => {
+                self.servers.take(event, at)?;
+            }
+            Event::Suspect(id) => {
+                self.servers.take(event, at)?;
+                self.suspect(*id);
+            }
+            Event::Ask { to, .. } if !self.servers.runs(*to) => self.miss(*to),
             _ => {}
         }
+        Ok(())
     }
 
     /// A message was delivered.
@@ -129,116 +111,35 @@ impl Course {
 
     /// The coordinator has heard that a server is ready.
     fn ready(&mut self, id: ServerId) {
-        if let Some(host) = self.hosts.get_mut(usize::from(id.index)) {
-            host.ready = id.generation;
+        if let Some(generation) = self.ready.get_mut(usize::from(id.index)) {
+            *generation = id.generation;
         }
     }
 
     /// Something is asked for at a server that may not be ready.
     fn ask(&mut self, early: Early, id: ServerId) {
-        if self.runs(id) && self.host(id.index).ready != id.generation {
+        let ready = self.ready.get(usize::from(id.index)).copied().unwrap_or(0);
+        if self.servers.runs(id) && ready != id.generation {
             self.early = self.early.or(Some(early));
-        }
-    }
-
-    /// A host was started.
-    fn start(&mut self, index: u8) {
-        if let Some(host) = self.hosts.get_mut(usize::from(index)) {
-            host.generation = host.generation.saturating_add(1);
-            host.runs = true;
-        }
-    }
-
-    /// A host was stopped.
-    fn stop(&mut self, index: u8) {
-        if let Some(host) = self.hosts.get_mut(usize::from(index)) {
-            host.runs = false;
         }
     }
 
     /// A server was suspected.
     fn suspect(&mut self, id: ServerId) {
-        if self.host(id.index).generation < id.generation {
+        if self.servers.generation(id.index) < id.generation {
             self.unstarted = self.unstarted.or(Some(id));
-        } else if let Some(host) = self.hosts.get_mut(usize::from(id.index)) {
-            host.suspected = host.suspected.max(id.generation);
         }
-    }
-
-    /// What has become of a host.
-    fn host(&self, index: u8) -> Host {
-        self.hosts
-            .get(usize::from(index))
-            .copied()
-            .unwrap_or(Host::NEW)
-    }
-
-    /// Whether a host runs, and its server was not suspected.
-    pub(crate) fn is_up(&self, index: u8) -> bool {
-        self.host(index).is_up()
-    }
-
-    /// How many hosts run whose servers were not suspected.
-    pub(crate) fn count_up(&self) -> usize {
-        self.hosts.iter().filter(|host| host.is_up()).count()
-    }
-
-    /// The first host's newest server that has stopped and was not suspected.
-    pub(crate) fn unsuspected(&self) -> Option<ServerId> {
-        for index in 0..MAX_HOSTS {
-            let host = self.host(index);
-            if host.generation != host.suspected && !host.runs {
-                return Some(ServerId {
-                    index,
-                    generation: host.generation,
-                });
-            }
-        }
-        None
-    }
-
-    /// The first host's newest server that runs and was suspected.
-    pub(crate) fn zombie(&self) -> Option<ServerId> {
-        for index in 0..MAX_HOSTS {
-            let host = self.host(index);
-            if host.runs && !host.is_up() {
-                return Some(ServerId {
-                    index,
-                    generation: host.generation,
-                });
-            }
-        }
-        None
-    }
-
-    /// Whether a server runs.
-    pub(crate) fn runs(&self, id: ServerId) -> bool {
-        let host = self.host(id.index);
-        host.runs && host.generation == id.generation
     }
 
     /// A server was asked that does not run.
     fn miss(&mut self, id: ServerId) {
-        if self.unheard.is_none() {
-            self.unheard = Some(id);
-        }
+        self.unheard = self.unheard.or(Some(id));
         self.requests = self.requests.saturating_add(1);
     }
 
     /// Whether this message waits: it was not delivered, and its addressee is there.
     pub(crate) fn waits(&self, number: usize, message: &Message) -> bool {
-        if self.delivered.get(number).copied().unwrap_or(true) {
-            return false;
-        }
-        match message.to {
-            Addr::Server(id) => self.runs(id),
-            Addr::Coordinator => true,
-            Addr::Outside => false,
-        }
-    }
-
-    /// How many hosts run.
-    pub(crate) fn running(&self) -> usize {
-        self.hosts.iter().filter(|host| host.runs).count()
+        let is_delivered = self.delivered.get(number).copied().unwrap_or(true);
+        !is_delivered && message.to != Addr::Outside && self.servers.is_there(message.to)
     }
 }

@@ -74,7 +74,7 @@ fn put_turn(pen: &mut Pen, story: &Story<'_>, number: usize, event: &Event, turn
     match event {
         Event::Ask { .. } => {}
         Event::Deliver(message) => put_delivery(pen, story, number, *message, turn),
-        _ => put_note(pen, event, &turn.step),
+        _ => put_note(pen, event, turn.started),
     }
     put_sent(pen, story, &turn.step);
 }
@@ -123,8 +123,8 @@ fn put_delivery(pen: &mut Pen, story: &Story<'_>, number: usize, message: usize,
 }
 
 /// An event that is no message.
-fn put_note(pen: &mut Pen, event: &Event, step: &Step) {
-    let at = match (event, step.started) {
+fn put_note(pen: &mut Pen, event: &Event, started: Option<ServerId>) {
+    let at = match (event, started) {
         (_, Some(id)) => Addr::Server(id),
         (Event::Stop(id), None) => Addr::Server(*id),
         (Event::Tick(addr), None) => *addr,
@@ -132,7 +132,7 @@ fn put_note(pen: &mut Pen, event: &Event, step: &Step) {
     };
     put_name(pen, "    Note over ", at);
     pen.put(": ");
-    tell_event(pen, event, step.started);
+    tell_event(pen, event, started);
     pen.put("\n");
 }
 

@@ -55,9 +55,9 @@ impl Group {
 
 /// The last grant of a range.
 #[derive(Clone, Copy)]
-pub(crate) struct Range {
-    /// The keys.
-    pub(crate) keys: KeyRange,
+pub(crate) struct LastGrant {
+    /// The range.
+    pub(crate) range: KeyRange,
     /// The term of the grant.
     pub(crate) term: u32,
     /// To whom it was granted.
@@ -85,7 +85,7 @@ pub(crate) struct Ending {
     lost: Table<(u8, Addr), Group>,
     /// What was sent to the outside, by kind.
     told: Table<(u8, Addr), Group>,
-    ranges: Table<(u32, u64, u64), Range>,
+    grants: Table<(u32, u64, u64), LastGrant>,
     newest: Table<(u32, u64), Newest>,
 }
 
@@ -94,7 +94,7 @@ impl Drop for Ending {
         let Ending {
             lost: _,
             told: _,
-            ranges: _,
+            grants: _,
             newest: _,
         } = self;
     }
@@ -106,7 +106,7 @@ impl Ending {
         Ending {
             lost: Table::new(alloc),
             told: Table::new(alloc),
-            ranges: Table::new(alloc),
+            grants: Table::new(alloc),
             newest: Table::new(alloc),
         }
     }
@@ -141,12 +141,12 @@ impl Ending {
     fn note(&mut self, message: &Message) -> Result<(), AllocError> {
         match &message.body {
             Body::Own { range, term, .. } => {
-                let last = Range {
-                    keys: *range,
+                let last = LastGrant {
+                    range: *range,
                     term: *term,
                     owner: message.to,
                 };
-                self.ranges.put((range.table, range.lo, range.hi), last)
+                self.grants.put((range.table, range.lo, range.hi), last)
             }
             _ => acknowledge(&mut self.newest, message),
         }
@@ -163,17 +163,17 @@ impl Ending {
     }
 
     /// The last grant of each range, in order of its first one.
-    pub(crate) fn ranges(&self) -> &Table<(u32, u64, u64), Range> {
-        &self.ranges
+    pub(crate) fn grants(&self) -> &Table<(u32, u64, u64), LastGrant> {
+        &self.grants
     }
 
-    /// Whether a later term has taken a key of this range.
-    pub(crate) fn is_passed_on(&self, range: &Range) -> bool {
-        for other in self.ranges.entries.values() {
-            if other.keys.table == range.keys.table
-                && other.term > range.term
-                && other.keys.lo <= range.keys.hi
-                && range.keys.lo <= other.keys.hi
+    /// Whether a later term has taken a key of its range.
+    pub(crate) fn is_passed_on(&self, grant: &LastGrant) -> bool {
+        for other in self.grants.entries.values() {
+            if other.range.table == grant.range.table
+                && other.term > grant.term
+                && other.range.lo <= grant.range.hi
+                && grant.range.lo <= other.range.hi
             {
                 return true;
             }

@@ -5,6 +5,7 @@
 use crate::course::{Course, Early};
 use crate::ending::{Group, count, total_of};
 use crate::recoveries::{Recoveries, tell_recoveries};
+use crate::servers::Servers;
 use crate::stale::tell_stale;
 use crate::tables::Table;
 use rc_pen::{Pen, Piece, Spelling};
@@ -66,8 +67,7 @@ fn tell_hints(
     pen: &mut Pen,
 ) {
     let mut course = Course::new(alloc);
-    pen.take(course.begin(messages.len()));
-    course.take_all(events, messages);
+    pen.take(course.take_all(events, messages));
     tell_early(&course, pen);
     let waiting = tell_waiting(&course, alloc, pen, messages);
     if waiting > 0 {
@@ -75,7 +75,7 @@ fn tell_hints(
     }
     tell_unheard(&course, pen);
     tell_unstarted(&course, pen);
-    tell_few(&course, pen, factors);
+    tell_few(&course.servers, pen, factors);
     let sent = Sent::among(messages);
     if sent.reads {
         tell_stale(alloc, pen, messages);
@@ -122,7 +122,7 @@ fn tell_unrecovered(
 ) {
     let mut recoveries = Recoveries::new(alloc);
     pen.take(recoveries.note_all(messages, course.delivered.as_slice()));
-    tell_recoveries(pen, &recoveries, course, waits);
+    tell_recoveries(pen, &recoveries, &course.servers, waits);
 }
 
 /// What was asked for before its server was ready.
@@ -217,11 +217,11 @@ fn tell_unstarted(course: &Course, pen: &mut Pen) {
 }
 
 /// Too few hosts for the factor of the first master that has too few.
-fn tell_few(course: &Course, pen: &mut Pen, factors: Factors) {
-    let up = course.count_up();
+fn tell_few(servers: &Servers, pen: &mut Pen, factors: Factors) {
+    let up = servers.count_up();
     for host in 0..MAX_HOSTS {
-        if course.is_up(host) && up <= usize::from(factors.at(host)) {
-            tell_fewer(pen, up, course.running(), host, factors.at(host));
+        if servers.is_up(host) && up <= usize::from(factors.at(host)) {
+            tell_fewer(pen, up, servers.running(), host, factors.at(host));
             return;
         }
     }

@@ -11,7 +11,7 @@ use crate::tables::Table;
 use crate::verdict::tell_verdict;
 use crate::writes::{Writes, tell_fate};
 use rc_pen::{Pen, Piece, Spelling};
-use rc_types::{Addr, Event, Kind, Message};
+use rc_types::{Addr, Event, Kind, Message, ServerId};
 use std::alloc::{AllocError, Global};
 
 /// The story as one JSON value, with long lists `whole`, or as a log tells them. Keys and versions are texts, since
@@ -96,7 +96,7 @@ fn put_turn(pen: &mut Pen, story: &Story<'_>, number: usize, event: &Event, turn
             pen.put_number("\",\"message\":", *message as u64);
             put_silence(pen, story.messages.get(*message), turn.silence);
         }
-        _ => put_happening(pen, event, step),
+        _ => put_happening(pen, event, turn.started),
     }
     put_sent(pen, step);
 }
@@ -126,19 +126,19 @@ fn put_silence(pen: &mut Pen, message: Option<&Message>, silence: Option<Silence
 }
 
 /// What an event other than a delivery says, and at which node it happens.
-fn put_happening(pen: &mut Pen, event: &Event, step: &Step) {
+fn put_happening(pen: &mut Pen, event: &Event, started: Option<ServerId>) {
     pen.put("\",\"text\":\"");
-    tell_event(pen, event, step.started);
-    pen.put_all("\",\"at\":\"%\"", &[Piece::Node(node_of(event, step))]);
+    tell_event(pen, event, started);
+    pen.put_all("\",\"at\":\"%\"", &[Piece::Node(node_of(event, started))]);
 }
 
 /// The node at which an event happens.
-fn node_of(event: &Event, step: &Step) -> Addr {
+fn node_of(event: &Event, started: Option<ServerId>) -> Addr {
     match event {
         Event::Ask { .. } => Addr::Outside,
         Event::Tick(addr) => *addr,
         Event::Stop(id) => Addr::Server(*id),
-        Event::Start { .. } => match step.started {
+        Event::Start { .. } => match started {
             Some(id) => Addr::Server(id),
             None => Addr::Outside,
         },
@@ -215,16 +215,16 @@ fn number_or_null(number: Option<usize>) -> Piece {
 /// The last grant of each range.
 fn put_ranges(pen: &mut Pen, ending: &Ending) {
     pen.put("],\"ranges\":[");
-    for (place, range) in ending.ranges().entries.values().enumerate() {
+    for (place, grant) in ending.grants().entries.values().enumerate() {
         pen.put_all(
             "%|,|\n{\"table\":%,\"lo\":\"%\",\"hi\":\"%\",\"term\":%,\"owner\":\"%\"}",
             &[
                 Piece::Flag(place == 0),
-                Piece::U32(range.keys.table),
-                Piece::U64(range.keys.lo),
-                Piece::U64(range.keys.hi),
-                Piece::U32(range.term),
-                Piece::Node(range.owner),
+                Piece::U32(grant.range.table),
+                Piece::U64(grant.range.lo),
+                Piece::U64(grant.range.hi),
+                Piece::U32(grant.term),
+                Piece::Node(grant.owner),
             ],
         );
     }

@@ -4,13 +4,13 @@
 //! alone. By which words it is told is no promise; that telling it ends, and fails only without memory, is one.
 //!
 //! To be read in this order: `passages`, what became of a message; `silences`, why a delivery came to nothing;
-//! `servers`, who ran when; `standing`, how masters and backups stand at the end; `changes`, what became of them on
-//! the way; `story`, the whole; `kinds` and `fields`, a message as text; `ending`, what else stands at the end;
-//! `waits`, what a master waits for; `writes`, what became of those that were not acknowledged; then the four ways to
-//! tell it: `logs` with `standings`, `json` with `json_standing`, `diagrams` and `pages`. `tables` has what all of them
-//! put into maps, and `verdict` the words of the audit.
-//! Apart from all this stands `hinting`, with `course`, `stale` and `recoveries`: what may not have been meant in a
-//! run.
+//! `servers`, who ran when, and who was suspected; `standing`, how masters and backups stand at the end; `changes`,
+//! what became of them on the way; `story`, the whole; `kinds` and `fields`, a message as text; `ending`, what else
+//! stands at the end; `waits`, what a master waits for; `writes`, what became of those that were not acknowledged; then
+//! the four ways to tell it: `logs` with `standings`, `json` with `json_standing`, `diagrams` and `pages`. `tables` has
+//! what all of them put into maps, and `verdict` the words of the audit.
+//! Apart from all this, but for `servers`, stands `hinting`, with `course`, `stale` and `recoveries`: what may not have
+//! been meant in a run.
 #![tactic(auto)]
 
 mod changes;

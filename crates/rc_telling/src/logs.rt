@@ -52,7 +52,7 @@ fn tell_turn(pen: &mut Pen, story: &Story<'_>, number: usize, event: &Event, tur
     );
     match event {
         Event::Deliver(message) => tell_delivery(pen, story, number, *message, turn),
-        _ => tell_event(pen, event, step.started),
+        _ => tell_event(pen, event, turn.started),
     }
     pen.say("\n");
     tell_sent(pen, step, story.messages);
@@ -184,22 +184,22 @@ fn tell_servers(pen: &mut Pen, servers: &[Server]) {
 
 /// The last grant of each range, and whether its owner was suspected, or it was granted once more in other ranges.
 fn tell_ranges(pen: &mut Pen, story: &Story<'_>, ending: &Ending) {
-    pen.number("\nranges ", ending.ranges().entries.len() as u64);
-    for range in ending.ranges().entries.values() {
+    pen.number("\nranges ", ending.grants().entries.len() as u64);
+    for grant in ending.grants().entries.values() {
         pen.say_all(
             "\n    table % keys %..% term % owner %",
             &[
-                Piece::U32(range.keys.table),
-                Piece::U64(range.keys.lo),
-                Piece::U64(range.keys.hi),
-                Piece::U32(range.term),
-                Piece::Node(range.owner),
+                Piece::U32(grant.range.table),
+                Piece::U64(grant.range.lo),
+                Piece::U64(grant.range.hi),
+                Piece::U32(grant.term),
+                Piece::Node(grant.owner),
             ],
         );
-        if ending.is_passed_on(range) {
+        if ending.is_passed_on(grant) {
             pen.say(", passed on");
         } else {
-            tell_owner(pen, story, range.owner);
+            tell_owner(pen, story, grant.owner);
         }
     }
 }

@@ -1,12 +1,12 @@
 //! Recoveries that are not at their end, and what they wait for.
 
-use crate::course::Course;
+use crate::servers::Servers;
 use crate::tables::Table;
 use rc_pen::{Pen, Piece};
 use rc_types::{Addr, Body, Message, Part, ServerId};
 use std::alloc::{AllocError, Global};
 
-/// The newest attempt to recover a master.
+/// An attempt to recover a master.
 #[derive(Clone, Copy)]
 struct Attempt {
     /// Its number.
@@ -47,10 +47,10 @@ enum Stage {
 
 /// The recoveries of a run.
 pub(crate) struct Recoveries {
-    /// By number of an attempt: the master.
-    masters: Table<u32, ServerId>,
-    /// By master.
-    newest: Table<ServerId, Attempt>,
+    /// By master: the number of its newest attempt.
+    newest: Table<ServerId, u32>,
+    /// By number.
+    attempts: Table<u32, Attempt>,
     /// By term.
     parts: Table<u32, Given>,
     /// By term and segment: from whom it is fetched, and whether it has come.
@@ -60,8 +60,8 @@ pub(crate) struct Recoveries {
 impl Drop for Recoveries {
     fn drop(self) {
         let Recoveries {
-            masters: _,
             newest: _,
+            attempts: _,
             parts: _,
             fetches: _,
         } = self;
@@ -72,8 +72,8 @@ impl Recoveries {
     /// None yet.
     pub(crate) fn new(alloc: Global) -> Recoveries {
         Recoveries {
-            masters: Table::new(alloc),
             newest: Table::new(alloc),
+            attempts: Table::new(alloc),
             parts: Table::new(alloc),
             fetches: Table::new(alloc),
         }
@@ -135,43 +135,30 @@ impl Recoveries {
 
     /// An attempt asks a server.
     fn ask(&mut self, number: u32, master: ServerId) -> Result<(), AllocError> {
-        self.masters.put(number, master)?;
-        if let Some(attempt) = self.newest.get_mut(master) {
-            if attempt.number == number {
-                attempt.asked = attempt.asked.saturating_add(1);
-                return Ok(());
-            }
-        }
+        self.newest.put(master, number)?;
         let attempt = Attempt {
             number,
-            asked: 1,
+            asked: 0,
             answers: 0,
             is_decided: false,
         };
-        self.newest.put(master, attempt)
-    }
-
-    /// The newest attempt of its master, if this is one.
-    fn current(&mut self, number: u32) -> Option<&mut Attempt> {
-        let master = self.masters.find(number)?;
-        let attempt = self.newest.get_mut(master)?;
-        if attempt.number == number {
-            Some(attempt)
-        } else {
-            None
+        self.attempts.put_first(number, attempt)?;
+        if let Some(attempt) = self.attempts.get_mut(number) {
+            attempt.asked = attempt.asked.saturating_add(1);
         }
+        Ok(())
     }
 
     /// A server has answered.
     fn answer(&mut self, number: u32) {
-        if let Some(attempt) = self.current(number) {
+        if let Some(attempt) = self.attempts.get_mut(number) {
             attempt.answers = attempt.answers.saturating_add(1);
         }
     }
 
     /// Parts are given to a server.
     fn plan(&mut self, number: u32, to: Addr, parts: &[Part]) -> Result<(), AllocError> {
-        if let Some(attempt) = self.current(number) {
+        if let Some(attempt) = self.attempts.get_mut(number) {
             attempt.is_decided = true;
         }
         for part in parts {
@@ -226,18 +213,21 @@ impl Recoveries {
 pub(crate) fn tell_recoveries(
     pen: &mut Pen,
     recoveries: &Recoveries,
-    course: &Course,
+    servers: &Servers,
     waits: bool,
 ) {
-    for (master, attempt) in &recoveries.newest.entries {
+    for (master, number) in &recoveries.newest.entries {
+        let Some(attempt) = recoveries.attempts.find(*number) else {
+            continue;
+        };
         if !attempt.is_decided {
-            tell_undecided(pen, *master, attempt);
-        } else if let (count, Some((term, part))) = recoveries.missing(attempt.number) {
-            tell_missing(pen, *master, attempt, count, part.to);
-            if is_gone(part.to, course) {
-                tell_gone(pen, *master);
+            tell_undecided(pen, *master, &attempt);
+        } else if let (count, Some((term, part))) = recoveries.missing(*number) {
+            tell_missing(pen, *master, *number, count, part.to);
+            if servers.is_there(part.to) {
+                tell_stage(pen, *master, recoveries.stage(term, &part), servers, waits);
             } else {
-                tell_stage(pen, *master, recoveries.stage(term, &part), course, waits);
+                tell_gone(pen, *master);
             }
             pen.say("\n");
         }
@@ -259,25 +249,17 @@ fn tell_undecided(pen: &mut Pen, master: ServerId, attempt: &Attempt) {
 }
 
 /// A plan of which parts were not granted.
-fn tell_missing(pen: &mut Pen, master: ServerId, attempt: &Attempt, count: u64, to: Addr) {
+fn tell_missing(pen: &mut Pen, master: ServerId, attempt: u32, count: u64, to: Addr) {
     pen.say_all(
         "hint: the recovery of % (attempt %) is not at its end: parts that were not granted: %; the first is to be \
          recovered by %",
         &[
             Piece::Id(master),
-            Piece::U32(attempt.number),
+            Piece::U32(attempt),
             Piece::U64(count),
             Piece::Node(to),
         ],
     );
-}
-
-/// Whether a node is a server that does not run.
-fn is_gone(node: Addr, course: &Course) -> bool {
-    match node {
-        Addr::Server(id) => !course.runs(id),
-        Addr::Coordinator | Addr::Outside => false,
-    }
 }
 
 /// Who is needed for the recovery of this master is gone.
@@ -289,7 +271,7 @@ fn tell_gone(pen: &mut Pen, master: ServerId) {
 }
 
 /// How far a part has come, and what it waits for.
-fn tell_stage(pen: &mut Pen, master: ServerId, stage: Stage, course: &Course, waits: bool) {
+fn tell_stage(pen: &mut Pen, master: ServerId, stage: Stage, servers: &Servers, waits: bool) {
     match stage {
         Stage::Planned => pen.say(", which the plan has not reached"),
         Stage::Fetching(seg, from) => {
@@ -297,13 +279,13 @@ fn tell_stage(pen: &mut Pen, master: ServerId, stage: Stage, course: &Course, wa
                 ", which waits for segment % from %",
                 &[Piece::U16(seg), Piece::Node(from)],
             );
-            if is_gone(from, course) {
+            if !servers.is_there(from) {
                 tell_gone(pen, master);
             }
         }
         Stage::Fetched => {
             pen.say(", which has read all of it, and waits until its own backups have stored it");
-            tell_unsuspected(pen, course, waits);
+            tell_unsuspected(pen, servers, waits);
         }
         Stage::Recovered => {
             pen.say(", which has told the coordinator that it has it, and waits for the answer");
@@ -313,8 +295,8 @@ fn tell_stage(pen: &mut Pen, master: ServerId, stage: Stage, course: &Course, wa
 
 /// A server that has stopped, and of which the coordinator was not told; or else, where no message waits, one that was
 /// suspected and runs.
-fn tell_unsuspected(pen: &mut Pen, course: &Course, waits: bool) {
-    if let Some(id) = course.unsuspected() {
+fn tell_unsuspected(pen: &mut Pen, servers: &Servers, waits: bool) {
+    if let Some(id) = servers.first(false, false) {
         pen.say_all(
             "; % has stopped and was not suspected, so its place is not filled",
             &[Piece::Id(id)],
@@ -324,7 +306,7 @@ fn tell_unsuspected(pen: &mut Pen, course: &Course, waits: bool) {
     if waits {
         return;
     }
-    if let Some(id) = course.zombie() {
+    if let Some(id) = servers.first(true, true) {
         pen.say_all(
             "; % was suspected and runs: once it is stopped and its host is started, that can be one",
             &[Piece::Id(id)],

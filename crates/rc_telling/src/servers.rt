@@ -1,10 +1,8 @@
-//! Which servers were started, and when each of them ran.
+//! Which servers were started, when each of them ran, and which were suspected.
 
-use rc_types::{Addr, ServerId};
+use rc_types::limits::MAX_HOSTS;
+use rc_types::{Addr, Event, ServerId};
 use std::alloc::{AllocError, Global};
-
-/// How many hosts there can be.
-const HOSTS: usize = 64;
 
 /// A server, and what it came to.
 #[derive(Clone, Copy)]
@@ -21,12 +19,29 @@ pub(crate) struct Server {
     pub(crate) acknowledged: u64,
 }
 
+impl Server {
+    /// Whether it runs.
+    fn runs(&self) -> bool {
+        self.stopped.is_none()
+    }
+
+    /// Whether it was suspected.
+    fn is_suspected(&self) -> bool {
+        self.suspected.is_some()
+    }
+
+    /// Whether it runs, and was not suspected.
+    fn is_up(&self) -> bool {
+        self.runs() && !self.is_suspected()
+    }
+}
+
 /// All servers, in order of start.
 #[derive(Drop)]
 pub(crate) struct Servers {
     items: Vec<Server>,
     /// The place of each host's newest server.
-    newest: [Option<usize>; HOSTS],
+    newest: [Option<usize>; MAX_HOSTS as usize],
 }
 
 impl Servers {
@@ -34,13 +49,34 @@ impl Servers {
     pub(crate) fn new(alloc: Global) -> Servers {
         Servers {
             items: Vec::new(alloc),
-            newest: [None; HOSTS],
+            newest: [None; MAX_HOSTS as usize],
         }
     }
 
-    /// An event starts a server. What ran on its host before runs no longer.
-    pub(crate) fn start(&mut self, id: ServerId, event: usize) -> Result<(), AllocError> {
-        self.stop(id.index, event);
+    /// The event of this number has happened. Gives the server that it started, if it started one.
+    pub(crate) fn take(
+        &mut self,
+        event: &Event,
+        number: usize,
+    ) -> Result<Option<ServerId>, AllocError> {
+        match event {
+            Event::Start { host, .. } => {
+                let id = self.start(*host, number)?;
+                return Ok(Some(id));
+            }
+            Event::Stop(id) => self.stop(*id, number),
+            Event::Suspect(id) => self.suspect(*id, number),
+            _ => {}
+        }
+        Ok(None)
+    }
+
+    /// An event starts the next server of a host, which does not run.
+    fn start(&mut self, host: u8, event: usize) -> Result<ServerId, AllocError> {
+        let id = ServerId {
+            index: host,
+            generation: self.generation(host).saturating_add(1),
+        };
         let place = self.items.len();
         self.items.push(Server {
             id,
@@ -49,44 +85,25 @@ impl Servers {
             suspected: None,
             acknowledged: 0,
         })?;
-        let host = id.index as usize;
-        if host < HOSTS {
-            self.newest[host] = Some(place);
+        if let Some(newest) = self.newest.get_mut(usize::from(host)) {
+            *newest = Some(place);
         }
-        Ok(())
+        Ok(id)
     }
 
-    /// An event stops what runs on this host.
-    pub(crate) fn stop(&mut self, host: u8, event: usize) {
-        if let Some(server) = self.newest_of(host) {
-            if server.stopped.is_none() {
-                server.stopped = Some(event);
-            }
+    /// An event stops a server, which runs.
+    fn stop(&mut self, id: ServerId, event: usize) {
+        if let Some(server) = self.newest_mut(id.index) {
+            server.stopped = Some(event);
         }
     }
 
     /// An event suspects a server.
-    pub(crate) fn suspect(&mut self, id: ServerId, event: usize) {
-        if let Some(server) = self.newest_of(id.index) {
-            if server.id == id && server.suspected.is_none() {
-                server.suspected = Some(event);
+    fn suspect(&mut self, id: ServerId, event: usize) {
+        if let Some(server) = self.newest_mut(id.index) {
+            if server.id == id {
+                server.suspected = server.suspected.or(Some(event));
             }
-        }
-    }
-
-    /// Whether a server runs at the end.
-    pub(crate) fn runs(&self, id: ServerId) -> bool {
-        match self.last_of(id.index) {
-            Some(server) => server.id == id && server.stopped.is_none(),
-            None => false,
-        }
-    }
-
-    /// Whether a server is the newest one of its host, and was suspected.
-    pub(crate) fn is_suspected(&self, id: ServerId) -> bool {
-        match self.last_of(id.index) {
-            Some(server) => server.id == id && server.suspected.is_some(),
-            None => false,
         }
     }
 
@@ -95,21 +112,83 @@ impl Servers {
         let Addr::Server(id) = from else {
             return;
         };
-        if let Some(server) = self.newest_of(id.index) {
+        if let Some(server) = self.newest_mut(id.index) {
             server.acknowledged = server.acknowledged.saturating_add(1);
         }
     }
 
-    /// The newest server of a host.
-    fn newest_of(&mut self, host: u8) -> Option<&mut Server> {
-        let place = self.newest.get(host as usize).copied().flatten()?;
-        self.items.get_mut(place)
+    /// How often a host was started.
+    pub(crate) fn generation(&self, host: u8) -> u32 {
+        match self.newest(host) {
+            Some(server) => server.id.generation,
+            None => 0,
+        }
     }
 
-    /// The newest server of a host, to be looked at.
-    fn last_of(&self, host: u8) -> Option<&Server> {
-        let place = self.newest.get(host as usize).copied().flatten()?;
+    /// Whether a server runs.
+    pub(crate) fn runs(&self, id: ServerId) -> bool {
+        match self.newest(id.index) {
+            Some(server) => server.id == id && server.runs(),
+            None => false,
+        }
+    }
+
+    /// Whether a node is there: each is but for servers that do not run.
+    pub(crate) fn is_there(&self, node: Addr) -> bool {
+        match node {
+            Addr::Server(id) => self.runs(id),
+            Addr::Coordinator | Addr::Outside => true,
+        }
+    }
+
+    /// Whether a server is the newest one of its host, and was suspected.
+    pub(crate) fn is_suspected(&self, id: ServerId) -> bool {
+        match self.newest(id.index) {
+            Some(server) => server.id == id && server.is_suspected(),
+            None => false,
+        }
+    }
+
+    /// Whether a host runs, and its server was not suspected.
+    pub(crate) fn is_up(&self, host: u8) -> bool {
+        match self.newest(host) {
+            Some(server) => server.is_up(),
+            None => false,
+        }
+    }
+
+    /// How many hosts run.
+    pub(crate) fn running(&self) -> usize {
+        self.items.iter().filter(|server| server.runs()).count()
+    }
+
+    /// How many hosts run whose servers were not suspected.
+    pub(crate) fn count_up(&self) -> usize {
+        self.items.iter().filter(|server| server.is_up()).count()
+    }
+
+    /// The first host's newest server that runs, or does not, and was suspected, or was not.
+    pub(crate) fn first(&self, runs: bool, is_suspected: bool) -> Option<ServerId> {
+        for host in 0..MAX_HOSTS {
+            if let Some(server) = self.newest(host) {
+                if server.runs() == runs && server.is_suspected() == is_suspected {
+                    return Some(server.id);
+                }
+            }
+        }
+        None
+    }
+
+    /// The newest server of a host.
+    fn newest(&self, host: u8) -> Option<&Server> {
+        let place = self.newest.get(usize::from(host)).copied().flatten()?;
         self.items.get(place)
+    }
+
+    /// The newest server of a host, to be changed.
+    fn newest_mut(&mut self, host: u8) -> Option<&mut Server> {
+        let place = self.newest.get(usize::from(host)).copied().flatten()?;
+        self.items.get_mut(place)
     }
 
     /// All of them, in order of start.

@@ -17,10 +17,6 @@ pub struct Step {
     pub first: usize,
     /// The number after the last message that it sent.
     pub end: usize,
-    /// The server that it started.
-    pub started: Option<ServerId>,
-    /// Whether what it delivers, if it delivers, finds its addressee running.
-    pub arrives: bool,
     /// The segment and the offset at which the log of the addressee ended before, if it delivers to a master with one.
     pub log_end: Option<(u16, usize)>,
 }
@@ -30,6 +26,8 @@ pub struct Step {
 pub(crate) struct Turn {
     /// What the event did.
     pub(crate) step: Step,
+    /// The server that it started.
+    pub(crate) started: Option<ServerId>,
     /// Why it came to nothing, as far as can be told.
     pub(crate) silence: Option<Silence>,
 }
@@ -78,9 +76,16 @@ impl Notes {
     ) -> Result<(), AllocError> {
         let number = self.turns.len();
         let silence = self.silence_of(event, &step, messages);
-        self.note(event, &step, number, messages)?;
+        let started = self.servers.take(event, number)?;
+        if let Event::Deliver(message) = event {
+            self.note_delivery(*message, number, messages)?;
+        }
         self.note_sent(alloc, number, &step, messages)?;
-        self.turns.push(Turn { step, silence })?;
+        self.turns.push(Turn {
+            step,
+            started,
+            silence,
+        })?;
         Ok(())
     }
 
@@ -89,52 +94,26 @@ impl Notes {
         let Event::Deliver(number) = event else {
             return None;
         };
-        if !step.arrives {
+        let message = messages.get(*number)?;
+        if !self.servers.is_there(message.to) {
             return Some(Silence::NotRunning);
         }
         if step.first < step.end {
             return None;
         }
-        self.known.why(messages.get(*number)?)
-    }
-
-    /// Notes what the event of this number did to a server or to a message.
-    fn note(
-        &mut self,
-        event: &Event,
-        step: &Step,
-        number: usize,
-        messages: &[Message],
-    ) -> Result<(), AllocError> {
-        match event {
-            Event::Stop(id) => {
-                self.servers.stop(id.index, number);
-                Ok(())
-            }
-            Event::Suspect(id) => {
-                self.servers.suspect(*id, number);
-                Ok(())
-            }
-            Event::Start { .. } => match step.started {
-                Some(id) => self.servers.start(id, number),
-                None => Ok(()),
-            },
-            Event::Deliver(message) => self.note_delivery(*message, step, number, messages),
-            _ => Ok(()),
-        }
+        self.known.why(message)
     }
 
     /// Notes that the event of this number delivered a message.
     fn note_delivery(
         &mut self,
         message: usize,
-        step: &Step,
         number: usize,
         messages: &[Message],
     ) -> Result<(), AllocError> {
         self.passages.deliver(message, number)?;
         match messages.get(message) {
-            Some(delivered) if step.arrives => self.known.deliver(delivered),
+            Some(delivered) if self.servers.is_there(delivered.to) => self.known.deliver(delivered),
             _ => Ok(()),
         }
     }

@@ -1,6 +1,7 @@
 //! What became of the writes that were not acknowledged.
 
 use crate::fields::tell_code;
+use crate::silences::Silence;
 use crate::story::{Step, Story, Turn};
 use crate::tables::Table;
 use rc_pen::{Pen, Piece};
@@ -121,7 +122,7 @@ impl Writes {
         let Some(master) = written_to(messages, *message) else {
             return Ok(());
         };
-        if let Some(fate) = self.fate(messages, master, &turn.step) {
+        if let Some(fate) = self.fate(messages, master, turn) {
             self.unanswered.push(Unanswered {
                 event: number,
                 message: *message,
@@ -131,15 +132,15 @@ impl Writes {
         Ok(())
     }
 
-    /// What became of a write to this master that this step took; nothing, where it was acknowledged.
-    fn fate(&self, messages: &[Message], master: ServerId, step: &Step) -> Option<Fate> {
-        if !step.arrives {
+    /// What became of a write to this master that this turn delivered; nothing, where it was acknowledged.
+    fn fate(&self, messages: &[Message], master: ServerId, turn: &Turn) -> Option<Fate> {
+        if let Some(Silence::NotRunning) = turn.silence {
             return Some(Fate::Unheard);
         }
-        if let Some(code) = refusal(messages, step) {
+        if let Some(code) = refusal(messages, &turn.step) {
             return Some(Fate::Refused(code));
         }
-        let (seg, offset) = step.log_end?;
+        let (seg, offset) = turn.step.log_end?;
         if self.acknowledged.has((master, seg, offset)) {
             return None;
         }

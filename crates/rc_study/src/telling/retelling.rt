@@ -2,7 +2,7 @@
 
 use crate::telling::changing::Watch;
 use rc_telling::{Changes, Notes, Step};
-use rc_types::{Addr, Event, ServerId};
+use rc_types::{Addr, Event};
 use rc_world::World;
 use std::alloc::{AllocError, Global};
 
@@ -75,7 +75,6 @@ fn take(
     retold: &mut Retold,
 ) -> Result<(), AllocError> {
     let first = world.sent().len();
-    let arrives = will_arrive(world, event);
     let log_end = log_end_at(world, event);
     let Ok(()) = world.take(alloc, event) else {
         return Err(AllocError);
@@ -84,30 +83,9 @@ fn take(
         place,
         first,
         end: world.sent().len(),
-        started: started_by(world, event),
-        arrives,
         log_end,
     };
     retold.note(alloc, event, step, world)
-}
-
-/// Whether what the event delivers will find its addressee running.
-fn will_arrive(world: &World<Global>, event: &Event) -> bool {
-    match event {
-        Event::Deliver(number) => is_there(world, *number),
-        _ => true,
-    }
-}
-
-/// Whether the addressee of the message of this number runs.
-fn is_there(world: &World<Global>, number: usize) -> bool {
-    let Some(message) = world.sent().get(number) else {
-        return false;
-    };
-    match message.to {
-        Addr::Server(id) => world.is_running(id),
-        Addr::Coordinator | Addr::Outside => true,
-    }
 }
 
 /// Where the log of the master ends to which the event delivers something.
@@ -122,16 +100,5 @@ fn log_end_at(world: &World<Global>, event: &Event) -> Option<(u16, usize)> {
             Some((head, log.segment(head)?.len()))
         }
         Addr::Coordinator | Addr::Outside => None,
-    }
-}
-
-/// The server that the event, the last one, started.
-fn started_by(world: &World<Global>, event: &Event) -> Option<ServerId> {
-    match event {
-        Event::Start { host, .. } => Some(ServerId {
-            index: *host,
-            generation: world.newest(*host),
-        }),
-        _ => None,
     }
 }
