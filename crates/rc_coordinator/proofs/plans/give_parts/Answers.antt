@@ -1,7 +1,7 @@
 use Rattle.std.proofs.Common.{◌≡◌, ℕ, ◌+◌, ◌%◌, ◌++◌, [], ◌∷◌, false, Some, List, length, get_or, drop, slice_get, sym, ap, ◌∙◌, arith}
 use Rattle.std.proofs.lemmas.List.{at_drop_more, length_push}
 use Rattle.std.proofs.lemmas.Option.{slice_get-get_or}
-use Rattle.rc_model.specs.Model.{ServerId, Part, Tablet, GivenPart, all_keys, part_of, gives_parts}
+use Rattle.rc_model.specs.Model.{ServerId, Part, Tablet, GivenPart, part_of, gives_parts}
 use Rattle.rc_coordinator.proofs.PlanLemmas.{given-next}
 use Rattle.rc_coordinator.proofs.plans.give_parts.Goals as goal
 
@@ -9,7 +9,7 @@ no_id : ServerId
 no_id = record { index = 0; generation = 0 }
 
 no_tablet : Tablet
-no_tablet = record { range = all_keys 0; owner = record { index = 0; generation = 0 }; term = 0; crashed = false }
+no_tablet = record { range = record { table = 0; lo = 0; hi = 0 }; owner = record { index = 0; generation = 0 }; term = 0; crashed = false }
 
 pub loop-count-preserved : goal.loop-count-preserved
 unfolding no_id no_tablet

@@ -1,6 +1,5 @@
 use Rattle.std.proofs.Common.{ℕ, ◌+◌, List, false, drop, sym, ap, ◌∙◌}
 use Rattle.std.proofs.lemmas.List.{at_drop_more}
-use Rattle.rc_types.specs.Ranges.{all_keys}
 use Rattle.rc_types.specs.declared.rows.Tablet.{Tablet}
 use Rattle.rc_runbook.specs.Runbook.{crashed_owners}
 use Rattle.rc_runbook.proofs.attempts.crashed_owners.Goals as goal
@@ -10,7 +9,7 @@ loop-tablet-preserved c =
     let tablets : List Tablet = c.args.tablets.now in
     let place : ℕ = c.loop-tablet.tablet-index in
     let none : Tablet = record {
-      range = all_keys 0;
+      range = record { table = 0; lo = 0; hi = 0 };
       owner = record { index = 0; generation = 0 };
       term = 0;
       crashed = false;
