@@ -1,5 +1,6 @@
 //! A node's folder: its lock, its journal, and how many bytes of that were safe.
 
+use crate::blocks::Blocks;
 use crate::faults::Failing;
 use std::fs::{self, File, OpenOptions};
 use std::io::{self, ErrorKind, Seek, SeekFrom};
@@ -53,6 +54,8 @@ struct Beside {
 /// The journal's file, and the one that says how many of its bytes are safe.
 struct Files {
     file: File,
+    /// The end of the file, where it is written in blocks.
+    blocks: Option<Blocks>,
     known: File,
     /// How many bytes were written.
     length: usize,
@@ -118,7 +121,10 @@ fn sync_folder(folder: &Path) -> io::Result<()> {
 impl Files {
     fn add(&mut self, bytes: &[u8], failing: &Failing) -> io::Result<()> {
         self.fill(self.length + bytes.len(), failing);
-        failing.write(&self.file, bytes, false)?;
+        match &mut self.blocks {
+            Some(blocks) => failing.write(blocks, bytes, false)?,
+            None => failing.write(&self.file, bytes, false)?,
+        }
         self.length += bytes.len();
         Ok(())
     }
@@ -185,6 +191,7 @@ impl Journal {
         file.sync_all()?;
         fs::rename(&next, folder.join("journal"))?;
         sync_folder(folder)?;
+        let found = Found { bytes: Some(first.to_vec()), ..found };
         let journal = Journal::open(folder, found, first.len(), failing)?;
         lock(&journal.files)?.note(journal.length)?;
         Ok(journal)
@@ -192,15 +199,17 @@ impl Journal {
 
     /// The journal that was found, cut to its good bytes.
     pub fn open(folder: &Path, found: Found, good: usize, failing: Failing) -> io::Result<Journal> {
-        let mut file = OpenOptions::new().write(true).open(folder.join("journal"))?;
+        let path = folder.join("journal");
+        let mut file = OpenOptions::new().write(true).open(&path)?;
         file.set_len(good as u64)?;
         file.sync_all()?;
         file.seek(SeekFrom::End(0))?;
         let known = OpenOptions::new().create(true).truncate(false).write(true).open(folder.join("known"))?;
         sync_folder(folder)?;
+        let blocks = found.bytes.as_ref().and_then(|bytes| Blocks::open(&path, bytes.get(..good)?));
         Ok(Journal {
             folder: folder.into(),
-            files: Arc::new(Mutex::new(Files { file, known, length: good, filled: good })),
+            files: Arc::new(Mutex::new(Files { file, blocks, known, length: good, filled: good })),
             _lock: found.lock,
             length: good,
             saved: good,
@@ -313,9 +322,11 @@ impl Journal {
         self.failing.after(4);
         sync_folder(&self.folder)?;
         self.failing.after(5);
-        let mut file = OpenOptions::new().write(true).open(self.folder.join("journal"))?;
+        let path = self.folder.join("journal");
+        let mut file = OpenOptions::new().write(true).open(&path)?;
         file.seek(SeekFrom::End(0))?;
         let old = mem::replace(&mut files.file, file);
+        files.blocks = Blocks::open(&path, save);
         files.filled = save.len();
         files.length = save.len();
         self.length = save.len();

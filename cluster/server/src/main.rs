@@ -13,6 +13,7 @@ macro_rules! say {
 
 mod awake;
 mod bench;
+mod blocks;
 mod client;
 mod coordinator;
 mod core;
