@@ -3,7 +3,9 @@
 use rc_backup::Backup;
 use rc_codec::DecodeFault;
 use rc_keeping::{SaveFault, load, save_into};
-use rc_types::{Addr, Body, Entry, Fault, MasterSetup, Message, NodeWork, Seq, ServerId, Setup, Shared};
+use rc_types::{
+    Addr, Body, Entry, Fault, MasterSetup, Message, NodeWork, Seq, ServerId, Setup, Shared,
+};
 use rc_world::{HostHead, NodeState};
 use std::alloc::{AllocError, Global};
 use std::process::Abort;

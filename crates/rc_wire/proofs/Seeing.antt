@@ -70,12 +70,12 @@ pub progress-saw : (setup : Setup) (start : SeatData) (steps : List Step) (at fr
     was_delivered new.mine number ≡ true → Progress setup start steps at (number + 1) new
 progress-saw setup start steps at from number old new p sees idle delivered =
     let same = delivered-idle sees.looked number (idle-later old sees.looked sees.later idle) in elim sees.held [
-  | inl had ↦ subst (λ (s : SeatData). Progress setup start steps at (number + 1) s) (sym had.1)
-      (progress-had setup start steps at from number sees.looked (progress-later setup start steps at from old sees.looked p sees.later)
-      sees.first (sym same ∙ had.0))
-  | inr finds ↦ (let mine = ap (λ l. was_delivered l number) (mine-sees setup old from number new sees) in
-      absurd (yes-no (sym delivered ∙ (mine ∙ (sym same ∙ finds.0)))))
-]
+      | inl had ↦ subst (λ (s : SeatData). Progress setup start steps at (number + 1) s) (sym had.1)
+          (progress-had setup start steps at from number sees.looked
+          (progress-later setup start steps at from old sees.looked p sees.later) sees.first (sym same ∙ had.0))
+      | inr finds ↦ (let mine = ap (λ l. was_delivered l number) (mine-sees setup old from number new sees) in
+          absurd (yes-no (sym delivered ∙ (mine ∙ (sym same ∙ finds.0)))))
+    ]
 
 -- or it is held
 pub sees-new : (setup : Setup) (old : SeatData) (from number : ℕ) (new : SeatData) (sees : SeesNext setup old from number new) →
@@ -83,7 +83,7 @@ pub sees-new : (setup : Setup) (old : SeatData) (from number : ℕ) (new : SeatD
     (was_delivered sees.looked.mine number ≡ false) × Finds setup sees.looked number new
 sees-new setup old from number new sees idle fresh =
     let same = delivered-idle sees.looked number (idle-later old sees.looked sees.later idle) in elim sees.held [
-  | inl had ↦ (let mine = ap (λ l. was_delivered l number) (mine-sees setup old from number new sees) in
-      absurd (yes-no (sym (sym same ∙ had.0) ∙ (sym mine ∙ fresh))))
-  | inr finds ↦ (sym same ∙ finds.0, finds.1)
-]
+      | inl had ↦ (let mine = ap (λ l. was_delivered l number) (mine-sees setup old from number new sees) in
+          absurd (yes-no (sym (sym same ∙ had.0) ∙ (sym mine ∙ fresh))))
+      | inr finds ↦ (sym same ∙ finds.0, finds.1)
+    ]
