@@ -3,7 +3,7 @@
 ghost use Rattle.std.specs.Prelude.{◌≡◌, ◌⊎◌, true, is_some, length, IfOk, IfErr, OnOk, OnErr};
 ghost use Rattle.rc_types.specs.declared.faults.Fault.TheVariants.{OutOfMemory, BadEvent};
 ghost use Rattle.rc_types.specs.declared.limits.TheConstants.{MAX_EVENTS};
-ghost use Rattle.rc_wire.specs.SeatCalls.{IsSeat, Covers, having_seen, Later, Fetches, Commits};
+ghost use Rattle.rc_wire.specs.SeatCalls.{Covers, having_seen, Later, Fetches, Commits};
 
 use crate::journal::Journal;
 use crate::names::Naming;
@@ -19,7 +19,6 @@ impl<N: Naming> Seat<N> {
         ensures journal { journal.new ≡ journal.old }
         ensures seat { self.new ≡ having_seen self.old journal.old }
         ensures covers { Covers N.wire.setup journal.old self.old }
-        ensures whole { IsSeat N.wire.setup self.old }
     {
         journal.look(&mut self.token);
     }

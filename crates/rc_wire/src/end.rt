@@ -42,12 +42,13 @@ pub(crate) fn look_at_last<N: Naming>(journal: &mut Journal<N>, seats: Vec<Seat<
     }
 }
 
-/// The seat looks, and is done.
+/// The seat looks, and is done. With its name it is said what is true of each seat.
 fn look<N: Naming>(journal: &mut Journal<N>, seat: Seat<N>)
     ensures journal { journal.new ≡ journal.old }
     ensures covers { Covers N.wire.setup journal.old seat }
     ensures whole { IsSeat N.wire.setup seat }
 {
     let mut seat = seat;
+    let _ = seat.name();
     seat.see(journal);
 }

@@ -1,9 +1,4 @@
-use Rattle.std.proofs.Common.{subst}
 use Rattle.rc_world.specs.NodeView.{node_seen}
-use Rattle.rc_wire.specs.SeatView.{SeatData}
-use Rattle.rc_wire.specs.SeatHolds.{seat_data}
-use Rattle.rc_wire.specs.SeatCalls.{IsSeat}
-use Rattle.rc_wire.proofs.Preparing.{sound-seat}
 use Rattle.rc_wire.proofs.Committing.{sound-told}
 use Rattle.rc_wire.proofs.seat.Seat.see.Goals as goal
 
@@ -12,10 +7,3 @@ invariant_of-self g c =
     let f = c.self.inside in
     sound-told g.N.Naming.wire.setup f.name f.token c.look.new.seat f.held f.pending (node_seen f.state) f.delivered.keys c.args.journal.now
     c.self.invariant c.look.ensures.tells.knows c.look.ensures.tells.history.few c.look.ensures.seat
-
-pub returns-clause-whole : goal.returns-clause-whole
-returns-clause-whole g c =
-    let f = c.self.inside in
-    let setup = g.N.Naming.wire.setup in
-    subst (λ (s : SeatData). IsSeat setup s) c.self.view_is
-    (sound-seat setup (seat_data f.name f.token f.held f.pending) f.token.node (node_seen f.state) f.delivered.keys c.self.invariant)
