@@ -92,6 +92,37 @@ pub struct Envelope<'a> {
     pub body: &'a [u8],
 }
 
+/// The kind of a coded message from a server to a server: it stands at the same place in all of these. None where it is
+/// no such message.
+pub fn kind_between(bytes: &[u8]) -> Option<u8> {
+    match bytes {
+        [1, 1, _, _, _, _, _, 1, _, _, _, _, _, kind, ..] => Some(*kind),
+        _ => None,
+    }
+}
+
+/// What a Stored says.
+#[derive(Clone, Copy, Debug, PartialEq, Eq)]
+pub struct Stored<'a> {
+    /// Sender, addressee, segment and epoch, as they are coded.
+    pub subject: &'a [u8],
+    /// How many entries the backup has.
+    pub length: u64,
+    /// Whether it has closed the replica.
+    pub is_closed: bool,
+}
+
+impl<'a> Stored<'a> {
+    /// What this coded message says, if it is a Stored.
+    pub fn read(message: &'a [u8]) -> Option<Stored<'a>> {
+        if kind_between(message) != Some(kind::STORED) {
+            return None;
+        }
+        let (subject, told) = message.split_at_checked(18)?;
+        Some(Stored { subject, length: u64_at(told, 0)?, is_closed: *told.get(8)? == 1 })
+    }
+}
+
 /// What a server answers to a client.
 #[derive(Clone, Debug, PartialEq, Eq)]
 pub enum Answer {
@@ -219,4 +250,26 @@ pub fn framed(bytes: &[u8]) -> impl Iterator<Item = &[u8]> {
         rest = &rest[4 + length..];
         Some(message)
     })
+}
+
+#[cfg(test)]
+mod tests {
+    use super::*;
+
+    #[test]
+    fn what_stands_between_servers_is_what_an_envelope_says() {
+        let stored =
+            [&[1, 1, 2, 7, 0, 0, 0, 1, 3, 9, 0, 0, 0, kind::STORED, 4, 0, 5, 0, 6], &[0; 7][..], &[1]].concat();
+        for (place, value) in [(0, 1), (0, 2), (1, 0), (1, 2), (7, 0), (7, 2), (13, kind::PLACE)] {
+            let mut message = stored.clone();
+            message[place] = value;
+            let envelope = Envelope::read(&message);
+            let between = envelope
+                .filter(|Envelope { from, to, .. }| matches!((from, to), (Address::Server(_), Address::Server(_))));
+            assert_eq!(kind_between(&message), between.map(|envelope| envelope.kind), "{place}, {value}");
+        }
+        let said = Stored { subject: &stored[..18], length: 6, is_closed: true };
+        assert_eq!(Stored::read(&stored), Some(said));
+        assert!((0..stored.len()).all(|length| Stored::read(&stored[..length]).is_none()));
+    }
 }

@@ -79,7 +79,10 @@ mod tests {
                 bytes.extend_from_slice(&more);
                 let stand = fs::read(&path)?;
                 let (front, zeros) = stand.split_at(bytes.len());
-                assert!(front == bytes && zeros.len() < BLOCK && zeros.iter().all(|byte| *byte == 0), "{first}, {length}");
+                assert!(
+                    front == bytes && zeros.len() < BLOCK && zeros.iter().all(|byte| *byte == 0),
+                    "{first}, {length}"
+                );
             }
         }
         fs::remove_file(&path)

@@ -2,38 +2,25 @@
 //! those that would leave together for one owner, about one segment under one epoch, the last says all that the others
 //! say. Those are not sent, as any message may be lost.
 
-use sevunthi::message::{kind, u16_at, u64_at};
-use sevunthi::{Address, Envelope};
+use sevunthi::message::Stored;
 use std::collections::HashMap;
-
-/// What a Stored is about: sender, addressee, segment and epoch.
-type Subject = (Address, Address, u16, u16);
 
 /// How many entries a backup has, and whether it has closed the replica.
 type Told = (u64, bool);
 
-fn read_stored(message: &[u8]) -> Option<(Subject, Told)> {
-    let Envelope { from, to, kind, body } = Envelope::read(message)?;
-    if kind != kind::STORED {
-        return None;
-    }
-    let subject = (from, to, u16_at(body, 0)?, u16_at(body, 2)?);
-    Some((subject, (u64_at(body, 4)?, *body.get(12)? == 1)))
-}
-
 /// How much the later answers about each subject say. Most messages are about what the one behind them is about.
 #[derive(Default)]
-struct Later {
-    last: Option<(Subject, Told)>,
-    others: HashMap<Subject, Told>,
+struct Later<'a> {
+    last: Option<(&'a [u8], Told)>,
+    others: HashMap<&'a [u8], Told>,
 }
 
-impl Later {
+impl<'a> Later<'a> {
     /// Whether later answers say all that this one says. If not, it is one of them from now on.
-    fn covers(&mut self, subject: Subject, (length, is_closed): Told) -> bool {
+    fn covers(&mut self, Stored { subject, length, is_closed }: Stored<'a>) -> bool {
         let told = match self.last {
             Some((last, told)) if last == subject => Some(told),
-            _ => self.others.get(&subject).copied(),
+            _ => self.others.get(subject).copied(),
         };
         let (most, closed) = told.unwrap_or_default();
         let now = (length.max(most), is_closed || closed);
@@ -51,7 +38,7 @@ pub fn without_superseded<'a>(messages: impl Iterator<Item = &'a [u8]>) -> Vec<&
     let mut later = Later::default();
     let mut kept: Vec<&[u8]> = messages.collect();
     kept.reverse();
-    kept.retain(|message| read_stored(message).is_none_or(|(subject, told)| !later.covers(subject, told)));
+    kept.retain(|message| Stored::read(message).is_none_or(|stored| !later.covers(stored)));
     kept.reverse();
     kept
 }
@@ -59,6 +46,7 @@ pub fn without_superseded<'a>(messages: impl Iterator<Item = &'a [u8]>) -> Vec<&
 #[cfg(test)]
 mod tests {
     use super::*;
+    use sevunthi::message::kind;
 
     fn stored(owner: u8, segment: u16, epoch: u16, length: u64, is_closed: bool) -> Vec<u8> {
         let mut message = vec![1, 1, 2, 7, 0, 0, 0, 1, owner, 7, 0, 0, 0, kind::STORED];

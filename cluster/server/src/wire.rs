@@ -5,8 +5,8 @@
 //! has the secret can make, and frames.
 
 use crate::poly1305;
-use sevunthi::message::{framed, kind, u32_at, u64_at};
-use sevunthi::{Envelope, mac};
+use sevunthi::mac;
+use sevunthi::message::{Stored, framed, kind, kind_between, u32_at, u64_at};
 
 /// The longest batch.
 pub const MOST: usize = 256 << 20;
@@ -82,10 +82,10 @@ pub fn split_urgent(bytes: &[u8]) -> (Vec<u8>, Vec<u8>) {
 
 /// Whether a frame has a Place, or a Stored of a replica that is new or closed.
 fn is_urgent(frame: &[u8]) -> bool {
-    let Some(Envelope { kind, body, .. }) = frame.get(8..).and_then(Envelope::read) else { return false };
-    match kind {
-        kind::PLACE => true,
-        kind::STORED => u64_at(body, 4) == Some(0) || body.get(12) == Some(&1),
+    let message = frame.get(8..).unwrap_or_default();
+    match kind_between(message) {
+        Some(kind::PLACE) => true,
+        Some(kind::STORED) => Stored::read(message).is_some_and(|stored| stored.length == 0 || stored.is_closed),
         _ => false,
     }
 }
