@@ -1,5 +1,6 @@
-//! What comes to the node's thread. That something is safe now, and what a roll waits for, is taken before all else
-//! that peers say, and that before what clients ask: where there is much to do clients wait, and not the protocol.
+//! What comes to the node's thread. That something is safe now, here or at a backup, and what a roll waits for, is taken
+//! before all else that peers say, and that before what clients ask: where there is much to do clients wait, and not
+//! the protocol.
 
 use crate::net::Writer;
 use std::sync::Arc;

@@ -3,7 +3,7 @@
 use crate::core::{BEAT, Config, Core, Frame, failed, tell};
 use crate::events::{Event, EventReceiver, LEAST_PART, TURN, part_of};
 use crate::protocol::{DONE, NO_VALUE, Op, Reply, Request, UNKNOWN, WRONG};
-use crate::wire::HEARTBEAT;
+use crate::wire::{HEARTBEAT, is_of_roll};
 use sevunthi::message::{self, framed, kind, u32_at, u64_at};
 use sevunthi::{Address, Answer, Envelope, Fault, Id, Work};
 use std::borrow::Cow;
@@ -55,7 +55,7 @@ struct Host {
     /// Ranges that were granted: table, first and last key.
     grants: Vec<(u32, u64, u64)>,
     is_replaced: bool,
-    /// Something urgent came since a sync was last begun for that.
+    /// Something that a roll waits for came since a sync was last begun for that.
     roll_waits: bool,
     /// When the coordinator was told last that the server lives.
     beat: Instant,
@@ -120,7 +120,7 @@ impl Host {
             let mut passed_on = self.core.counts.works;
             events.take_turn(wait, |event| {
                 let many = most_before(&event);
-                self.roll_waits |= matches!(event, Event::Urgent(..));
+                self.roll_waits |= matches!(&event, Event::Urgent(_, batch) if framed(batch).any(is_of_roll));
                 self.take(event);
                 if passed_on + many <= self.core.counts.works || !self.waiting.is_empty() {
                     passed_on = self.core.counts.works;

@@ -63,9 +63,8 @@ pub fn frames(bytes: &[u8]) -> impl Iterator<Item = (u64, &[u8])> {
     framed(bytes).map_while(|frame| Some((u64_at(frame, 0)?, frame.get(8..frame.len().checked_sub(4)?)?)))
 }
 
-/// Takes the frames of a batch apart: those that are urgent, and all else, in order. Urgent is what a roll waits for,
-/// if it needs nothing that came before it. An owner takes no writes until its new head has a place at all backups, and
-/// then until they have closed the old one.
+/// Takes the frames of a batch apart: those that are urgent, and all else, in order. Urgent is what tells that something
+/// is stored, since clients wait for that, and what a roll waits for, if it needs nothing that came before it.
 pub fn split_urgent(bytes: &[u8]) -> (Vec<u8>, Vec<u8>) {
     let (mut urgent, mut others, mut length) = (Vec::new(), Vec::new(), 0);
     if framed(bytes).any(is_urgent) {
@@ -80,8 +79,14 @@ pub fn split_urgent(bytes: &[u8]) -> (Vec<u8>, Vec<u8>) {
     (urgent, others)
 }
 
-/// Whether a frame has a Place, or a Stored of a replica that is new or closed.
+/// Whether a frame has a Place or a Stored.
 fn is_urgent(frame: &[u8]) -> bool {
+    matches!(frame.get(8..).and_then(kind_between), Some(kind::PLACE | kind::STORED))
+}
+
+/// Whether a roll waits for the message of a frame: it is a Place, or a Stored of a replica that is new or closed. An
+/// owner takes no writes until its new head has a place at all backups, and then until they have closed the old one.
+pub fn is_of_roll(frame: &[u8]) -> bool {
     let message = frame.get(8..).unwrap_or_default();
     match kind_between(message) {
         Some(kind::PLACE) => true,
@@ -158,15 +163,15 @@ mod tests {
     }
 
     #[test]
-    fn what_a_roll_waits_for_is_urgent_and_nothing_else() {
+    fn what_is_stored_and_what_a_roll_waits_for_is_urgent_and_nothing_else() {
         let message = |kind, body: &[u8]| [&[1, 1, 0, 1, 0, 0, 0, 1, 1, 1, 0, 0, 0, kind], body].concat();
         let stored = |length: u64, closed| {
             message(kind::STORED, &[&[3, 0, 0, 0], &length.to_le_bytes()[..], &[closed]].concat())
         };
-        let of_a_roll = [message(kind::PLACE, b"a"), stored(0, 0), stored(9, 1)];
-        let rest = [message(kind::APPEND, b"b"), stored(9, 0), message(kind::CLOSE, b"c"), vec![HEARTBEAT, 7]];
+        let at_once = [message(kind::PLACE, b"a"), stored(0, 0), stored(9, 1), stored(9, 0)];
+        let rest = [message(kind::APPEND, b"b"), message(kind::CLOSE, b"c"), vec![HEARTBEAT, 7], vec![NOT_UP]];
         let (mut batch, mut urgent, mut others) = (Vec::new(), Vec::new(), Vec::new());
-        for (clock, (one, other)) in of_a_roll.iter().zip(&rest).enumerate() {
+        for (clock, (one, other)) in at_once.iter().zip(&rest).enumerate() {
             put_frame(clock as u64, other, &mut batch);
             put_frame(clock as u64, other, &mut others);
             put_frame(clock as u64, one, &mut batch);
@@ -178,6 +183,7 @@ mod tests {
         }
         put_frame(9, &rest[3], &mut others);
         assert_eq!(split_urgent(&others), (Vec::new(), others.clone()));
+        assert_eq!(framed(&urgent).map(is_of_roll).collect::<Vec<_>>(), [true, true, true, false]);
     }
 
     #[test]
