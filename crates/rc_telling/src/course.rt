@@ -31,6 +31,10 @@ pub(crate) struct Course {
     pub(crate) unheard: Option<ServerId>,
     /// How many such requests there were.
     pub(crate) requests: u64,
+    /// Whether a read was asked for. Else none is stale.
+    pub(crate) has_reads: bool,
+    /// Whether a server was suspected, or a host was started again. Else there is no recovery.
+    pub(crate) has_crashes: bool,
 }
 
 impl Course {
@@ -44,6 +48,8 @@ impl Course {
             unstarted: None,
             unheard: None,
             requests: 0,
+            has_reads: false,
+            has_crashes: false,
         }
     }
 
@@ -69,14 +75,20 @@ impl Course {
                 self.arrive(messages.get(*number));
             }
             Event::Create { table, owner } => self.ask(Early::Create(*table, *owner), *owner),
-            Event::Start { .. } | Event::Stop(_) => {
+            Event::Start { .. } => {
+                let started = self.servers.take(event, at)?;
+                if started.is_some_and(|id| id.generation > 1) {
+                    self.has_crashes = true;
+                }
+            }
+            Event::Stop(_) => {
                 self.servers.take(event, at)?;
             }
             Event::Suspect(id) => {
                 self.servers.take(event, at)?;
                 self.suspect(*id);
             }
-            Event::Ask { to, .. } if !self.servers.runs(*to) => self.miss(*to),
+            Event::Ask { to, body } => self.request(*to, body),
             _ => {}
         }
         Ok(())
@@ -126,15 +138,21 @@ impl Course {
 
     /// A server was suspected.
     fn suspect(&mut self, id: ServerId) {
+        self.has_crashes = true;
         if self.servers.generation(id.index) < id.generation {
             self.unstarted = self.unstarted.or(Some(id));
         }
     }
 
-    /// A server was asked that does not run.
-    fn miss(&mut self, id: ServerId) {
-        self.unheard = self.unheard.or(Some(id));
-        self.requests = self.requests.saturating_add(1);
+    /// A server was asked for something; it may not run.
+    fn request(&mut self, to: ServerId, body: &Body) {
+        if matches!(body, Body::Read { .. }) {
+            self.has_reads = true;
+        }
+        if !self.servers.runs(to) {
+            self.unheard = self.unheard.or(Some(to));
+            self.requests = self.requests.saturating_add(1);
+        }
     }
 
     /// Whether this message waits: it was not delivered, and its addressee is there.

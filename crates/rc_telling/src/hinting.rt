@@ -76,39 +76,11 @@ fn tell_hints(
     tell_unheard(&course, pen);
     tell_unstarted(&course, pen);
     tell_few(&course.servers, pen, factors);
-    let sent = Sent::among(messages);
-    if sent.reads {
+    if course.has_reads {
         tell_stale(alloc, pen, messages);
     }
-    if sent.recoveries {
+    if course.has_crashes {
         tell_unrecovered(&course, alloc, pen, messages, waiting > 0);
-    }
-}
-
-/// Which hints can have something to tell of.
-#[derive(Clone, Copy)]
-struct Sent {
-    /// Whether a read was answered.
-    reads: bool,
-    /// Whether a recovery was attempted.
-    recoveries: bool,
-}
-
-impl Sent {
-    /// What these messages have.
-    fn among(messages: &[Message]) -> Sent {
-        let mut sent = Sent {
-            reads: false,
-            recoveries: false,
-        };
-        for message in messages {
-            match &message.body {
-                Body::ReadOk { .. } => sent.reads = true,
-                Body::Gather { .. } => sent.recoveries = true,
-                _ => {}
-            }
-        }
-        sent
     }
 }
 
