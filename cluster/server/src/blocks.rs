@@ -1,5 +1,5 @@
-//! The end of a file that is written in whole blocks, past the page cache: a sync of what was written takes two thirds
-//! of the time then, and half of the processor's.
+//! The end of a file that is written in whole blocks, past the page cache: a sync of what was written takes half to two
+//! thirds of the time then, and half of the processor's.
 
 use std::fs::{File, OpenOptions};
 use std::io::{self, Write};
