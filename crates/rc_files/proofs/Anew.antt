@@ -164,7 +164,7 @@ stops-make-equal (TheHost one) (TheCoordinator d) same = absurd same
 pub node-through : (one two three : Node) → SameNode one two → SameNode two three → SameNode one three
 node-through TheOutside TheOutside TheOutside a b = tt
 node-through (TheCoordinator c) (TheCoordinator d) (TheCoordinator e) a b = a ∙ b
-node-through (TheHost x) (TheHost y) (TheHost z) a b = same-through x y z a b
+node-through (TheHost x) (TheHost y) (TheHost z) a b = same-through a b
 node-through TheOutside TheOutside (TheCoordinator e) a b = absurd b
 node-through TheOutside TheOutside (TheHost e) a b = absurd b
 node-through TheOutside (TheCoordinator d) three a b = absurd a
@@ -181,7 +181,7 @@ node-through (TheHost c) (TheHost d) (TheCoordinator e) a b = absurd b
 pub node-back : (one other : Node) → SameNode one other → SameNode other one
 node-back TheOutside TheOutside a = tt
 node-back (TheCoordinator c) (TheCoordinator d) a = sym a
-node-back (TheHost x) (TheHost y) a = same-back x y a
+node-back (TheHost x) (TheHost y) a = same-back a
 node-back TheOutside (TheCoordinator d) a = absurd a
 node-back TheOutside (TheHost d) a = absurd a
 node-back (TheCoordinator c) TheOutside a = absurd a
@@ -192,7 +192,7 @@ node-back (TheHost c) (TheCoordinator d) a = absurd a
 pub same-itself : (n : Node) → SameNode n n
 same-itself TheOutside = tt
 same-itself (TheCoordinator c) = refl
-same-itself (TheHost host) = same-same host
+same-itself (TheHost host) = same-same
 
 -- the node of a save is the node that was saved, but for its master
 pub saved-same : (node : NodeData) (saved : Saved) → saved_of node ≡ Some saved → SameNode (node_from saved) (node_seen node)

@@ -34,17 +34,17 @@ left_at-push name node [] step = refl
 left_at-push name node (first ∷ steps) step = left_at-push name (cond (same_node first.node name) first.after node) steps step
 
 -- a step more that follows is taken apart too
-pub taken_apart-push : (setup : Setup) (steps : List Step) (step : Step) →
+pub taken_apart-push : {setup : Setup} {steps : List Step} {step : Step} →
     TakenApart setup steps → Follows setup steps step → TakenApart setup (steps ++ step ∷ [])
-taken_apart-push setup steps step apart follows earlier later one e =
-    elim (push-parts steps earlier later step one e) [
+taken_apart-push {setup} {steps} {step} apart follows earlier later one e =
+    elim (push-parts steps earlier later e) [
       | inl same ↦ subst (λ (s : Step). Follows setup earlier s) same.1 (subst (λ (l : List Step). Follows setup l step) same.0 follows)
       | inr same ↦ apart earlier same.0 one same.1
     ]
 
-pub taken_apart-none : (setup : Setup) → TakenApart setup []
-taken_apart-none setup [] later step e = cc
-taken_apart-none setup (first ∷ earlier) later step e = cc
+pub taken_apart-none : {setup : Setup} → TakenApart setup []
+taken_apart-none [] later step e = cc
+taken_apart-none (first ∷ earlier) later step e = cc
 
 -- The history of steps
 
@@ -59,110 +59,104 @@ new-node setup world.TheOutside = refl
 new-node setup world.TheCoordinator = refl
 new-node setup (world.TheHost index) = refl
 
-history-none : (setup : Setup) → IsHistory setup []
-history-none setup = record { possible = refl; nodes = new-node setup; sent = refl; taken = λ name. refl }
+history-none : {setup : Setup} → IsHistory setup []
+history-none {setup} = record { possible = refl; nodes = new-node setup; sent = refl; taken = λ name. refl }
 
-both-true : (a b : Bool) → a ≡ true → b ≡ true → (a && (b && true)) ≡ true
-both-true a b p q = ap (λ c. c && (b && true)) p ∙ ap (λ c. c && true) q
+both-true : {a b : Bool} → a ≡ true → b ≡ true → (a && (b && true)) ≡ true
+both-true {b} p q = ap (λ c. c && (b && true)) p ∙ ap (λ c. c && true) q
 
 -- the world is one event further
 after-push : (setup : Setup) (steps : List Step) (step : Step) →
     replay setup (events_by (steps ++ step ∷ [])) ≡ world.step (replay setup (events_by steps)) step.event
 after-push setup steps step = ap (replay setup) (events_by-push steps step) ∙ replay_from-push (opening setup) (events_by steps) step.event
 
-given-here : (setup : Setup) (steps : List Step) (step : Step) → IsHistory setup steps → Follows setup steps step →
+given-here : {setup : Setup} {steps : List Step} {step : Step} → IsHistory setup steps → Follows setup steps step →
     job_of (replay setup (events_by steps)).sent step.event ≡ Some (record { node = step.node; work = step.work })
-given-here setup steps step h f = ap (λ l. job_of l step.event) h.sent ∙ f.given
+given-here {step} h f = ap (λ l. job_of l step.event) h.sent ∙ f.given
 
-stands-here : (setup : Setup) (steps : List Step) (step : Step) → IsHistory setup steps → Follows setup steps step →
+stands-here : {setup : Setup} {steps : List Step} {step : Step} → IsHistory setup steps → Follows setup steps step →
     node_in (replay setup (events_by steps)) step.node ≡ step.before
-stands-here setup steps step h f = h.nodes step.node ∙ sym f.before
+stands-here {step} h f = h.nodes step.node ∙ sym f.before
 
-takes-here : (setup : Setup) (steps : List Step) (step : Step) → IsHistory setup steps → Follows setup steps step →
+takes-here : {setup : Setup} {steps : List Step} {step : Step} → IsHistory setup steps → Follows setup steps step →
     NodeTakes (replay setup (events_by steps)) step.event step.node step.work
-takes-here setup steps step h f =
-    node_takes (replay setup (events_by steps)) step.event step.node step.work (given-here setup steps step h f)
+takes-here {setup} {steps} {step} h f =
+    node_takes (replay setup (events_by steps)) step.event step.node step.work (given-here h f)
 
-possible-here : (setup : Setup) (steps : List Step) (step : Step) → IsHistory setup steps → Follows setup steps step →
+possible-here : {setup : Setup} {steps : List Step} {step : Step} → IsHistory setup steps → Follows setup steps step →
     is_possible (replay setup (events_by steps)) step.event ≡ true
-possible-here setup steps step h f =
-    (takes-here setup steps step h f).possible
-    ∙ (ap (λ n. can_take n step.event step.work) (stands-here setup steps step h f) ∙ f.can)
+possible-here {step} h f = (takes-here h f).possible
+    ∙ (ap (λ n. can_take n step.event step.work) (stands-here h f) ∙ f.can)
 
-nodes-push : (setup : Setup) (steps : List Step) (step : Step) → IsHistory setup steps → Follows setup steps step → (name : NodeName) →
+nodes-push : {setup : Setup} {steps : List Step} {step : Step} → IsHistory setup steps → Follows setup steps step → (name : NodeName) →
     node_in (replay setup (events_by (steps ++ step ∷ []))) name ≡ left_at name (new_node setup name) (steps ++ step ∷ [])
-nodes-push setup steps step h f name =
-    ap (λ (v : World). node_in v name) (after-push setup steps step)
+nodes-push {setup} {steps} {step} h f name = ap (λ (v : World). node_in v name) (after-push setup steps step)
     ∙ (by (same_node step.node name) refl ∙ sym (left_at-push name (new_node setup name) steps step))
   where
     by : (b : Bool) → same_node step.node name ≡ b →
         node_in (world.step (replay setup (events_by steps)) step.event) name ≡ cond b step.after (left_at name (new_node setup name) steps)
     by true e =
         subst (λ n. node_in (world.step (replay setup (events_by steps)) step.event) n ≡ step.after) (same_node-true step.node name e)
-        ((takes-here setup steps step h f).state (possible-here setup steps step h f)
-        ∙ (ap (λ n. (node_step n step.work).0) (stands-here setup steps step h f) ∙ sym f.state))
-    by false e = (takes-here setup steps step h f).others name e ∙ h.nodes name
+        ((takes-here h f).state (possible-here h f)
+        ∙ (ap (λ n. (node_step n step.work).0) (stands-here h f) ∙ sym f.state))
+    by false e = (takes-here h f).others name e ∙ h.nodes name
 
-sent-push : (setup : Setup) (steps : List Step) (step : Step) → IsHistory setup steps → Follows setup steps step →
+sent-push : {setup : Setup} {steps : List Step} {step : Step} → IsHistory setup steps → Follows setup steps step →
     (replay setup (events_by (steps ++ step ∷ []))).sent ≡ sent_by (steps ++ step ∷ [])
-sent-push setup steps step h f =
-    ap (λ (v : World). v.sent) (after-push setup steps step)
-    ∙ ((takes-here setup steps step h f).sends (possible-here setup steps step h f)
+sent-push {setup} {steps} {step} h f = ap (λ (v : World). v.sent) (after-push setup steps step)
+    ∙ ((takes-here h f).sends (possible-here h f)
     ∙ (ap (λ l. l ++ (node_step (node_in (replay setup (events_by steps)) step.node) step.work).1) h.sent
-    ∙ (ap (λ n. sent_by steps ++ (node_step n step.work).1) (stands-here setup steps step h f)
+    ∙ (ap (λ n. sent_by steps ++ (node_step n step.work).1) (stands-here h f)
     ∙ (ap (λ l. sent_by steps ++ l) (sym f.sends) ∙ sym (sent_by-push steps step)))))
 
 own-one : (b : Bool) (step : Step) → cond b (step.event ∷ []) [] ≡ events_by (cond b (step ∷ []) [])
 own-one true step = refl
 own-one false step = refl
 
-taken-here : (setup : Setup) (steps : List Step) (step : Step) → IsHistory setup steps → Follows setup steps step → (name : NodeName) →
+taken-here : {setup : Setup} {steps : List Step} {step : Step} → IsHistory setup steps → Follows setup steps step → (name : NodeName) →
     taken name (replay setup (events_by steps)) step.event ≡ events_by (own_steps name (step ∷ []))
-taken-here setup steps step h f name =
+taken-here {setup} {steps} {step} h f name =
     let w = replay setup (events_by steps) in
-    ap (λ b. cond (b && is_for name (job_of w.sent step.event)) (step.event ∷ []) []) (possible-here setup steps step h f)
-    ∙ (ap (λ job. cond (is_for name job) (step.event ∷ []) []) (given-here setup steps step h f) ∙ own-one (same_node step.node name) step)
+    ap (λ b. cond (b && is_for name (job_of w.sent step.event)) (step.event ∷ []) []) (possible-here h f)
+    ∙ (ap (λ job. cond (is_for name job) (step.event ∷ []) []) (given-here h f) ∙ own-one (same_node step.node name) step)
 
 own-push : (name : NodeName) (steps : List Step) (step : Step) →
     events_by (own_steps name (steps ++ step ∷ [])) ≡ events_by (own_steps name steps) ++ events_by (own_steps name (step ∷ []))
-own-push name steps step =
-    ap events_by (filter-append (λ (s : Step). same_node s.node name) steps (step ∷ []))
+own-push name steps step = ap events_by (filter-append (λ (s : Step). same_node s.node name) steps (step ∷ []))
     ∙ map-append (λ (s : Step). s.event) (own_steps name steps) (own_steps name (step ∷ []))
 
-taken-push : (setup : Setup) (steps : List Step) (step : Step) → IsHistory setup steps → Follows setup steps step → (name : NodeName) →
+taken-push : {setup : Setup} {steps : List Step} {step : Step} → IsHistory setup steps → Follows setup steps step → (name : NodeName) →
     events_of setup name (events_by (steps ++ step ∷ [])) ≡ events_by (own_steps name (steps ++ step ∷ []))
-taken-push setup steps step h f name =
+taken-push {setup} {steps} {step} h f name =
     let w = replay setup (events_by steps) in
     ap (events_of setup name) (events_by-push steps step)
     ∙ (events_from-append name (opening setup) (events_by steps) (step.event ∷ [])
     ∙ (ap (λ l. l ++ (taken name w step.event ++ [])) (h.taken name)
-    ∙ (ap (λ l. events_by (own_steps name steps) ++ l) (append-nil (taken name w step.event) ∙ taken-here setup steps step h f name)
+    ∙ (ap (λ l. events_by (own_steps name steps) ++ l) (append-nil (taken name w step.event) ∙ taken-here h f name)
     ∙ sym (own-push name steps step))))
 
-history-push : (setup : Setup) (steps : List Step) (step : Step) → IsHistory setup steps → Follows setup steps step →
+history-push : {setup : Setup} {steps : List Step} {step : Step} → IsHistory setup steps → Follows setup steps step →
     IsHistory setup (steps ++ step ∷ [])
-history-push setup steps step h f = record {
-  possible =
-      ap (is_legal setup) (events_by-push steps step)
+history-push {setup} {steps} {step} h f = record {
+  possible = ap (is_legal setup) (events_by-push steps step)
       ∙ (legal_from-append (opening setup) (events_by steps) (step.event ∷ [])
-      ∙ both-true _ _ h.possible (possible-here setup steps step h f));
-  nodes = nodes-push setup steps step h f;
-  sent = sent-push setup steps step h f;
-  taken = taken-push setup steps step h f;
+      ∙ both-true h.possible (possible-here h f));
+  nodes = nodes-push h f;
+  sent = sent-push h f;
+  taken = taken-push h f;
 }
 
-history-from : (setup : Setup) (earlier later : List Step) → TakenApart setup (earlier ++ later) → IsHistory setup earlier →
+history-from : {setup : Setup} {earlier : List Step} (later : List Step) → TakenApart setup (earlier ++ later) → IsHistory setup earlier →
     IsHistory setup (earlier ++ later)
-history-from setup earlier [] apart h = subst (IsHistory setup) (sym (append-nil earlier)) h
-history-from setup earlier (step ∷ later) apart h =
+history-from {setup} {earlier} [] apart h = subst (IsHistory setup) (sym (append-nil earlier)) h
+history-from {setup} {earlier} (step ∷ later) apart h =
     let moved : earlier ++ step ∷ [] ++ later ≡ earlier ++ step ∷ later = append_assoc earlier (step ∷ []) later in
-    subst (IsHistory setup) moved
-    (history-from setup (earlier ++ step ∷ []) later (subst (TakenApart setup) (sym moved) apart)
-    (history-push setup earlier step h (apart earlier later step refl)))
+    subst (IsHistory setup) moved (history-from later (subst (TakenApart setup) (sym moved) apart)
+    (history-push h (apart earlier later step refl)))
 
 -- steps that are taken apart are a history
-pub apart-history : (setup : Setup) (steps : List Step) → TakenApart setup steps → IsHistory setup steps
-apart-history setup steps apart = history-from setup [] steps apart (history-none setup)
+pub apart-history : {setup : Setup} {steps : List Step} → TakenApart setup steps → IsHistory setup steps
+apart-history {steps} apart = history-from steps apart (history-none)
 
 -- Each history comes of steps
 
@@ -177,11 +171,11 @@ step_of w event job = record {
   sent = (node_step (node_in w job.node) job.work).1;
 }
 
-step-follows : (setup : Setup) (steps : List Step) (event : Event) (job : Job) → IsHistory setup steps →
+step-follows : {setup : Setup} {steps : List Step} (event : Event) {job : Job} → IsHistory setup steps →
     job_of (replay setup (events_by steps)).sent event ≡ Some job → is_possible (replay setup (events_by steps)) event ≡ true →
     Follows setup steps (step_of (replay setup (events_by steps)) event job)
 unfolding step_of
-step-follows setup steps event job h given possible = record {
+step-follows {setup} {steps} event {job} h given possible = record {
   given = ap (λ l. job_of l event) (sym h.sent) ∙ given;
   before = h.nodes job.node;
   can = sym (node_takes (replay setup (events_by steps)) event job.node job.work given).possible ∙ possible;
@@ -189,33 +183,33 @@ step-follows setup steps event job h given possible = record {
   sends = refl;
 }
 
-step_of-event : (w : World) (event : Event) (job : Job) → (step_of w event job).event ≡ event
+step_of-event : (w : World) {event : Event} (job : Job) → (step_of w event job).event ≡ event
 unfolding step_of
-step_of-event w event job = refl
+step_of-event w job = refl
 
 -- a possible event is somebody's
 some-job : (w : World) (job : Option Job) → is_possible_job w job ≡ true → (one : Job) × (job ≡ Some one)
 some-job w None possible = true_false (sym possible)
 some-job w (Some job) possible = (job, refl)
 
-comes-from : (setup : Setup) (steps : List Step) (rest : List Event) → TakenApart setup steps →
+comes-from : {setup : Setup} {steps : List Step} (rest : List Event) → TakenApart setup steps →
     is_legal_from (replay setup (events_by steps)) rest ≡ true → ComesOfSteps setup (events_by steps ++ rest)
-comes-from setup steps [] apart legal = record { steps = steps; apart = apart; same = sym (append-nil (events_by steps)) }
-comes-from setup steps (event ∷ rest) apart legal =
+comes-from {steps} [] apart legal = record { steps = steps; apart = apart; same = sym (append-nil (events_by steps)) }
+comes-from {setup} {steps} (event ∷ rest) apart legal =
     let w = replay setup (events_by steps) in
     let parts = and_parts (is_possible w event) (is_legal_from (world.step w event) rest) legal in
     let job = some-job w (job_of w.sent event)
     (and_parts (runs_as_named w event) (is_possible_job w (job_of w.sent event)) parts.0).1 in
     let step = step_of w event job.0 in
-    let named : step.event ≡ event = step_of-event w event job.0 in
+    let named : step.event ≡ event = step_of-event w {event = event} job.0 in
     let pushed : events_by (steps ++ step ∷ []) ≡ events_by steps ++ event ∷ [] =
     events_by-push steps step ∙ ap (λ e. events_by steps ++ e ∷ []) named in
     let after : replay setup (events_by (steps ++ step ∷ [])) ≡ world.step w event =
     after-push setup steps step ∙ ap (world.step w) named in
-    let follows = step-follows setup steps event job.0 (apart-history setup steps apart) job.1 parts.0 in
+    let follows = step-follows {setup = setup} {steps = steps} event {job = job.0} (apart-history {setup = setup} {steps = steps} apart) job.1 parts.0 in
     subst (ComesOfSteps setup) (ap (λ l. l ++ rest) pushed ∙ append_assoc (events_by steps) (event ∷ []) rest)
-    (comes-from setup (steps ++ step ∷ []) rest (taken_apart-push setup steps step apart follows)
+    (comes-from {setup = setup} {steps = (steps ++ step ∷ [])} rest (taken_apart-push {setup = setup} {steps = steps} {step = step} apart follows)
     (ap (λ (v : World). is_legal_from v rest) after ∙ parts.1))
 
 pub history-comes : (setup : Setup) (events : List Event) → is_legal setup events ≡ true → ComesOfSteps setup events
-history-comes setup events legal = comes-from setup [] events (taken_apart-none setup) legal
+history-comes setup events legal = comes-from events (taken_apart-none) legal

@@ -55,10 +55,10 @@ one-node name other (Some job) own differ = ap (λ n. same_node n other) (same_n
 
 -- what was sent stays sent
 pub sent-starts : (w : World) (events : List Event) → StartsWith (replay_from w events).sent w.sent
-sent-starts w [] = starts-same w.sent
+sent-starts w [] = starts-same {xs = w.sent}
 sent-starts w (event ∷ events) =
     let more = sent_more-step w event in
-    starts-through (replay_from (step w event) events).sent (step w event).sent w.sent (sent-starts (step w event) events)
+    starts-through {xs = (replay_from (step w event) events).sent} {ys = (step w event).sent} {zs = w.sent} (sent-starts (step w event) events)
     (record { rest = more.0; same = more.1 })
 
 pub longer-sent : (setup : Setup) (longer shorter : List Event) → StartsWith longer shorter →
@@ -72,11 +72,11 @@ longer-sent setup longer shorter starts =
 pub longer-number : (setup : Setup) (longer shorter : List Event) (number : ℕ) (message : Message) → StartsWith longer shorter →
     slice_get (replay setup shorter).sent number ≡ Some message → slice_get (replay setup longer).sent number ≡ Some message
 longer-number setup longer shorter number message starts found =
-    starts-get (replay setup longer).sent (replay setup shorter).sent number message (longer-sent setup longer shorter starts) found
+    starts-get number (longer-sent setup longer shorter starts) found
 
-none-first : (name : NodeName) (w : World) (event : Event) (rest : List Event) → taken name w event ++ rest ≡ [] →
+none-first : (name : NodeName) (w : World) (event : Event) {rest : List Event} → taken name w event ++ rest ≡ [] →
     (takes name w event ≡ false) × (rest ≡ [])
-none-first name w event rest none = by (takes name w event) none
+none-first name w event {rest} none = by (takes name w event) none
   where
     by : (b : Bool) → cond b (event ∷ []) [] ++ rest ≡ [] → (b ≡ false) × (rest ≡ [])
     by true e = cc
@@ -87,7 +87,7 @@ pub node-idle : (name : NodeName) (w : World) (events : List Event) → events_f
     node_in (replay_from w events) name ≡ node_in w name
 node-idle name w [] none = refl
 node-idle name w (event ∷ events) none =
-    let parts = none-first name w event (events_from name (step w event) events) none in
+    let parts = none-first name w event none in
     node-idle name (step w event) events parts.1 ∙ step-others w event name parts.0
 
 -- a node that takes nothing more is the same
@@ -112,18 +112,15 @@ node-stays setup name longer shorter starts same =
 pub events_of-own : (setup : Setup) (name : NodeName) (events : List Event) (event : Event) →
     is_possible (replay setup events) event ≡ true → is_for name (job_of (replay setup events).sent event) ≡ true →
     events_of setup name (events ++ event ∷ []) ≡ events_of setup name events ++ event ∷ []
-events_of-own setup name events event possible own =
-    events_from-append name (opening setup) events (event ∷ [])
+events_of-own setup name events event possible own = events_from-append name (opening setup) events (event ∷ [])
     ∙ (ap (λ b. events_of setup name events ++ (cond (b && is_for name (job_of (replay setup events).sent event)) (event ∷ []) [] ++ []))
-    possible
-    ∙ ap (λ b. events_of setup name events ++ (cond b (event ∷ []) [] ++ [])) own)
+    possible ∙ ap (λ b. events_of setup name events ++ (cond b (event ∷ []) [] ++ [])) own)
 
 -- and no other node has
 pub events_of-other : (setup : Setup) (name other : NodeName) (events : List Event) (event : Event) →
     is_for name (job_of (replay setup events).sent event) ≡ true → same_node name other ≡ false →
     events_of setup other (events ++ event ∷ []) ≡ events_of setup other events
-events_of-other setup name other events event own differ =
-    events_from-append other (opening setup) events (event ∷ [])
+events_of-other setup name other events event own differ = events_from-append other (opening setup) events (event ∷ [])
     ∙ (ap (λ b. events_of setup other events ++ (cond (is_possible (replay setup events) event && b) (event ∷ []) [] ++ []))
     (one-node name other (job_of (replay setup events).sent event) own differ)
     ∙ (ap (λ l. events_of setup other events ++ l) (nothing (is_possible (replay setup events) event) event)

@@ -12,57 +12,55 @@ use Rattle.rc_model.proofs.Tests.{either, true_false}
 use Rattle.rc_history.specs.Remade.{changes_backup, host_keeps, coordinator_keeps, stopped, SameButMaster, HostsCanBeRemade}
 use Rattle.rc_history.specs.Remade.{CoordinatorCanBeRemade}
 
-pub same-same : (host : HostNode) → SameButMaster host host
-same-same host = record { runs = refl; rest = refl }
+pub same-same : {host : HostNode} → SameButMaster host host
+same-same = record { runs = refl; rest = refl }
 
-pub same-through : (one two three : HostNode) → SameButMaster one two → SameButMaster two three → SameButMaster one three
-same-through one two three a b = record { runs = a.runs ∙ b.runs; rest = a.rest ∙ b.rest }
+pub same-through : {one two three : HostNode} → SameButMaster one two → SameButMaster two three → SameButMaster one three
+same-through a b = record { runs = a.runs ∙ b.runs; rest = a.rest ∙ b.rest }
 
-pub same-back : (one two : HostNode) → SameButMaster one two → SameButMaster two one
-same-back one two a = record { runs = sym a.runs; rest = sym a.rest }
+pub same-back : {one two : HostNode} → SameButMaster one two → SameButMaster two one
+same-back a = record { runs = sym a.runs; rest = sym a.rest }
 
 -- What is not to be kept changes the master alone
 
 -- of the messages for a backup only a Fetch is not kept
-unkept-backup : (backup : Backup) (from : Addr) (body : Body) → changes_backup body ≡ false → is_for_backup body ≡ true →
+unkept-backup : {backup : Backup} (from : Addr) (body : Body) → changes_backup body ≡ false → is_for_backup body ≡ true →
     (backup_takes backup from body).0 ≡ backup
-unkept-backup backup (Server asker) (Fetch attempt master seg len part) unkept for_backup = refl
-unkept-backup backup AtCoordinator (Fetch attempt master seg len part) unkept for_backup = refl
-unkept-backup backup Outside (Fetch attempt master seg len part) unkept for_backup = refl
-unkept-backup backup from body unkept for_backup = cc
+unkept-backup (Server asker) (Fetch attempt master seg len part) unkept for_backup = refl
+unkept-backup AtCoordinator (Fetch attempt master seg len part) unkept for_backup = refl
+unkept-backup Outside (Fetch attempt master seg len part) unkept for_backup = refl
+unkept-backup from body unkept for_backup = cc
 
-server-unkept : (host : HostNode) (master : Master) (message : Message) → host.master ≡ Some master → changes_backup message.body ≡ false →
+server-unkept : {host : HostNode} {master : Master} (message : Message) → host.master ≡ Some master → changes_backup message.body ≡ false →
     SameButMaster (server_takes host master message).0 host
-server-unkept host master message running unkept =
+server-unkept {host} {master} message running unkept =
     either (λ after. SameButMaster after.0 host) (is_for_backup message.body)
     (with_backup host (backup_takes host.backup message.from message.body))
     (with_master host (master_takes master message.from message.body))
     (λ for_backup. record {
       runs = refl;
-      rest =
-          ap (λ (b : Backup). stopped (record host { backup = b }))
-          (unkept-backup host.backup message.from message.body unkept for_backup);
-    })
-    (λ _. record { runs = sym (ap is_some running); rest = refl })
+      rest = ap (λ (b : Backup). stopped (record host { backup = b }))
+          (unkept-backup message.from message.body unkept for_backup);
+    }) (λ _. record { runs = sym (ap is_some running); rest = refl })
 
-takes-unkept : (host : HostNode) (running : Option Master) (message : Message) → host.master ≡ running →
+takes-unkept : {host : HostNode} (running : Option Master) (message : Message) → host.master ≡ running →
     changes_backup message.body ≡ false →
     SameButMaster (takes_if_running host running message).0 host
-takes-unkept host None message is unkept = same-same host
-takes-unkept host (Some master) message is unkept =
+takes-unkept None message is unkept = same-same
+takes-unkept {host} (Some master) message is unkept =
     either (λ after. SameButMaster after.0 host) (is_server (server_of host) message.to) (server_takes host master message) (host, [])
-    (λ _. server-unkept host master message is unkept) (λ _. same-same host)
+    (λ _. server-unkept message is unkept) (λ _. same-same)
 
-ticks-unkept : (host : HostNode) (running : Option Master) → host.master ≡ running → SameButMaster (ticks_if_running host running).0 host
-ticks-unkept host None is = same-same host
-ticks-unkept host (Some master) is = record { runs = sym (ap is_some is); rest = refl }
+ticks-unkept : {host : HostNode} (running : Option Master) → host.master ≡ running → SameButMaster (ticks_if_running host running).0 host
+ticks-unkept None is = same-same
+ticks-unkept (Some master) is = record { runs = sym (ap is_some is); rest = refl }
 
-pub step-unkept : (host : HostNode) (work : NodeWork) → host_keeps work ≡ false → SameButMaster (host_step host work).0 host
-step-unkept host (Deliver message) unkept = takes-unkept host host.master message refl unkept
-step-unkept host Tick unkept = ticks-unkept host host.master refl
-step-unkept host Stop unkept = cc
-step-unkept host (Start kept) unkept = cc
-step-unkept host _ unkept = same-same host
+pub step-unkept : {host : HostNode} (work : NodeWork) → host_keeps work ≡ false → SameButMaster (host_step host work).0 host
+step-unkept {host} (Deliver message) unkept = takes-unkept host.master message refl unkept
+step-unkept {host} Tick unkept = ticks-unkept host.master refl
+step-unkept Stop unkept = cc
+step-unkept (Start kept) unkept = cc
+step-unkept _ unkept = same-same
 
 -- Hosts that are the same but for their masters stay so
 
@@ -72,8 +70,7 @@ server-same : (host : HostNode) (one other : Master) (message : Message) →
     (server_takes (record host { master = Some other }) other message).0
 server-same host one other message = by (is_for_backup message.body)
   where
-    by : (b : Bool) →
-        SameButMaster
+    by : (b : Bool) → SameButMaster
         (cond b (with_backup (record host { master = Some one }) (backup_takes host.backup message.from message.body))
         (with_master (record host { master = Some one }) (master_takes one message.from message.body))).0
         (cond b (with_backup (record host { master = Some other }) (backup_takes host.backup message.from message.body))
@@ -99,22 +96,22 @@ running-same host one other _ = record { runs = refl; rest = refl }
 
 either-same : (host : HostNode) (one other : Option Master) (work : NodeWork) → is_some one ≡ is_some other →
     SameButMaster (host_step (record host { master = one }) work).0 (host_step (record host { master = other }) work).0
-either-same host None None work both = same-same (host_step (record host { master = None }) work).0
+either-same host None None work both = same-same
 either-same host None (Some other) work both = true_false (sym both)
 either-same host (Some one) None work both = true_false both
 either-same host (Some one) (Some other) work both = running-same host one other work
 
-pub step-same : (one other : HostNode) (work : NodeWork) → SameButMaster one other →
+pub step-same : {one other : HostNode} (work : NodeWork) → SameButMaster one other →
     SameButMaster (host_step one work).0 (host_step other work).0
-step-same one other work same =
+step-same {one} {other} work same =
     subst (λ (h : HostNode). SameButMaster (host_step (record h { master = one.master }) work).0 (host_step other work).0) (sym same.rest)
     (either-same (stopped other) one.master other.master work same.runs)
 
-after-same : (one other : HostNode) (works : List NodeWork) → SameButMaster one other →
+after-same : {one other : HostNode} (works : List NodeWork) → SameButMaster one other →
     SameButMaster (host_after one works) (host_after other works)
-after-same one other [] same = same
-after-same one other (work ∷ works) same =
-    after-same (host_step one work).0 (host_step other work).0 works (step-same one other work same)
+after-same [] same = same
+after-same {one} {other} (work ∷ works) same =
+    after-same {one = (host_step one work).0} {other = (host_step other work).0} works (step-same {one = one} {other = other} work same)
 
 -- one work more, kept or not
 one-more : (host : HostNode) (work : NodeWork) (works : List NodeWork) →
@@ -123,17 +120,15 @@ one-more : (host : HostNode) (work : NodeWork) (works : List NodeWork) →
     SameButMaster (host_after host (cond b (work ∷ filter host_keeps works) (filter host_keeps works)))
     (host_after (host_step host work).0 works)
 one-more host work works rest true e = rest (host_step host work).0
-one-more host work works rest false e =
-    same-through (host_after host (filter host_keeps works)) (host_after host works) (host_after (host_step host work).0 works) (rest host)
-    (after-same host (host_step host work).0 works (same-back (host_step host work).0 host (step-unkept host work e)))
+one-more host work works rest false e = same-through (rest host) (after-same works (same-back (step-unkept work e)))
 
 pub hosts-remade : HostsCanBeRemade
-hosts-remade host [] = same-same host
+hosts-remade host [] = same-same
 hosts-remade host (work ∷ works) = one-more host work works (λ other. hosts-remade other works) (host_keeps work) refl
 
-step-timer : (c : Coordinator) (work : NodeWork) → coordinator_keeps work ≡ false → (coordinator_step c work).0 ≡ c
-step-timer c Tick unkept = refl
-step-timer c _ unkept = cc
+step-timer : {c : Coordinator} (work : NodeWork) → coordinator_keeps work ≡ false → (coordinator_step c work).0 ≡ c
+step-timer Tick unkept = refl
+step-timer _ unkept = cc
 
 one-more-timer : (c : Coordinator) (work : NodeWork) (works : List NodeWork) →
     ((other : Coordinator) → coordinator_after other (filter coordinator_keeps works) ≡ coordinator_after other works) →
@@ -141,7 +136,7 @@ one-more-timer : (c : Coordinator) (work : NodeWork) (works : List NodeWork) →
     coordinator_after c (cond b (work ∷ filter coordinator_keeps works) (filter coordinator_keeps works))
     ≡ coordinator_after (coordinator_step c work).0 works
 one-more-timer c work works rest true e = rest (coordinator_step c work).0
-one-more-timer c work works rest false e = rest c ∙ ap (λ (d : Coordinator). coordinator_after d works) (sym (step-timer c work e))
+one-more-timer c work works rest false e = rest c ∙ ap (λ (d : Coordinator). coordinator_after d works) (sym (step-timer work e))
 
 pub coordinator-remade : CoordinatorCanBeRemade
 coordinator-remade c [] = refl

@@ -51,20 +51,20 @@ pub step-possible : (w : World) (event : Event) → is_possible w event ≡ true
 step-possible w event possible = ap (λ b. cond b (job_done w event (job_of w.sent event)) w) possible
 
 -- one job is one node's
-same-node : (one other : Job) → Some one ≡ Some other → one.node ≡ other.node
-same-node one other e = let same : one ≡ other = cc in ap (λ (job : Job). job.node) same
+same-node : {one other : Job} → Some one ≡ Some other → one.node ≡ other.node
+same-node {one} {other} e = let same : one ≡ other = cc in ap (λ (job : Job). job.node) same
 
 -- the server that an event names runs in the world where it runs on the node that takes it
-named-node : (w : World) (event : Event) (name : NodeName) (work : NodeWork) →
+named-node : (w : World) (event : Event) {name : NodeName} {work : NodeWork} →
     job_of w.sent event ≡ Some (record { node = name; work = work }) →
     runs_as_named w event ≡ option_map_or (is_running_on (node_in w name)) (server_named event) true
-named-node w (event.Tick (Server id)) name work given =
+named-node w (event.Tick (Server id)) given =
     subst (λ (n : NodeName). is_running_at (w.hosts id.index) (Server id) ≡ is_running_on (node_in w n) id)
-    (same-node (record { node = TheHost id.index; work = Tick }) (record { node = name; work = work }) given) refl
-named-node w (event.Stop id) name work given =
+    (same-node given) refl
+named-node w (event.Stop id) given =
     subst (λ (n : NodeName). is_running_at (w.hosts id.index) (Server id) ≡ is_running_on (node_in w n) id)
-    (same-node (record { node = TheHost id.index; work = Stop }) (record { node = name; work = work }) given) refl
-named-node w _ name work given = refl
+    (same-node given) refl
+named-node w _ given = refl
 
 pub node_takes : (w : World) (event : Event) (name : NodeName) (work : NodeWork) →
     job_of w.sent event ≡ Some (record { node = name; work = work }) → NodeTakes w event name work
@@ -72,8 +72,7 @@ node_takes w event name work given =
     let after : is_possible w event ≡ true → step w event ≡ node_done w event name work =
     λ possible. step-possible w event possible ∙ ap (job_done w event) given in
     record {
-      possible =
-          ap (λ b. b && is_possible_job w (job_of w.sent event)) (named-node w event name work given)
+      possible = ap (λ b. b && is_possible_job w (job_of w.sent event)) (named-node w event given)
           ∙ ap (λ b. option_map_or (is_running_on (node_in w name)) (server_named event) true && b)
           (ap (is_possible_job w) given ∙ can-node w name work);
       state = λ possible. ap (λ (v : World). node_in v name) (after possible) ∙ done-state w event name work;

@@ -26,14 +26,14 @@ refusals-come-back one other _ same kept = refl
 next-unkept : (host : HostNode) (given : NodeWork) → host_keeps given ≡ false → SameButMaster (host_next host given) host
 next-unkept host given unkept =
     either (λ after. SameButMaster after host) (host_can host given) (host_step host given).0 host
-    (λ _. step-unkept host given unkept) (λ _. same-same host)
+    (λ _. step-unkept given unkept) (λ _. same-same)
 
 next-kept : (one other : HostNode) (given : NodeWork) → SameButMaster one other → host_keeps given ≡ true →
     SameButMaster (host_next one given) (host_next other given)
 next-kept one other given same kept = by (host_can one given) (host_can other given) (refusals-come-back one other given same kept)
   where
     by : (b c : Bool) → b ≡ c → SameButMaster (cond b (host_step one given).0 one) (cond c (host_step other given).0 other)
-    by true true e = step-same one other given same
+    by true true e = step-same given same
     by false false e = same
     by true false e = true_false e
     by false true e = true_false (sym e)
@@ -47,9 +47,8 @@ one-more : (one other : HostNode) (given : NodeWork) (works : List NodeWork) →
     (host_given (host_next other given) works)
 one-more one other given works same rest true e =
     rest (host_next one given) (host_next other given) (next-kept one other given same e)
-one-more one other given works same rest false e =
-    rest one (host_next other given)
-    (same-through one other (host_next other given) same (same-back (host_next other given) other (next-unkept other given e)))
+one-more one other given works same rest false e = rest one (host_next other given)
+    (same-through same (same-back (next-unkept other given e)))
 
 pub saved-hosts-come-back : SavedHostsComeBack
 saved-hosts-come-back loaded host [] same = same
@@ -57,7 +56,7 @@ saved-hosts-come-back loaded host (given ∷ works) same =
     one-more loaded host given works same (λ first second is. saved-hosts-come-back first second works is) (host_keeps given) refl
 
 pub hosts-come-back : HostsComeBack
-hosts-come-back host works = saved-hosts-come-back host host works (same-same host)
+hosts-come-back host works = saved-hosts-come-back host host works (same-same)
 
 pub coordinators-come-back : CoordinatorsComeBack
 coordinators-come-back c [] = refl

@@ -51,23 +51,22 @@ module _ (setup : Setup) (past rest : List Event) (m x : ServerId) (some : facto
 
     holds_now : slice_get (log_in ((replay setup (past ++ rest)).masters m).log s.seg) s.offset ≡ Some one
     holds_now = get-log (replay setup (past ++ rest)).sent m ((replay setup past).masters m).log
-        ((replay setup (past ++ rest)).masters m).log (later-of setup past rest m).later s.seg s.offset one s.holds
+        ((replay setup (past ++ rest)).masters m).log (later-of setup past rest).later s.seg s.offset one s.holds
 
     here : slice_get (log_in ((replay setup (past ++ rest)).masters x).log place.seg) place.offset ≡ Some place.entry
-    here = place-logged ((replay setup (past ++ rest)).masters x).log place found
+    here = place-logged ((replay setup (past ++ rest)).masters x).log found
       where
         found : IsOf ((replay setup (past ++ rest)).masters x).log.segments ((replay setup (past ++ rest)).masters x).log.head place
         found = (let k = place_of (places_of ((replay setup (past ++ rest)).masters x).log) place among in
-            places_to-are ((replay setup (past ++ rest)).masters x).log.segments ((replay setup (past ++ rest)).masters x).log.head
-            k.0 place k.1)
+            places_to-are ((replay setup (past ++ rest)).masters x).log.head
+            k.0 k.1)
 
     under-one-term : s.owned.grant.term ≡ its.grant.term → one.version < place.entry.version
     under-one-term same =
         logs-rise (replay setup (past ++ rest)).sent (replay setup (past ++ rest)).masters (replay setup (past ++ rest)).hosts
-        (replay setup (past ++ rest)).coordinator (all_new setup past rest) x place.entry.term place.seg place.offset s.seg s.offset
+        (replay setup (past ++ rest)).coordinator (all_new setup past rest) x place.seg place.offset s.seg s.offset
         place.entry one here (subst (λ (k : ServerId). slice_get (log_in ((replay setup (past ++ rest)).masters k).log s.seg) s.offset
-        ≡ Some one) own holds_now)
-        (behind setup past rest x some s.seg s.offset place.seg place.offset one place.entry
+        ≡ Some one) own holds_now) (behind setup past rest x some
         (subst (λ (k : ServerId). slice_get (log_in ((replay setup past).masters k).log s.seg) s.offset ≡ Some one) own s.holds)
         (subst (λ (k : ServerId). IsSentTo setup past rest k s.seg s.offset) own s.sent_to) here unsent)
         (record { term_one = sym s.owned.term_is ∙ same ∙ its_term; term_other = refl; table = sym tables; key = sym keys })
@@ -83,17 +82,16 @@ module _ (setup : Setup) (past rest : List Event) (m x : ServerId) (some : facto
         above-base (replay setup (past ++ rest)).sent (replay setup (past ++ rest)).masters (replay setup (past ++ rest)).hosts
         (replay setup (past ++ rest)).coordinator (all_new setup past rest) MayFree
         (covers-anyhow (replay setup (past ++ rest)).sent (replay setup (past ++ rest)).masters (replay setup (past ++ rest)).hosts
-        (replay setup (past ++ rest)).coordinator (all_new setup past rest)) goes.grant one goes.starts at.before at.after place
-        whole client
-        (sym goes.term_is) tables keys
+        (replay setup (past ++ rest)).coordinator (all_new setup past rest)) goes.starts at.before at.after place
+        whole client (sym goes.term_is) tables keys
       where
         goes : GoesTo (replay setup (past ++ rest)).sent (replay setup (past ++ rest)).masters (replay setup (past ++ rest)).hosts
             (replay setup (past ++ rest)).coordinator (all_new setup past rest) MayFree
             (covers-anyhow (replay setup (past ++ rest)).sent (replay setup (past ++ rest)).masters (replay setup (past ++ rest)).hosts
             (replay setup (past ++ rest)).coordinator (all_new setup past rest)) place.entry.term one
         goes = goes-from (replay setup (past ++ rest)).sent (replay setup (past ++ rest)).masters (replay setup (past ++ rest)).hosts
-            (replay setup (past ++ rest)).coordinator (all_new setup past rest) m s.seg s.offset one
-            ((later-of setup past rest m).safe s.seg s.offset s.safe) holds_now place.entry.term way
+            (replay setup (past ++ rest)).coordinator (all_new setup past rest)
+            ((later-of setup past rest).safe s.seg s.offset s.safe) holds_now way
 
         own : x ≡ goes.grant.owner
         own = its.owner_is
@@ -130,7 +128,7 @@ module _ (setup : Setup) (past rest : List Event) (m x : ServerId) (some : facto
     is : IsAcked (replay setup (past ++ rest)).sent (replay setup (past ++ rest)).masters (replay setup (past ++ rest)).hosts
         (replay setup (past ++ rest)).coordinator (all_new setup past rest) x later
     is = acked (replay setup (past ++ rest)).sent (replay setup (past ++ rest)).masters (replay setup (past ++ rest)).hosts
-        (replay setup (past ++ rest)).coordinator (all_new setup past rest) x later p
+        (replay setup (past ++ rest)).coordinator (all_new setup past rest) p
 
     own_later : IsOwned (replay setup (past ++ rest)).sent (replay setup (past ++ rest)).masters (replay setup (past ++ rest)).hosts
         (replay setup (past ++ rest)).coordinator (all_new setup past rest) x later.term later.table later.key
@@ -139,14 +137,14 @@ module _ (setup : Setup) (past rest : List Event) (m x : ServerId) (some : facto
 
     -- its owner was not left by then
     stayed : IsEarlier (replay setup (past ++ rest)).sent one.table one.key later.term one.term → ⊥
-    stayed way = no-plan setup past rest x some later p unsent gone.plan gone.accepted
+    stayed way = no-plan setup past rest x some p unsent gone.accepted
         (gone.of_owner ∙ sym gone.granted.owner_is ∙ ap (λ (g : Grant). g.owner)
         ((all_new setup past rest).terms.grant_once gone.granted.grant own_later.grant
         (still-granted setup past rest gone.granted.grant gone.granted.among) own_later.among
         (gone.granted.term_is ∙ sym own_later.term_is)) ∙ sym own_later.owner_is)
       where
         gone : IsLeft setup past rest later.term one.table one.key
-        gone = left setup past rest one.table one.key later.term one.term way
+        gone = left setup past rest way
             (subst (λ n. 0 < n) own_later.term_is ((all_new setup past rest).terms.issued own_later.grant own_later.among).0)
             s.owned.grant s.owned.among s.owned.term_is s.owned.holds
 

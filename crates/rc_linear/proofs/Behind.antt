@@ -26,9 +26,9 @@ use Rattle.rc_linear.specs.Confirmed.{HasSentFor}
 -- One log
 
 -- each segment before one that has an entry is shut
-shut-before : (sent : List _) (m : ServerId) (master : Master) → GoodMaster sent m master → (t s : ℕ) → 0 < t → t < s →
+shut-before : {sent : List _} {m : ServerId} {master : Master} → GoodMaster sent m master → {t s : ℕ} → 0 < t → t < s →
     s ≤ master.log.head → (log_in master.log s ≡ [] → ⊥) → (master.log.segments t).shut ≡ true
-shut-before sent m master good t s above less upto some = by (ways (t + 1) master.log.head (omega arith))
+shut-before {master} good {t} {s} above less upto some = by (ways (t + 1) master.log.head (omega arith))
   where
     ways : (a b : ℕ) → a ≤ b → (a < b) ⊎ (a ≡ b)
     ways a b p = grind arith
@@ -49,8 +49,8 @@ shut-before sent m master good t s above less upto some = by (ways (t + 1) maste
         phased Closing e = empty (λ writing. (let never : ◌≡◌ {A = Phase} Closing Writing = sym e ∙ writing in cc))
 
 -- a lower place of a segment is stored on all, too
-stored-lower : (log : Log) (s o k : ℕ) → k ≤ o → is_stored_on_all log s o ≡ true → is_stored_on_all log s k ≡ true
-stored-lower log s o k upto stored =
+stored-lower : (log : Log) (s : ℕ) {o k : ℕ} → k ≤ o → is_stored_on_all log s o ≡ true → is_stored_on_all log s k ≡ true
+stored-lower log s {o} {k} upto stored =
     let one = and_parts (has_segment log s) (nat_lt o (durable_len (log.segments s).config) && all_shut_to log.segments (s - 1)) stored in
     let two = and_parts (nat_lt o (durable_len (log.segments s).config)) (all_shut_to log.segments (s - 1)) one.1 in
     and_from (has_segment log s) (nat_lt k (durable_len (log.segments s).config) && all_shut_to log.segments (s - 1)) one.0
@@ -74,27 +74,27 @@ module _ (setup : Setup) (past rest : List Event) where
   abbrev pub all_new : AllHold new.sent new.masters new.hosts new.coordinator
   all_new = all-world setup (past ++ rest)
 
-  pub later-of : (m : ServerId) → Since m old new
-  later-of m = since-more setup past rest m
+  pub later-of : {m : ServerId} → Since m old new
+  later-of = since-more setup past rest
 
   -- all places of the segment up to this one had been sent
   abbrev pub IsSentTo : ServerId → ℕ → ℕ → Type 0
   IsSentTo m s o = (k : ℕ) → k ≤ o → HasSentFor old.sent m s k
 
   -- as those up to a durable one
-  pub durable-sent_to : (m : ServerId) (s o : ℕ) → IsDurable setup past m s o → IsSentTo m s o
-  durable-sent_to m s o durable k upto =
+  pub durable-sent_to : {m : ServerId} {s o : ℕ} → IsDurable setup past m s o → IsSentTo m s o
+  durable-sent_to {m} {s} durable k upto =
       let made = durable-is-made setup past m s k (record {
         moment = durable.moment;
         happened = durable.happened;
-        stored = stored-lower (log_after setup past m durable.moment) s o k upto durable.stored;
+        stored = stored-lower (log_after setup past m durable.moment) s upto durable.stored;
         earlier = durable.earlier;
       }) in
       (made.0, made.2)
 
   -- and those up to one that a recovery holds
-  pub held-sent_to : (plan : Accepted) → WasAccepted old.sent plan → (s o : ℕ) → IsHeld plan.rows s o → IsSentTo plan.master s o
-  held-sent_to plan accepted s o held k upto =
+  pub held-sent_to : {plan : Accepted} → WasAccepted old.sent plan → {s o : ℕ} → IsHeld plan.rows s o → IsSentTo plan.master s o
+  held-sent_to {plan} accepted {s} held k upto =
       let made = recovered-is-made setup past plan s k accepted
       (record { row = held.row; among = held.among; seg = held.seg; below = omega (arith, upto, held.below) }) in
       (made.0, made.2)
@@ -104,40 +104,40 @@ module _ (setup : Setup) (past rest : List Event) where
     shut-sent : (t k : ℕ) (other : Entry) → (((replay setup past).masters m).log.segments t).shut ≡ true →
         slice_get (log_in ((replay setup past).masters m).log t) k ≡ Some other → HasSentFor old.sent m t k
     shut-sent t k other shut holds =
-        let durable : IsDurable setup past m t k = once-durable setup past m t k some
-        ((worlds.all-world setup past m some).shut t k shut less) in
+        let durable : IsDurable setup past m t k = once-durable {setup = setup} {events = past} {m = m} {s = t} {o = k} some
+        ((worlds.all-world some).shut t k shut less) in
         let made = durable-is-made setup past m t k durable in
         (made.0, made.2)
       where
         less : k < length (((replay setup past).masters m).log.segments t).entries
         less = (let inside : k < length (log_in ((replay setup past).masters m).log t) =
-            get-within (log_in ((replay setup past).masters m).log t) k other holds in
+            get-within (log_in ((replay setup past).masters m).log t) k {x = other} holds in
             let same : length (log_in ((replay setup past).masters m).log t) ≡
             length (((replay setup past).masters m).log.segments t).entries =
             length-map (((replay setup past).masters m).log.segments t).entries (λ (one : Entry × Bool). one.0) in
             omega (arith, inside, same))
 
     -- so what stands now where nothing had been sent stands behind
-    pub behind : (s o t k : ℕ) (one other : Entry) → slice_get (log_in (old.masters m).log s) o ≡ Some one → IsSentTo m s o →
+    pub behind : {s o t k : ℕ} {one other : Entry} → slice_get (log_in (old.masters m).log s) o ≡ Some one → IsSentTo m s o →
         slice_get (log_in (new.masters m).log t) k ≡ Some other → (HasSentFor old.sent m t k → ⊥) →
         (s < t) ⊎ ((s ≡ t) × (o < k))
-    behind s o t k one other here sent there unsent = by (three s t) (three o k)
+    behind {s} {o} {t} {k} {one} {other} here sent there unsent = by (three) (three)
       where
         at : (0 < s) × (s ≤ (old.masters m).log.head)
-        at = opened old.sent old.masters old.hosts old.coordinator all_old m s o one here
+        at = opened old.sent old.masters old.hosts old.coordinator all_old o here
 
         at_new : (0 < t) × (t ≤ (new.masters m).log.head)
-        at_new = opened new.sent new.masters new.hosts new.coordinator all_new m t k other there
+        at_new = opened new.sent new.masters new.hosts new.coordinator all_new k there
 
         -- an earlier segment was shut
         earlier : t < s → (s < t) ⊎ ((s ≡ t) × (o < k))
         earlier less = absurd (unsent (shut-sent t k other
-            (shut-before old.sent m (old.masters m) (all_old.good.masters_are m) t s at_new.0 less at.1 has)
+            (shut-before (all_old.good.masters_are m) at_new.0 less at.1 has)
             (subst (λ l. slice_get l k ≡ Some other) same there)))
           where
             same : log_in (new.masters m).log t ≡ log_in (old.masters m).log t
             same = ap (λ entries. Rattle.std.specs.Prelude.map (λ (it : Entry × Bool). it.0) entries)
-                ((later-of m).later.final t (omega (arith, less, at.1)))
+                ((later-of).later.final t (omega (arith, less, at.1)))
 
             has : log_in (old.masters m).log s ≡ [] → ⊥
             has none = (let never : slice_get [] o ≡ Some one = ap (λ l. slice_get l o) (sym none) ∙ here in cc)
@@ -151,26 +151,26 @@ module _ (setup : Setup) (past rest : List Event) where
 
     -- No recovery of its master was accepted by then
 
-    pub no-plan : (ack : Ack) → HasAcknowledged new.sent m ack → (HasSentFor old.sent m ack.seg ack.offset → ⊥) → (plan : Accepted) →
+    pub no-plan : {ack : Ack} → HasAcknowledged new.sent m ack → (HasSentFor old.sent m ack.seg ack.offset → ⊥) → {plan : Accepted} →
         WasAccepted old.sent plan → plan.master ≡ m → ⊥
-    no-plan ack p unsent plan was of_m = by there.is_it
+    no-plan {ack} p unsent {plan} was of_m = by there.is_it
       where
         accepted : WasAccepted new.sent plan
         accepted = record {
           message = was.message;
-          among = (later-of m).more was.message was.among;
+          among = (later-of {m = m}).more was.message was.among;
           head = was.head;
           parts = was.parts;
           says = was.says;
         }
 
         w : IsWriteOk new.sent m (new.masters m).log ack.seg ack.offset ack.term ack.table ack.key ack.version
-        w = (acked new.sent new.masters new.hosts new.coordinator all_new m ack p).write
+        w = (acked new.sent new.masters new.hosts new.coordinator all_new {m = m} {ack = ack} p).write
 
         there : IsCovered m (new.masters m).log plan.rows ack.seg ack.offset w.entry
         there = covered new.sent new.masters new.hosts new.coordinator all_new.good m plan.rows
             (subst (λ (k : ServerId). PlanIs new.sent new.masters new.coordinator k plan.rows) of_m
-            (accepted-is new.sent new.masters new.hosts new.coordinator all_new.good plan accepted))
+            (accepted-is {sent = new.sent} {masters = new.masters} {hosts = new.hosts} {c = new.coordinator} all_new.good {plan = plan} accepted))
             ack.seg ack.offset w.entry w.safe w.holds
 
         stood : (one : Entry) × (slice_get (log_in (old.masters m).log there.seg) there.offset ≡ Some one)
@@ -179,17 +179,17 @@ module _ (setup : Setup) (past rest : List Event) where
 
         sent : IsSentTo m there.seg there.offset
         sent = subst (λ (k : ServerId). IsSentTo k there.seg there.offset) of_m
-            (held-sent_to plan was there.seg there.offset there.held)
+            (held-sent_to {plan = plan} was {s = there.seg} {o = there.offset} there.held)
 
         before : (there.seg < ack.seg) ⊎ ((there.seg ≡ ack.seg) × (there.offset < ack.offset))
-        before = behind there.seg there.offset ack.seg ack.offset stood.0 w.entry stood.1 sent w.holds unsent
+        before = behind {s = there.seg} {o = there.offset} {t = ack.seg} {k = ack.offset} {one = stood.0} {other = w.entry} stood.1 sent w.holds unsent
 
         by : ((there.seg ≡ ack.seg) × (there.offset ≡ ack.offset)) ⊎ (w.entry.version < there.other.version) → ⊥
         by (inl (segs, offsets)) = unsent (subst (λ o. HasSentFor old.sent m ack.seg o) offsets
             (subst (λ n. HasSentFor old.sent m n there.offset) segs (sent there.offset (omega arith))))
         by (inr more) =
             let less : there.other.version < w.entry.version =
-            logs-rise new.sent new.masters new.hosts new.coordinator all_new m w.entry.term ack.seg ack.offset there.seg there.offset
+            logs-rise new.sent new.masters new.hosts new.coordinator all_new m {term = w.entry.term} ack.seg ack.offset there.seg there.offset
             w.entry there.other w.holds there.holds before
             (record { term_one = there.term; term_other = refl; table = there.table; key = there.key }) in
             absurd (omega (arith, less, more))

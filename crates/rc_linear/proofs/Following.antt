@@ -24,9 +24,9 @@ record IsReadAt (setup : Setup) (events : List Event) (m : ServerId) (before : L
   sent_is : before ≡ (replay setup past).sent
   finds : Finds setup past m answer.table answer.key answer.version answer.value
 
-read-found : (setup : Setup) (events : List Event) (m : ServerId) (before : List Message) (answer : Answer) →
+read-found : {setup : Setup} {events : List Event} {m : ServerId} {before : List Message} {answer : Answer} →
     HasRead (replay setup events).sent m before answer → IsReadAt setup events m before answer
-read-found setup events m before answer read = record {
+read-found {setup} {events} {m} {before} {answer} read = record {
   past = was.past;
   rest = was.rest;
   whole = was.whole;
@@ -38,9 +38,9 @@ read-found setup events m before answer read = record {
     was = (clients-are-heard setup events).reads m before read.message read.after read.whole read.from
         answer.table answer.key answer.version answer.value read.says
 
-of-key : (setup : Setup) (past : List Event) (m : ServerId) (one other : Answer) → one.table ≡ other.table → one.key ≡ other.key →
+of-key : {setup : Setup} {past : List Event} {m : ServerId} (one other : Answer) → one.table ≡ other.table → one.key ≡ other.key →
     Finds setup past m one.table one.key one.version one.value → Finds setup past m other.table other.key one.version one.value
-of-key setup past m one other table key finds = subst (λ k. Finds setup past m other.table k one.version one.value) key
+of-key {setup} {past} {m} one other table key finds = subst (λ k. Finds setup past m other.table k one.version one.value) key
     (subst (λ t. Finds setup past m t one.key one.version one.value) table finds)
 
 pub reads-follow-time : ReadsFollowTime
@@ -48,10 +48,10 @@ reads-follow-time setup events m x before since first later some_m some_x read_f
     by (which-begins a.past a.rest b.past b.rest (a.whole ∙ sym b.whole))
   where
     a : IsReadAt setup events m before first
-    a = read-found setup events m before first read_first
+    a = read-found read_first
 
     b : IsReadAt setup events x since later
-    b = read-found setup events x since later read_later
+    b = read-found read_later
 
     acked : HasAcknowledged (replay setup (b.past ++ b.rest)).sent x confirmed.ack
     acked = subst (λ (l : List Event). HasAcknowledged (replay setup l).sent x confirmed.ack) (sym b.whole) confirmed.acknowledged
@@ -63,7 +63,7 @@ reads-follow-time setup events m x before since first later some_m some_x read_f
         first.version ≤ later.version
     by (inl (gap, is)) =
         reads-rise setup a.past gap b.rest m x later.table later.key some_m some_x first.version later.version first.value later.value
-        (of-key setup a.past m first later table key a.finds)
+        (of-key first later table key a.finds)
         (subst (λ (l : List Event). Finds setup l x later.table later.key later.version later.value) (sym is) b.finds) confirmed.ack
         (subst (λ (l : List Event). HasAcknowledged (replay setup (l ++ b.rest)).sent x confirmed.ack) (sym is) acked)
         (subst (λ (l : List Event). HasSentFor (replay setup l).sent x confirmed.ack.seg confirmed.ack.offset → ⊥) (sym is) unsent)
@@ -79,10 +79,10 @@ pub writes-follow-reads : WritesFollowReads
 writes-follow-reads setup events m x before answer later some_m some_x read acked of unsent = by (zero-or-more answer.version)
   where
     a : IsReadAt setup events m before answer
-    a = read-found setup events m before answer read
+    a = read-found read
 
     by : (answer.version ≡ 0) ⊎ (answer.version ≡ 0 → ⊥) → answer.version < later.version
-    by (inl none) = (let more : 0 < later.version = versions-begin-at-one setup events x later acked in omega (arith, more, none))
+    by (inl none) = (let more : 0 < later.version = versions-begin-at-one setup events acked in omega (arith, more, none))
     by (inr above) =
         let is : IsShowing setup a.past a.rest m some_m a.finds.term answer.table answer.key answer.version answer.value a.finds.owns
         a.finds.found = shown-stood setup a.past a.rest m some_m a.finds.term answer.table answer.key answer.version answer.value
@@ -98,10 +98,10 @@ reads-show-one-value setup events m x before since one other some_m some_x read_
     by (zero-or-more other.version)
   where
     a : IsReadAt setup events m before one
-    a = read-found setup events m before one read_one
+    a = read-found read_one
 
     b : IsReadAt setup events x since other
-    b = read-found setup events x since other read_other
+    b = read-found read_other
 
     by : (other.version ≡ 0) ⊎ (other.version ≡ 0 → ⊥) → one.value ≡ other.value
     by (inl none) =
@@ -109,17 +109,15 @@ reads-show-one-value setup events m x before since one other some_m some_x read_
         (same ∙ none)
         ∙ sym (shows-none setup b.past b.rest x some_x b.finds.term other.table other.key other.version other.value b.finds.owns
         b.finds.found none)
-    by (inr above) =
-        reads-alike setup b.past b.rest a.past a.rest (a.whole ∙ sym b.whole) m x other.table other.key other.version some_m some_x
-        one.value other.value
-        (subst (λ n. Finds setup a.past m other.table other.key n one.value) same (of-key setup a.past m one other table key a.finds))
+    by (inr above) = reads-alike b.rest a.rest (a.whole ∙ sym b.whole) some_m some_x
+        (subst (λ n. Finds setup a.past m other.table other.key n one.value) same (of-key one other table key a.finds))
         b.finds above
 
 pub what-reads-show-was-asked : WhatReadsShowWasAsked
 what-reads-show-was-asked setup events m before answer some read = by (zero-or-more answer.version)
   where
     a : IsReadAt setup events m before answer
-    a = read-found setup events m before answer read
+    a = read-found read
 
     by : (answer.version ≡ 0) ⊎ (answer.version ≡ 0 → ⊥) → ((answer.version ≡ 0) × (answer.value ≡ None))
         ⊎ ((x : ServerId) × HasAsked before x answer.table answer.key answer.value)
@@ -143,7 +141,7 @@ what-reads-show-was-asked setup events m before answer some read = by (zero-or-m
         came : Origin (replay setup a.past).sent (replay setup a.past).masters (replay setup a.past).hosts
             (replay setup a.past).coordinator (all-world setup a.past) m is.stood.seg is.stood.offset is.entry
         came = origin (replay setup a.past).sent (replay setup a.past).masters (replay setup a.past).hosts
-            (replay setup a.past).coordinator (all-world setup a.past) m is.stood.seg is.stood.offset is.entry is.stood.holds
+            (replay setup a.past).coordinator (all-world setup a.past) is.stood.holds
             is.stood.owned.grant is.stood.owned.among is.stood.owned.owner_is is.stood.owned.term_is is.stood.owned.holds
 
         asked : IsAskedFor (replay setup a.past).sent came.x came.place

@@ -61,24 +61,23 @@ no-more {X} test xs z few passes y at too =
 -- an acknowledgement of a place
 names : (m : ServerId) (s o term table key version : ℕ) →
     acks_place m s o (to_outside m (WriteOk s o term table key version)) ≡ true
-names m s o term table key version =
-    ap (λ b. b && (nat_eq s s && nat_eq o o)) (same_id-refl m)
+names m s o term table key version = ap (λ b. b && (nat_eq s s && nat_eq o o)) (same_id-refl m)
     ∙ (ap (λ b. b && nat_eq o o) (eq-eqb s s refl) ∙ eq-eqb o o refl)
 
 -- of two members that pass a test that one passes, each is the other
-at-most-one : {X : Type 0} (test : X → Bool) (xs : List X) → length (filter test xs) ≤ 1 → (i j : ℕ) (x y : X) →
+at-most-one : {X : Type 0} (test : X → Bool) (xs : List X) → length (filter test xs) ≤ 1 → (i j : ℕ) {x y : X} →
     slice_get xs i ≡ Some x → slice_get xs j ≡ Some y → test x ≡ true → test y ≡ true → i ≡ j
-at-most-one test [] few i j x y p q t u = cc
-at-most-one test (z ∷ xs) few zero zero x y p q t u = refl
-at-most-one {X} test (z ∷ xs) few zero (suc j) x y p q t u =
+at-most-one test [] few i j p q t u = cc
+at-most-one test (z ∷ xs) few zero zero p q t u = refl
+at-most-one {X} test (z ∷ xs) few zero (suc j) {x} {y} p q t u =
     absurd (no-more test xs z few (let same : z ≡ x = cc in ap test same ∙ t) y (In-get xs j y q) u)
-at-most-one {X} test (z ∷ xs) few (suc i) zero x y p q t u =
+at-most-one {X} test (z ∷ xs) few (suc i) zero {x} {y} p q t u =
     absurd (no-more test xs z few (let same : z ≡ y = cc in ap test same ∙ u) x (In-get xs i x p) t)
-at-most-one test (z ∷ xs) few (suc i) (suc j) x y p q t u =
-    (let rest : i ≡ j = at-most-one test xs (fewer test xs z few) i j x y p q t u in omega (arith, rest))
+at-most-one test (z ∷ xs) few (suc i) (suc j) p q t u =
+    (let rest : i ≡ j = at-most-one test xs (fewer test xs z few) i j p q t u in omega (arith, rest))
 
-less-or-same : (a b : ℕ) → a ≤ b → (a < b) ⊎ (a ≡ b)
-less-or-same a b p = grind arith
+less-or-same : {a b : ℕ} → a ≤ b → (a < b) ⊎ (a ≡ b)
+less-or-same p = grind arith
 
 -- The order
 
@@ -116,21 +115,21 @@ module _ (setup : Setup) (events : List Event) (some : HasReplicas setup) where
     entry = record { term = is.term; table = w.table; key = w.key; version = w.version; value = w.value }
 
     pub acknowledged : HasAcknowledged sent w.master ack
-    acknowledged = acknowledged-at sent w is.seg is.offset is.term is.response
+    acknowledged = acknowledged-at w is.response
 
     pub written : IsWritten sent w.master ack entry
     written = record { acknowledged = acknowledged; made = is.made }
 
     pub above-zero : 0 < w.version
-    above-zero = versions-begin-at-one setup events w.master ack acknowledged
+    above-zero = versions-begin-at-one setup events acknowledged
 
     -- whatever was answered before it was asked for has a lower version
-    pub above-answered : (a : Operation) → IsAnswered sent a → a.table ≡ w.table → a.key ≡ w.key → a.response < w.invocation →
+    pub above-answered : {a : Operation} → IsAnswered sent a → a.table ≡ w.table → a.key ≡ w.key → a.response < w.invocation →
         a.version < w.version
-    above-answered a answered table key less = by had.stands
+    above-answered {a} answered table key less = by had.stands
       where
         had : HadStood setup events w.invocation a
-        had = had-stood setup events some w.invocation w.master (Write w.table w.key w.value) is.request a less answered
+        had = had-stood some is.request less answered
 
         by : (a.version ≡ 0) ⊎ ((one : Entry) × Stood setup had.early had.gap a.master one × (one.table ≡ a.table) × (one.key ≡ a.key)
             × (one.version ≡ a.version)) → a.version < w.version
@@ -138,17 +137,16 @@ module _ (setup : Setup) (events : List Event) (some : HasReplicas setup) where
         by (inr (one, stood, tables, keys, versions)) = subst (λ n. n < w.version) versions
             (above-acked setup had.early had.gap a.master w.master (some w.master.index) one stood ack
             (subst (λ (l : List Event). HasAcknowledged (replay setup l).sent w.master ack) (sym had.whole) acknowledged)
-            (λ was. is.fresh (had.within w.master is.seg is.offset was))
-            (sym table ∙ sym tables) (sym key ∙ sym keys))
+            (λ was. is.fresh (had.within w.master is.seg is.offset was)) (sym table ∙ sym tables) (sym key ∙ sym keys))
 
   -- A read
 
   module _ (r : Operation) (is : IsRead sent r) where
     pub at : IsFoundAt setup events r
-    at = found-at setup events r is.response
+    at = found-at is.response
 
     pub number : r.response < length sent
-    number = get-within sent r.response _ is.response
+    number = get-within sent r.response is.response
 
     pub sent_first : length (replay setup at.past).sent ≡ r.response
     sent_first = ap length at.sent_is ∙ take-length r.response sent (let n = number in omega (arith, n))
@@ -162,40 +160,39 @@ module _ (setup : Setup) (events : List Event) (some : HasReplicas setup) where
         (subst (λ l. HasSentFor l r.master is.confirmed.ack.seg is.confirmed.ack.offset) at.sent_is was)
 
     -- it misses no write that was acknowledged before its answer
-    pub sees : (w : Operation) (write : IsWrite sent w) → w.table ≡ r.table → w.key ≡ r.key → w.response < r.response →
+    pub sees : {w : Operation} (write : IsWrite sent w) → w.table ≡ r.table → w.key ≡ r.key → w.response < r.response →
         w.version ≤ r.version
-    sees w write table key less = misses.all w.master (ack w write)
-        (acknowledged-at (take r.response sent) w write.seg write.offset write.term
-        (take-get r.response w.response sent _ less write.response)) (record { table_is = table; key_is = key })
+    sees {w} write table key less = misses.all w.master (ack w write) (acknowledged-at w
+        (take-get r.response w.response sent less write.response)) (record { table_is = table; key_is = key })
       where
         misses : MissesNothing r.master (take r.response sent)
             (record { table = r.table; key = r.key; version = r.version; value = r.value })
         misses = confirmed-reads-miss-nothing setup events r.master (take r.response sent)
             (record { table = r.table; key = r.key; version = r.version; value = r.value }) (some r.master.index)
-            (read-at sent r is.response) is.confirmed
+            (read-at r is.response) is.confirmed
 
     -- and shows the value of the one of its version
-    pub shows : (w : Operation) (write : IsWrite sent w) → w.table ≡ r.table → w.key ≡ r.key → w.version ≡ r.version →
+    pub shows : {w : Operation} (write : IsWrite sent w) → w.table ≡ r.table → w.key ≡ r.key → w.version ≡ r.version →
         w.value ≡ r.value
-    shows w write table key same = seen.written w.master (ack w write) (entry w write) (written w write)
+    shows {w} write table key same = seen.written w.master (ack w write) (entry w write) (written w write)
         (record { table_is = table; key_is = key }) same
       where
         seen : MissesOnlyLater setup events r.master (take r.response sent)
             (record { table = r.table; key = r.key; version = r.version; value = r.value })
         seen = reads-see-acknowledged-writes setup events r.master (take r.response sent)
-            (record { table = r.table; key = r.key; version = r.version; value = r.value }) (read-at sent r is.response)
+            (record { table = r.table; key = r.key; version = r.version; value = r.value }) (read-at r is.response)
 
     pub none-at-zero : r.version ≡ 0 → r.value ≡ None
     none-at-zero = shows-none setup at.past at.rest r.master (some r.master.index) at.finds.term r.table r.key r.version r.value
         at.finds.owns at.finds.found
 
     -- it shows no less than a read that was answered before
-    pub rises-from : (a : Operation) (before : IsRead sent a) → a.table ≡ r.table → a.key ≡ r.key → a.response < r.response →
+    pub rises-from : {a : Operation} (before : IsRead sent a) → a.table ≡ r.table → a.key ≡ r.key → a.response < r.response →
         a.version ≤ r.version
-    rises-from a before table key less = by (which-begins was.past was.rest at.past at.rest (was.whole ∙ sym at.whole))
+    rises-from {a} before table key less = by (which-begins was.past was.rest at.past at.rest (was.whole ∙ sym at.whole))
       where
         was : IsFoundAt setup events a
-        was = found-at setup events a before.response
+        was = found-at before.response
 
         was_first : length (replay setup was.past).sent ≡ a.response
         was_first = ap length was.sent_is ∙ take-length a.response sent (let n = number in omega (arith, n, less))
@@ -223,17 +220,16 @@ module _ (setup : Setup) (events : List Event) (some : HasReplicas setup) where
             let r_first = sent_first in
             absurd (omega (arith, longer, same, a_first, r_first, less))
 
-    pub alike : (a : Operation) (other : IsRead sent a) → a.table ≡ r.table → a.key ≡ r.key → a.version ≡ r.version →
+    pub alike : {a : Operation} (other : IsRead sent a) → a.table ≡ r.table → a.key ≡ r.key → a.version ≡ r.version →
         (r.version ≡ 0 → ⊥) → a.value ≡ r.value
-    alike a other table key same above =
-        reads-alike setup at.past at.rest was.past was.rest (was.whole ∙ sym at.whole) a.master r.master r.table r.key r.version
-        (some a.master.index) (some r.master.index) a.value r.value
+    alike {a} other table key same above = reads-alike at.rest was.rest (was.whole ∙ sym at.whole)
+        (some a.master.index) (some r.master.index)
         (subst (λ n. Finds setup was.past a.master r.table r.key n a.value) same
         (subst (λ k. Finds setup was.past a.master r.table k a.version a.value) key
         (subst (λ t. Finds setup was.past a.master t a.key a.version a.value) table was.finds))) at.finds above
       where
         was : IsFoundAt setup events a
-        was = found-at setup events a other.response
+        was = found-at other.response
 
     -- Where it shows something, a client had asked for it
 
@@ -250,7 +246,7 @@ module _ (setup : Setup) (events : List Event) (some : HasReplicas setup) where
       came : Origin (replay setup at.past).sent (replay setup at.past).masters (replay setup at.past).hosts
           (replay setup at.past).coordinator (all-world setup at.past) r.master showing.stood.seg showing.stood.offset showing.entry
       came = origin (replay setup at.past).sent (replay setup at.past).masters (replay setup at.past).hosts
-          (replay setup at.past).coordinator (all-world setup at.past) r.master showing.stood.seg showing.stood.offset showing.entry
+          (replay setup at.past).coordinator (all-world setup at.past)
           showing.stood.holds showing.stood.owned.grant showing.stood.owned.among showing.stood.owned.owner_is
           showing.stood.owned.term_is showing.stood.owned.holds
 
@@ -261,11 +257,11 @@ module _ (setup : Setup) (events : List Event) (some : HasReplicas setup) where
       first = at.sent_is
 
       asked_number : asked.number < r.response
-      asked_number = (let less = get-within (replay setup at.past).sent asked.number _ asked.asked in
+      asked_number = (let less = get-within (replay setup at.past).sent asked.number asked.asked in
           let same = sent_first in omega (arith, less, same))
 
       requested : IsRequest sent asked.number came.x (Write r.table r.key r.value)
-      requested = (get-take r.response sent asked.number _ (subst (λ l. slice_get l asked.number ≡ Some (record {
+      requested = (get-take r.response sent asked.number (subst (λ l. slice_get l asked.number ≡ Some (record {
         from = Outside;
         to = Server came.x;
         body = Write r.table r.key r.value;
@@ -281,15 +277,13 @@ module _ (setup : Setup) (events : List Event) (some : HasReplicas setup) where
           }))
 
       -- and whatever was answered before it was asked for stands lower
-      below : (a : Operation) → IsAnswered sent a → a.table ≡ r.table → a.key ≡ r.key → a.response < asked.number →
+      below : {a : Operation} → IsAnswered sent a → a.table ≡ r.table → a.key ≡ r.key → a.response < asked.number →
           a.version < r.version
-      below a answered table key less = by had.stands
+      below {a} answered table key less = by had.stands
         where
           had : HadStood setup at.past asked.number a
-          had = had-stood setup at.past some asked.number came.x (Write came.place.entry.table came.place.entry.key came.place.entry.value)
-              asked.asked a less
-              (subst (λ l. IsAnswered l a) (sym at.sent_is)
-              (answered-first r.response sent a (let n = asked_number in omega (arith, n, less)) answered))
+          had = had-stood some asked.asked less (subst (λ l. IsAnswered l a) (sym at.sent_is)
+              (answered-first (let n = asked_number in omega (arith, n, less)) answered))
 
           by : (a.version ≡ 0) ⊎ ((one : Entry) × Stood setup had.early had.gap a.master one × (one.table ≡ a.table) × (one.key ≡ a.key)
               × (one.version ≡ a.version)) → a.version < r.version
@@ -305,7 +299,7 @@ module _ (setup : Setup) (events : List Event) (some : HasReplicas setup) where
           by (inr (one, stood, tables, keys, versions)) =
               let less_one : one.version < showing.entry.version =
               below-at setup had.early had.gap at.rest a.master r.master some one stood at.finds.term r.version r.value is.confirmed.ack
-              showing.stood.seg showing.stood.offset showing.entry at.past had.whole
+              showing.stood.seg showing.stood.offset showing.entry had.whole
               (subst (λ k. term_of ((replay setup at.past).masters r.master).ownership one.table k ≡ Some at.finds.term) (sym (keys ∙ key))
               (subst (λ t. term_of ((replay setup at.past).masters r.master).ownership t r.key ≡ Some at.finds.term)
               (sym (tables ∙ table)) at.finds.owns))
@@ -321,7 +315,7 @@ module _ (setup : Setup) (events : List Event) (some : HasReplicas setup) where
 
   read-after : (a b : Operation) → a.version ≤ b.version → b.kind ≡ ARead → (a.kind ≡ AWrite) ⊎ (a.response < b.response) →
       StandsBefore a b
-  read-after a b less reads how = by (less-or-same a.version b.version less)
+  read-after a b less reads how = by (less-or-same less)
     where
       by : (a.version < b.version) ⊎ (a.version ≡ b.version) → StandsBefore a b
       by (inl under) = inl under
@@ -329,12 +323,12 @@ module _ (setup : Setup) (events : List Event) (some : HasReplicas setup) where
 
   module _ (a b : Operation) (table : a.table ≡ b.table) (key : a.key ≡ b.key) where
     in-time : IsWrite sent a ⊎ IsRead sent a → IsWrite sent b ⊎ IsRead sent b → Precedes a b → StandsBefore a b
-    in-time one (inl w) less = inl (above-answered b w a (is-answered sent a one) table key less)
+    in-time one (inl w) less = inl (above-answered b w (is-answered one) table key less)
     in-time (inl w) (inr r) less =
-        read-after a b (sees b r a w table key (let n = r.after in omega (arith, n, less))) r.kind (inl w.kind)
+        read-after a b (sees b r w table key (let n = r.after in omega (arith, n, less))) r.kind (inl w.kind)
     in-time (inr q) (inr r) less =
         let before : a.response < b.response = (let n = r.after in omega (arith, n, less)) in
-        read-after a b (rises-from b r a q table key before) r.kind (inr before)
+        read-after a b (rises-from b r q table key before) r.kind (inr before)
 
     one-write : (w : IsWrite sent a) (v : IsWrite sent b) → a.version ≡ b.version →
         (b.master ≡ a.master) × (ack b v ≡ ack a w)
@@ -342,8 +336,7 @@ module _ (setup : Setup) (events : List Event) (some : HasReplicas setup) where
         (acknowledged b v) (record { table_is = sym table; key_is = sym key }) (sym same)
 
     write-value : (w : IsWrite sent a) (v : IsWrite sent b) → a.version ≡ b.version → a.value ≡ b.value
-    write-value w v same =
-        one.one_value (entry a w) (written a w) ∙ sym (one.one_value (entry b v)
+    write-value w v same = one.one_value (entry a w) (written a w) ∙ sym (one.one_value (entry b v)
         (subst (λ (ack : Ack). IsWritten sent a.master ack (entry b v)) (one-write w v same).1
         (subst (λ (k : ServerId). IsWritten sent k (ack b v) (entry b v)) (one-write w v same).0 (written b v))))
       where
@@ -352,20 +345,18 @@ module _ (setup : Setup) (events : List Event) (some : HasReplicas setup) where
 
     one-value : IsWrite sent a ⊎ IsRead sent a → IsWrite sent b ⊎ IsRead sent b → a.version ≡ b.version → a.value ≡ b.value
     one-value (inl w) (inl v) same = write-value w v same
-    one-value (inl w) (inr r) same = shows b r a w table key same
-    one-value (inr q) (inl v) same = sym (shows a q b v (sym table) (sym key) (sym same))
+    one-value (inl w) (inr r) same = shows b r w table key same
+    one-value (inr q) (inl v) same = sym (shows a q v (sym table) (sym key) (sym same))
     one-value (inr q) (inr r) same = by (zero-or-more b.version)
       where
         by : (b.version ≡ 0) ⊎ (b.version ≡ 0 → ⊥) → a.value ≡ b.value
         by (inl none) = none-at-zero a q (same ∙ none) ∙ sym (none-at-zero b r none)
-        by (inr above) = alike b r a q table key same above
+        by (inr above) = alike b r q table key same above
 
     -- two acknowledgements of one version are one message
     one-response : IsWrite sent a → IsWrite sent b → a.version ≡ b.version → a.response ≡ b.response
     one-response w v same = at-most-one (acks_place a.master w.seg w.offset) sent (acknowledged-once setup events a.master w.seg w.offset)
-        a.response b.response (to_outside a.master (WriteOk w.seg w.offset w.term a.table a.key a.version))
-        (to_outside b.master (WriteOk v.seg v.offset v.term b.table b.key b.version)) w.response v.response
-        (names a.master w.seg w.offset w.term a.table a.key a.version)
+        a.response b.response w.response v.response (names a.master w.seg w.offset w.term a.table a.key a.version)
         (subst (λ (k : ServerId). acks_place k w.seg w.offset
         (to_outside b.master (WriteOk v.seg v.offset v.term b.table b.key b.version)) ≡ true) one.0
         (subst (λ n. acks_place b.master n w.offset (to_outside b.master (WriteOk v.seg v.offset v.term b.table b.key b.version)) ≡ true)
@@ -378,14 +369,14 @@ module _ (setup : Setup) (events : List Event) (some : HasReplicas setup) where
 
     total : IsWrite sent a ⊎ IsRead sent a → IsWrite sent b ⊎ IsRead sent b →
         StandsBefore a b ⊎ (StandsBefore b a ⊎ (a.response ≡ b.response))
-    total one other = by (three a.version b.version)
+    total one other = by (three)
       where
         same : IsWrite sent a ⊎ IsRead sent a → IsWrite sent b ⊎ IsRead sent b → a.version ≡ b.version →
             StandsBefore a b ⊎ (StandsBefore b a ⊎ (a.response ≡ b.response))
         same (inl w) (inl v) e = inr (inr (one-response w v e))
         same (inl w) (inr r) e = inl (inr (e, r.kind, inl w.kind))
         same (inr q) (inl v) e = inr (inl (inr (sym e, q.kind, inl v.kind)))
-        same (inr q) (inr r) e = reads (three a.response b.response)
+        same (inr q) (inr r) e = reads (three)
           where
             reads : (a.response < b.response) ⊎ ((a.response ≡ b.response) ⊎ (b.response < a.response)) →
                 StandsBefore a b ⊎ (StandsBefore b a ⊎ (a.response ≡ b.response))
@@ -399,30 +390,30 @@ module _ (setup : Setup) (events : List Event) (some : HasReplicas setup) where
         by (inr (inl e)) = same one other e
         by (inr (inr more)) = inr (inl (inl more))
 
-  begins-with-none : (a : Operation) → IsWrite sent a ⊎ IsRead sent a → a.version ≡ 0 → (a.kind ≡ ARead) × (a.value ≡ None)
-  begins-with-none a (inl w) none = absurd (let more = above-zero a w in omega (arith, more, none))
-  begins-with-none a (inr r) none = (r.kind, none-at-zero a r none)
+  begins-with-none : {a : Operation} → IsWrite sent a ⊎ IsRead sent a → a.version ≡ 0 → (a.kind ≡ ARead) × (a.value ≡ None)
+  begins-with-none {a} (inl w) none = absurd (let more = above-zero a w in omega (arith, more, none))
+  begins-with-none {a} (inr r) none = (r.kind, none-at-zero a r none)
 
-  asked-for : (a : Operation) → IsWrite sent a ⊎ IsRead sent a → (a.version ≡ 0 → ⊥) → WasAskedFor sent a
-  asked-for a (inl w) above = record {
+  asked-for : {a : Operation} → IsWrite sent a ⊎ IsRead sent a → (a.version ≡ 0 → ⊥) → WasAskedFor sent a
+  asked-for {a} (inl w) above = record {
     master = a.master;
     invocation = a.invocation;
     request = w.request;
-    in_time = λ other on less. above-answered a w other (is-answered sent other on.is) on.table_is on.key_is less;
+    in_time = λ other on less. above-answered a w (is-answered on.is) on.table_is on.key_is less;
   }
-  asked-for a (inr r) above = record {
+  asked-for {a} (inr r) above = record {
     master = (came a r above).x;
     invocation = (asked a r above).number;
     request = requested a r above;
-    in_time = λ other on less. below a r above other (is-answered sent other on.is) on.table_is on.key_is less;
+    in_time = λ other on less. below a r above (is-answered on.is) on.table_is on.key_is less;
   }
 
   pub linearized : IsLinearizable sent
   linearized table key = record {
     in_time = λ a b p q before. in-time a b (p.table_is ∙ sym q.table_is) (p.key_is ∙ sym q.key_is) p.is q.is before;
     total = λ a b p q. total a b (p.table_is ∙ sym q.table_is) (p.key_is ∙ sym q.key_is) p.is q.is;
-    begins = λ a p none. begins-with-none a p.is none;
-    written = λ a p above. asked-for a p.is above;
+    begins = λ a p none. begins-with-none p.is none;
+    written = λ a p above. asked-for p.is above;
     one_value = λ a b p q same. one-value a b (p.table_is ∙ sym q.table_is) (p.key_is ∙ sym q.key_is) p.is q.is same;
   }
 
@@ -431,14 +422,14 @@ linearizable-always setup events some = linearized setup events some
 
 pub linearizable-apart : LinearizableApart
 linearizable-apart setup steps apart some =
-    subst IsLinearizable (sent-apart setup steps apart) (linearized setup (events_by steps) some)
+    subst IsLinearizable (sent-apart apart) (linearized setup (events_by steps) some)
 
 -- Each acknowledgement is the response of a write
 
 pub each-write : EachWriteIsAnOperation
 each-write setup events m ack some p = by (oks-of m (counted_places ((replay setup events).masters m).log) p.message
     (subst (In p.message) (counted-is-acknowledged setup events m)
-    (filter-in (is_ack_of m) (replay setup events).sent p.message p.among (is-ack m ack p.message p.from p.says))))
+    (filter-in (is_ack_of m) (replay setup events).sent p.message p.among (is-ack ack p.message p.from p.says))))
   where
     by : (place : LogPlace) × In place (counted_places ((replay setup events).masters m).log) × (place.client ≡ true) ×
         (p.message ≡ ok_of m place) → IsResponseOf (replay setup events).sent m ack p.message
@@ -502,12 +493,12 @@ each-write setup events m ack some p = by (oks-of m (counted_places ((replay set
         same =
             let one : slice_get (log_in ((replay setup events).masters m).log place.seg) place.offset ≡ Some made.0 = made.1 in
             let other : slice_get (log_in ((replay setup events).masters m).log place.seg) place.offset ≡ Some place.entry =
-            place-logged ((replay setup events).masters m).log place
-            (places_to-are ((replay setup events).masters m).log.segments ((replay setup events).masters m).log.head
-            counted.0 place counted.2) in
+            place-logged ((replay setup events).masters m).log
+            (places_to-are ((replay setup events).masters m).log.head
+            counted.0 counted.2) in
             cc
 
 pub each-write-apart : EachWriteIsAnOperationApart
 each-write-apart setup steps m ack apart some =
-    subst (λ (sent : List Message). (p : HasAcknowledged sent m ack) → IsResponseOf sent m ack p.message) (sent-apart setup steps apart)
+    subst (λ (sent : List Message). (p : HasAcknowledged sent m ack) → IsResponseOf sent m ack p.message) (sent-apart apart)
     (λ p. each-write setup (events_by steps) m ack some p)

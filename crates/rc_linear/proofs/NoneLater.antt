@@ -14,10 +14,10 @@ use Rattle.rc_linear.proofs.Behind.{all_old, no-plan}
 
 module _ (setup : Setup) (past rest : List Event) where
   -- a grant that was sent is remembered
-  pub owned-by : (m : ServerId) (term table key : ℕ) → WasGranted (replay setup past).sent m term table key →
+  pub owned-by : {m : ServerId} {term table key : ℕ} → WasGranted (replay setup past).sent m term table key →
       IsOwned (replay setup past).sent (replay setup past).masters (replay setup past).hosts (replay setup past).coordinator
       (all_old setup past rest) m term table key
-  owned-by m term table key p = record {
+  owned-by {m} {term} {table} {key} p = record {
     grant = r.grant;
     among = r.among;
     owner_is = same r.grant p.grant r.is p.owner_is;
@@ -41,14 +41,14 @@ module _ (setup : Setup) (past rest : List Event) where
       (all_old setup past rest) m term table key) where
     pub none-later : (grant : Granted) → IsGranted (replay setup past).sent grant → covers table key grant ≡ true →
         IsEarlier (replay setup past).sent table key term grant.term → ⊥
-    none-later grant was holds way = no-plan setup past rest m some ack p unsent gone.plan gone.accepted of_m
+    none-later grant was holds way = no-plan setup past rest m some p unsent gone.accepted of_m
       where
         r : IsRemembered (replay setup past).coordinator grant
         r = remembered (replay setup past).coordinator (replay setup past).sent (all_old setup past rest).kept.known grant
             (In-get (granted (replay setup past).sent) was.0 grant was.1)
 
         gone : IsLeft setup past rest term table key
-        gone = left setup past rest table key term grant.term (earlier-still setup past rest table key term grant.term way)
+        gone = left setup past rest (earlier-still setup past rest table key way)
             (subst (λ n. 0 < n) own.term_is ((all_old setup past rest).terms.issued own.grant own.among).0) r.grant r.among
             (ap (λ (g : Granted). g.term) (sym r.is)) (ap (covers table key) (sym r.is) ∙ holds)
 
@@ -70,7 +70,7 @@ confirmed-reads-miss-nothing setup events m before answer some read confirmed =
 
     own : IsOwned (replay setup was.past).sent (replay setup was.past).masters (replay setup was.past).hosts
         (replay setup was.past).coordinator (all_old setup was.past was.rest) m seen.term answer.table answer.key
-    own = owned-by setup was.past was.rest m seen.term answer.table answer.key seen.owned
+    own = owned-by setup was.past was.rest seen.owned
 
     acknowledged : HasAcknowledged (replay setup (was.past ++ was.rest)).sent m confirmed.ack
     acknowledged = subst (λ (all : List Event). HasAcknowledged (replay setup all).sent m confirmed.ack) (sym was.whole)
@@ -106,4 +106,4 @@ confirmed-reads-miss-nothing setup events m before answer some read confirmed =
             its = owner (replay setup was.past).sent (replay setup was.past).masters (replay setup was.past).hosts
                 (replay setup was.past).coordinator (all_old setup was.past was.rest) x ack
                 (acked (replay setup was.past).sent (replay setup was.past).masters (replay setup was.past).hosts
-                (replay setup was.past).coordinator (all_old setup was.past was.rest) x ack p)
+                (replay setup was.past).coordinator (all_old setup was.past was.rest) p)

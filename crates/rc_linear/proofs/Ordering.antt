@@ -26,17 +26,17 @@ use Rattle.rc_linear.proofs.Following.{reads-follow-time, writes-follow-reads, r
 
 -- Tests of lists
 
-any-in : {X : Type 0} (test : X → Bool) (xs : List X) → list_any test xs ≡ true → (x : X) × In x xs × (test x ≡ true)
-any-in test [] e = true_false (sym e)
-any-in {X} test (y ∷ xs) e = by (test y) refl (any-in test xs) e
+any-in : {X : Type 0} {test : X → Bool} (xs : List X) → list_any test xs ≡ true → (x : X) × In x xs × (test x ≡ true)
+any-in [] e = true_false (sym e)
+any-in {X} {test} (y ∷ xs) e = by (test y) refl (any-in xs) e
   where
     by : (b : Bool) → test y ≡ b → (list_any test xs ≡ true → (x : X) × In x xs × (test x ≡ true)) →
         (b || list_any test xs) ≡ true → (x : X) × ((x ≡ y) ⊎ In x xs) × (test x ≡ true)
     by true is rec e = (y, inl refl, is)
     by false isn't rec e = (let found = rec e in (found.0, inr found.1, found.2))
 
-both-of : (a b : Bool) → (a && b) ≡ true → (a ≡ true) × (b ≡ true)
-both-of a b e = and_parts a b e
+both-of : {a b : Bool} → (a && b) ≡ true → (a ≡ true) × (b ≡ true)
+both-of {a} {b} e = and_parts a b e
 
 none-is : (b : Bool) → not b ≡ true → b ≡ false
 none-is true e = true_false (sym e)
@@ -44,9 +44,9 @@ none-is false e = refl
 
 -- What was begun
 
-begun-false : (before : List Message) (x : ServerId) (ack : Ack) → has_begun before (x, ack) ≡ false →
+begun-false : {before : List Message} {x : ServerId} (ack : Ack) → has_begun before (x, ack) ≡ false →
     HasSentFor before x ack.seg ack.offset → ⊥
-begun-false before x ack none (entry, was) = by (made before x ack.seg ack.offset)
+begun-false {before} {x} ack none (entry, was) = by (made before x ack.seg ack.offset)
     (HasMade-in before x ack.seg ack.offset entry was) none
   where
     by : (entries : List Entry) → In entry entries → is_some_entry entries ≡ false → ⊥
@@ -102,8 +102,8 @@ module _ (setup : Setup) (events : List Event) (some : HasReplicas setup) (misse
 
   module _ (m : ServerId) (before : List Message) (one : Shown) (read : HasRead sent m before (answer-of one)) where
     -- what was shown before it was a read, answered before it
-    earlier : (other : Shown) (p : WasShown before other) → HasRead sent p.m p.before (answer-of other) × (length p.before < length before)
-    earlier other p = (
+    earlier : {other : Shown} (p : WasShown before other) → HasRead sent p.m p.before (answer-of other) × (length p.before < length before)
+    earlier p = (
       record {
         message = p.message;
         after = p.after ++ read.message ∷ read.after;
@@ -118,28 +118,27 @@ module _ (setup : Setup) (events : List Event) (some : HasReplicas setup) (misse
     )
 
     followed : list_all (is_followed before one) (acks_of sent) ≡ true
-    followed = all-from (is_followed before one) (acks_of sent) each
+    followed = all-from (acks_of sent) each
       where
         each : (it : ServerId × Ack) → In it (acks_of sent) → is_followed before one it ≡ true
-        each (x, ack) at = where-from (is_of_key one.table one.key ack) (has_begun before (x, ack) || nat_lt one.version ack.version)
-            (λ of. else-from (has_begun before (x, ack)) (nat_lt one.version ack.version)
+        each (x, ack) at = where-from (is_of_key one.table one.key ack) (λ of. else-from (has_begun before (x, ack))
             (λ none. lt-ltb one.version ack.version
             (writes setup events m x before (answer-of one) ack (some m.index) (some x.index) read (acks-say sent x ack at)
-            (of-key one.table one.key ack of) (begun-false before x ack none))))
+            (of-key of) (begun-false ack none))))
 
     same-key : (other : Shown) → is_same_key other one ≡ true → (other.table ≡ one.table) × (other.key ≡ one.key)
     same-key other e = (let both = and_parts (nat_eq other.table one.table) (nat_eq other.key one.key) e in
         (eqb-true other.table one.table both.0, eqb-true other.key one.key both.1))
 
     alike : list_all (is_alike one) (shown_of before) ≡ true
-    alike = all-from (is_alike one) (shown_of before) (λ other at.
-        where-from (is_same_key other one && nat_eq other.version one.version) (same_value other.value one.value)
+    alike = all-from (shown_of before) (λ other at.
+        where-from (is_same_key other one && nat_eq other.version one.version)
         (λ e. let both = and_parts (is_same_key other one) (nat_eq other.version one.version) e in
         let keys = same-key other both.0 in
         let p : WasShown before other = was-shown before other at in
-        same_value-from other.value one.value
+        same_value-from
         (values setup events p.m m p.before before (answer-of other) (answer-of one) (some p.m.index) (some m.index)
-        (earlier other p).0 read keys.0 keys.1 (eqb-true other.version one.version both.1))))
+        (earlier p).0 read keys.0 keys.1 (eqb-true other.version one.version both.1))))
 
     -- where it is confirmed
     module _ (found : (it : ServerId × Ack) × In it (acks_of sent) × ((same_id m it.0 && not (has_begun before it)) ≡ true)) where
@@ -155,33 +154,30 @@ module _ (setup : Setup) (events : List Event) (some : HasReplicas setup) (misse
                 ack = ack;
                 acknowledged = subst (λ (y : ServerId). HasAcknowledged sent y ack) (sym here) (acks-say sent x ack at);
                 unsent = subst (λ (y : ServerId). HasSentFor before y ack.seg ack.offset → ⊥) (sym here)
-                    (begun-false before x ack (none-is (has_begun before (x, ack)) both.1));
+                    (begun-false ack (none-is (has_begun before (x, ack)) both.1));
               }
 
       no-acks-missed : list_all (λ ack. is_no_more one.table one.key one.version ack.1) (acks_of before) ≡ true
-      no-acks-missed = all-from (λ ack. is_no_more one.table one.key one.version ack.1) (acks_of before) each
+      no-acks-missed = all-from (acks_of before) each
         where
           seen : MissesNothing m before (answer-of one)
           seen = misses setup events m before (answer-of one) (some m.index) read confirmed
 
           each : (it : ServerId × Ack) → In it (acks_of before) → is_no_more one.table one.key one.version it.1 ≡ true
-          each (x, ack) at = no-more one.table one.key one.version ack (λ of. seen.all x ack (acks-say before x ack at) of)
+          each (x, ack) at = no-more (λ of. seen.all x ack (acks-say before x ack at) of)
 
       no-reads-missed : list_all (is_no_less one) (shown_of before) ≡ true
-      no-reads-missed = all-from (is_no_less one) (shown_of before) (λ other at.
-          where-from (is_same_key other one) (nat_le other.version one.version)
-          (λ e. let keys = same-key other e in
+      no-reads-missed = all-from (shown_of before) (λ other at.
+          where-from (is_same_key other one) (λ e. let keys = same-key other e in
           let p : WasShown before other = was-shown before other at in
           le-leb other.version one.version
           (follow setup events p.m m p.before before (answer-of other) (answer-of one) (some p.m.index) (some m.index)
-          (earlier other p).0 read confirmed keys.0 keys.1 (earlier other p).1)))
+          (earlier p).0 read confirmed keys.0 keys.1 (earlier p).1)))
 
     in-order : is_in_order sent before m one ≡ true
-    in-order =
-        and_from (list_all (is_followed before one) (acks_of sent)) _ followed
-        (and_from (list_all (is_alike one) (shown_of before)) _ alike
-        (where-from (is_confirmed sent before m) _ (λ e.
-        let found = any-in (λ it. same_id m it.0 && not (has_begun before it)) (acks_of sent) e in
+    in-order = and_from (list_all (is_followed before one) (acks_of sent)) _ followed
+        (and_from (list_all (is_alike one) (shown_of before)) _ alike (where-from (is_confirmed sent before m) (λ e.
+        let found = any-in (acks_of sent) e in
         and_from (list_all (λ ack. is_no_more one.table one.key one.version ack.1) (acks_of before)) _ (no-acks-missed found)
         (no-reads-missed found))))
 

@@ -74,7 +74,7 @@ module _ (sent : List Message) (masters : ServerId → Master) (hosts : ℕ → 
       by (inl here) rec =
           let found = place_of (take row.len (log_in (masters task.master).log row.seg)) entry
           (subst (In entry) (row-made sent masters hosts c all x task row at (among row (inl refl))) here) in
-          let got = get-take row.len (log_in (masters task.master).log row.seg) found.0 entry found.1 in
+          let got = get-take row.len (log_in (masters task.master).log row.seg) found.0 found.1 in
           record { row = row; among = among row (inl refl); offset = found.0; below = got.0; holds = got.1 }
       by (inr rest) rec = rec rest
 
@@ -97,11 +97,10 @@ module _ (sent : List Message) (masters : ServerId → Master) (hosts : ℕ → 
   }
     where
       begins : Begins (under r.state.part.term (logged before) ++ place.entry ∷ []) (map (under_term r.state.part.term) p.entries)
-      begins = replayed-begins sent masters hosts c all m before after place whole r task p
+      begins = replayed-begins sent masters hosts c all after place whole r p
 
       found : (was : Entry) × (In was p.entries) × (place.entry ≡ under_term r.state.part.term was)
-      found = In-map (under_term r.state.part.term) place.entry p.entries
-          (subst (In place.entry) begins.1
+      found = In-map (under_term r.state.part.term) place.entry p.entries (subst (In place.entry) begins.1
           (In-left place.entry (under r.state.part.term (logged before) ++ place.entry ∷ []) begins.0
           (In-right place.entry (under r.state.part.term (logged before)) (place.entry ∷ []) (inl refl))))
 
@@ -119,20 +118,20 @@ module _ (sent : List Message) (masters : ServerId → Master) (hosts : ℕ → 
   Found m term = (s o : ℕ) (entry : Entry) → slice_get (log_in (masters m).log s) o ≡ Some entry → entry.term ≡ term → (grant : Grant) →
       In grant c.grants → m ≡ grant.owner → grant.term ≡ term → in_range grant.range entry.table entry.key ≡ true → Origin m s o entry
 
-  origin-by : (m : ServerId) (term : ℕ) → ((k : ServerId) (old : ℕ) → old < term → Found k old) → Found m term
-  origin-by m term rec s o entry here term_is grant granted owner_is grant_term holds = by one.0.1 refl
+  origin-by : {m : ServerId} {term : ℕ} → ((k : ServerId) (old : ℕ) → old < term → Found k old) → Found m term
+  origin-by {m} {term} rec s o entry here term_is grant granted owner_is grant_term holds = by one.0.1 refl
     where
       at : (0 < s) × (s ≤ (masters m).log.head)
-      at = opened sent masters hosts c all m s o entry here
+      at = opened sent masters hosts c all o here
 
       one : (it : Entry × Bool) × (slice_get ((masters m).log.segments s).entries o ≡ Some it) × (it.0 ≡ entry)
-      one = get-map (λ (it : Entry × Bool). it.0) ((masters m).log.segments s).entries o entry here
+      one = get-map ((masters m).log.segments s).entries o here
 
       place : LogPlace
       place = record { seg = s; offset = o; entry = one.0.0; client = one.0.1 }
 
       among : In (record { seg = s; offset = o; entry = one.0.0; client = one.0.1 }) (places_of (masters m).log)
-      among = place-at (masters m).log.segments (masters m).log.head s o one.0 at.0 at.1 one.1
+      among = place-at (masters m).log.segments (masters m).log.head o at.0 at.1 one.1
 
       split : Stands place (places_of (masters m).log)
       split = stands place (places_of (masters m).log) among
@@ -172,7 +171,7 @@ module _ (sent : List Message) (masters : ServerId → Master) (hosts : ℕ → 
               previous_is = ap (λ (p : Part). p.previous) same_part ∙ sym from.previous_is
 
               master_is : part.task.master ≡ from.master
-              master_is = (decided-same c.attempts grant.attempt part.task.master from.master of_task.decision from.decision
+              master_is = (decided-same
                   (subst (λ n. IsDecided c.attempts n part.task.master of_task.decision) once.0 of_task.decided) from.decided).0
 
               before : IsGrantedTo c.grants from.master grant.previous entry.table entry.key
@@ -263,11 +262,11 @@ module _ (sent : List Message) (masters : ServerId → Master) (hosts : ℕ → 
           joined of (inl p) = absurd (p.some r.rows)
           joined of (inr p) = handed r of (taken m split.before split.after place split.whole r of.task of.among of.part_is p)
 
-  origin-below : (bound : ℕ) (m : ServerId) (term : ℕ) → term < bound → Found m term
-  origin-below zero m term less = absurd (omega (arith, less))
-  origin-below (suc bound) m term less = origin-by m term (λ k old below. origin-below bound k old (omega (arith, below, less)))
+  origin-below : (bound : ℕ) {m : ServerId} {term : ℕ} → term < bound → Found m term
+  origin-below zero less = absurd (omega (arith, less))
+  origin-below (suc bound) less = origin-by (λ k old below. origin-below bound (omega (arith, below, less)))
 
-  pub origin : (m : ServerId) (s o : ℕ) (entry : Entry) → slice_get (log_in (masters m).log s) o ≡ Some entry → (grant : Grant) →
+  pub origin : {m : ServerId} {s o : ℕ} {entry : Entry} → slice_get (log_in (masters m).log s) o ≡ Some entry → (grant : Grant) →
       In grant c.grants → m ≡ grant.owner → grant.term ≡ entry.term → in_range grant.range entry.table entry.key ≡ true →
       Origin m s o entry
-  origin m s o entry here = origin-below (suc entry.term) m entry.term (omega arith) s o entry here refl
+  origin {s} {o} {entry} here = origin-below (suc entry.term) (omega arith) s o entry here refl

@@ -33,9 +33,9 @@ record FirstStep (grants : List Granted) (earlier later : ℕ) : Type 0 where
   previous_is : one.previous ≡ earlier
   rest : (one.term ≡ later) ⊎ IsBefore grants one.term later
 
-first-step : (grants : List Granted) (earlier later : ℕ) → IsBefore grants earlier later → FirstStep grants earlier later
-first-step grants earlier later (previous k one e) = record { index = k; one = one; at = e; previous_is = refl; rest = inl refl }
-first-step grants earlier later (onward from k one e way) = further (first-step grants from one.previous way)
+first-step : {grants : List Granted} {earlier later : ℕ} → IsBefore grants earlier later → FirstStep grants earlier later
+first-step (previous k one e) = record { index = k; one = one; at = e; previous_is = refl; rest = inl refl }
+first-step {grants} (onward from k one e way) = further (first-step way)
   where
     further : FirstStep grants from one.previous → FirstStep grants from one.term
     further p = record { index = p.index; one = p.one; at = p.at; previous_is = p.previous_is; rest = by p.rest }
@@ -54,13 +54,13 @@ module _ (sent : List Message) (masters : ServerId → Master) (hosts : ℕ → 
     term_is : grant.term ≡ later
     upto : earlier ≤ grant.previous
 
-  last-step : (earlier later : ℕ) → IsEarlier sent table key earlier later → LastStep earlier later
-  last-step earlier later (previous k one e) =
-      let p = at-point sent masters hosts c all MayFree (covers-anyhow sent masters hosts c all) table key k one e in
+  last-step : {earlier later : ℕ} → IsEarlier sent table key earlier later → LastStep earlier later
+  last-step (previous k one e) =
+      let p = at-point sent masters hosts c all MayFree (covers-anyhow sent masters hosts c all) table key k e in
       let same : one.previous ≡ p.0.previous = ap (λ (g : Granted). g.previous) p.2 in
       record { grant = p.0; among = p.1; term_is = sym (ap (λ (g : Granted). g.term) p.2); upto = omega (arith, same) }
-  last-step earlier later (onward from k one e way) =
-      let p = at-point sent masters hosts c all MayFree (covers-anyhow sent masters hosts c all) table key k one e in
+  last-step (onward from k one e way) =
+      let p = at-point sent masters hosts c all MayFree (covers-anyhow sent masters hosts c all) table key k e in
       let same : one.previous ≡ p.0.previous = ap (λ (g : Granted). g.previous) p.2 in
       let less : from < one.previous = earlier-less sent c all.grants all.kept table key from one.previous way in
       record { grant = p.0; among = p.1; term_is = sym (ap (λ (g : Granted). g.term) p.2); upto = omega (arith, same, less) }
@@ -72,16 +72,16 @@ module _ (sent : List Message) (masters : ServerId → Master) (hosts : ℕ → 
   not-both : (one other : Grant) → In one c.grants → In other c.grants → in_range one.range table key ≡ true →
       one.previous ≡ other.previous → IsEarlier sent table key one.term other.term → ⊥
   not-both one other in_one in_other holds same way =
-      let last : LastStep one.term other.term = last-step one.term other.term way in
+      let last : LastStep one.term other.term = last-step way in
       let is : last.grant.previous ≡ other.previous = ap (λ (g : Grant). g.previous)
       (all.terms.grant_once last.grant other last.among in_other last.term_is) in
       let less : one.previous < one.term = rises one in_one holds in
       absurd (omega (arith, last.upto, is, same, less))
 
   -- after one term comes one grant
-  pub one-after : (one other : Grant) → In one c.grants → In other c.grants → in_range one.range table key ≡ true →
+  pub one-after : {one other : Grant} → In one c.grants → In other c.grants → in_range one.range table key ≡ true →
       in_range other.range table key ≡ true → one.previous ≡ other.previous → one ≡ other
-  one-after one other in_one in_other one_holds other_holds same =
+  one-after {one} {other} in_one in_other one_holds other_holds same =
       by (one-chain sent c all.grants all.kept table key (granted_of one) (granted_of other)
       (was-granted sent masters hosts c all one in_one) one_holds (was-granted sent masters hosts c all other in_other) other_holds)
     where
@@ -132,19 +132,19 @@ module _ (setup : Setup) (early gap rest : List Event) (m x : ServerId) (some_x 
     not-handed h way = from_origin ((all_old setup early gap).terms.origin then.0 then.1)
       where
         f : FirstStep (grants_of new.sent one.table one.key) o.place.entry.term one.term
-        f = first-step (grants_of new.sent one.table one.key) o.place.entry.term one.term way
+        f = first-step {grants = (grants_of new.sent one.table one.key)} {earlier = o.place.entry.term} {later = one.term} way
 
         at : (grant : Grant) × (In grant new.coordinator.grants) × (f.one ≡ granted_of grant)
             × (in_range grant.range one.table one.key ≡ true)
         at = at-point new.sent new.masters new.hosts new.coordinator (all_new setup early gap) MayFree
-            (covers-anyhow new.sent new.masters new.hosts new.coordinator (all_new setup early gap)) one.table one.key f.index f.one f.at
+            (covers-anyhow new.sent new.masters new.hosts new.coordinator (all_new setup early gap)) one.table one.key f.index {one = f.one} f.at
 
         h_holds : in_range h.grant.range one.table one.key ≡ true
         h_holds = subst (λ k. in_range h.grant.range one.table k ≡ true) keys
             (subst (λ t. in_range h.grant.range t entry.key ≡ true) tables h.holds)
 
         is : at.0 ≡ h.grant
-        is = one-after new.sent new.masters new.hosts new.coordinator (all_new setup early gap) one.table one.key at.0 h.grant at.1 h.among
+        is = one-after new.sent new.masters new.hosts new.coordinator (all_new setup early gap) one.table one.key {one = at.0} {other = h.grant} at.1 h.among
             at.3 h_holds (sym (ap (λ (g : Granted). g.previous) at.2) ∙ f.previous_is ∙ sym h.previous)
 
         above_zero : 0 < o.place.entry.term
@@ -163,7 +163,7 @@ module _ (setup : Setup) (early gap rest : List Event) (m x : ServerId) (some_x 
             by (inl same) = (s.owned.grant, s.owned.among, s.owned.term_is ∙ sym same ∙ term_of_first)
             by (inr more) =
                 let gone : IsLeft setup early gap f.one.term one.table one.key =
-                left setup early gap one.table one.key f.one.term one.term more
+                left setup early gap {table = one.table} {key = one.key} {earlier = f.one.term} {last = one.term} more
                 (subst (λ n. 0 < n) (sym term_of_first) ((all_new setup early gap).terms.issued h.grant h.among).0)
                 s.owned.grant s.owned.among s.owned.term_is s.owned.holds in
                 (gone.granted.grant, gone.granted.among, gone.granted.term_is ∙ term_of_first)
@@ -178,7 +178,7 @@ module _ (setup : Setup) (early gap rest : List Event) (m x : ServerId) (some_x 
             absurd (omega (arith, none, h.previous, above_zero))
         from_origin (inr given) = unsent (subst (λ k. HasSentFor (replay setup early).sent k o.place.seg o.place.offset)
             (ap (λ (plan : Accepted). plan.master) (sym same_plan) ∙ h.master)
-            (held-sent_to setup early gap plan accepted o.place.seg o.place.offset
+            (held-sent_to setup early gap {plan = plan} accepted {s = o.place.seg} {o = o.place.offset}
             (subst (λ (one : Accepted). Rattle.rc_model.specs.Headline.IsHeld one.rows o.place.seg o.place.offset) same_plan h.held)
             o.place.offset (omega arith)))
           where
@@ -199,16 +199,15 @@ module _ (setup : Setup) (early gap rest : List Event) (m x : ServerId) (some_x 
                 (replay setup early).coordinator (all_old setup early gap) then.0.owner st.task st.task_among).accepted
 
             same_plan : h.plan ≡ record { attempt = st.task.attempt; master = st.task.master; rows = st.task.rows }
-            same_plan = one-plan new.sent new.masters new.hosts new.coordinator (all_new setup early gap).good h.plan
-                (record { attempt = st.task.attempt; master = st.task.master; rows = st.task.rows }) h.accepted
+            same_plan = one-plan {sent = new.sent} {masters = new.masters} {hosts = new.hosts} {c = new.coordinator} (all_new setup early gap).good {one = h.plan}
+                {other = (record { attempt = st.task.attempt; master = st.task.master; rows = st.task.rows })} h.accepted
                 (record {
                   message = accepted.message;
-                  among = (later-of setup early gap m).more accepted.message accepted.among;
+                  among = (later-of setup early gap {m = m}).more accepted.message accepted.among;
                   head = accepted.head;
                   parts = accepted.parts;
                   says = accepted.says;
-                })
-                (h.attempt ∙ ap (λ (g : Grant). g.attempt) (sym same_grant) ∙ sym st.attempt_is)
+                }) (h.attempt ∙ ap (λ (g : Grant). g.attempt) (sym same_grant) ∙ sym st.attempt_is)
 
     pub below-shown : factor_of setup o.x.index ≢ 0 → one.version < entry.version
     below-shown some = subst (λ n. one.version < n) o.version_is
@@ -236,7 +235,7 @@ module _ (setup : Setup) (early gap rest : List Event) (m x : ServerId) (some : 
       (all-world setup past) x seg offset entry) →
       (HasSentFor (replay setup early).sent o.x o.place.seg o.place.offset → ⊥) → one.version < entry.version
 
-  pub below-at : (past : List Event) → early ++ gap ≡ past → Claim past
-  below-at past whole = subst Claim whole
+  pub below-at : {past : List Event} → early ++ gap ≡ past → Claim past
+  below-at whole = subst Claim whole
       (λ owns found p unsent_ack term_is tables keys o unsent. below-shown setup early gap rest m x (some x.index) one s term version value
       owns found ack p unsent_ack seg offset entry term_is tables keys o unsent (some o.x.index))

@@ -85,16 +85,14 @@ module _ (setup : Setup) (past gap rest : List Event) (m x : ServerId) (table ke
     under-later-term way = by k.keeps.kept
       where
         k : IsKeptThen setup (past ++ gap) rest x two.term table key high other two.owns two.found shown.entry
-        k = kept-then setup (past ++ gap) rest x two.term table key high other two.owns two.found m shown.stood.seg shown.stood.offset
-            shown.entry
-            ((later-of setup (past ++ gap) rest m).safe shown.stood.seg shown.stood.offset
-            ((later-of setup past gap m).safe shown.stood.seg shown.stood.offset shown.stood.safe))
-            (get-log now.sent m (then.masters m).log (now.masters m).log (later-of setup (past ++ gap) rest m).later
+        k = kept-then setup (past ++ gap) rest x two.term table key high other two.owns two.found
+            ((later-of setup (past ++ gap) rest).safe shown.stood.seg shown.stood.offset
+            ((later-of setup past gap).safe shown.stood.seg shown.stood.offset shown.stood.safe))
+            (get-log now.sent m (then.masters m).log (now.masters m).log (later-of setup (past ++ gap) rest).later
             shown.stood.seg shown.stood.offset shown.entry
-            (get-log then.sent m ((replay setup past).masters m).log (then.masters m).log (later-of setup past gap m).later
+            (get-log then.sent m ((replay setup past).masters m).log (then.masters m).log (later-of setup past gap).later
             shown.stood.seg shown.stood.offset shown.entry shown.stood.holds))
-            shown.table_is shown.key_is
-            (earlier-still setup (past ++ gap) rest table key shown.entry.term two.term
+            shown.table_is shown.key_is (earlier-still setup (past ++ gap) rest table key
             (subst (λ n. IsEarlier then.sent table key n two.term) (sym shown.term_is) way))
 
         enough : k.entry.version ≤ high
@@ -155,18 +153,18 @@ module _ (setup : Setup) (past rest early since : List Event) (whole : early ++ 
 
   first_safe : IsSafe world.sent m (world.masters m).log first.stood.seg first.stood.offset
   first_safe = subst (λ (l : List Event). IsSafe (replay setup l).sent m ((replay setup l).masters m).log first.stood.seg
-      first.stood.offset) whole ((later-of setup early since m).safe first.stood.seg first.stood.offset first.stood.safe)
+      first.stood.offset) whole ((later-of setup early since).safe first.stood.seg first.stood.offset first.stood.safe)
 
   first_holds : slice_get (log_in (world.masters m).log first.stood.seg) first.stood.offset ≡ Some first.entry
   first_holds = subst (λ (l : List Event). slice_get (log_in ((replay setup l).masters m).log first.stood.seg) first.stood.offset
       ≡ Some first.entry) whole
       (get-log (replay setup (early ++ since)).sent m ((replay setup early).masters m).log ((replay setup (early ++ since)).masters m).log
-      (later-of setup early since m).later first.stood.seg first.stood.offset first.entry first.stood.holds)
+      (later-of setup early since).later first.stood.seg first.stood.offset first.entry first.stood.holds)
 
-  second_holds : (seg offset : ℕ) (entry : Entry) → slice_get (log_in ((replay setup past).masters x).log seg) offset ≡ Some entry →
+  second_holds : (seg offset : ℕ) {entry : Entry} → slice_get (log_in ((replay setup past).masters x).log seg) offset ≡ Some entry →
       slice_get (log_in (world.masters x).log seg) offset ≡ Some entry
-  second_holds seg offset entry = get-log world.sent x ((replay setup past).masters x).log (world.masters x).log
-      (later-of setup past rest x).later seg offset entry
+  second_holds seg offset {entry} = get-log world.sent x ((replay setup past).masters x).log (world.masters x).log
+      (later-of setup past rest).later seg offset entry
 
   first_granted : In first.stood.owned.grant world.coordinator.grants
   first_granted = subst (λ (l : List Event). In first.stood.owned.grant (replay setup l).coordinator.grants) whole
@@ -180,8 +178,7 @@ module _ (setup : Setup) (past rest early since : List Event) (whole : early ++ 
   alike-over way = by k.keeps.kept
     where
       k : IsKeptThen setup past rest x two.term table key version other two.owns two.found first.entry
-      k = kept-then setup past rest x two.term table key version other two.owns two.found m first.stood.seg first.stood.offset
-          first.entry first_safe first_holds first.table_is first.key_is
+      k = kept-then setup past rest x two.term table key version other two.owns two.found first_safe first_holds first.table_is first.key_is
           (subst (λ n. IsEarlier world.sent table key n two.term) (sym first.term_is) way)
 
       enough : k.entry.version ≤ version
@@ -196,9 +193,9 @@ module _ (setup : Setup) (past rest early since : List Event) (whole : early ++ 
       by (inr (_, less)) = absurd (omega (arith, less, enough, first.version_is))
       by (inl same) =
           let is : k.entry ≡ second.entry = one-a-version world.sent world.masters world.hosts world.coordinator all x
-          at.place.seg at.place.offset second.stood.seg second.stood.offset k.entry second.entry
-          (second_holds at.place.seg at.place.offset k.entry at.holds)
-          (second_holds second.stood.seg second.stood.offset second.entry second.stood.holds)
+          at.place.seg at.place.offset second.stood.seg second.stood.offset
+          (second_holds at.place.seg at.place.offset at.holds)
+          (second_holds second.stood.seg second.stood.offset second.stood.holds)
           (k.term_is ∙ sym second.term_is) (k.keeps.table_is ∙ first.table_is ∙ sym second.table_is)
           (k.keeps.key_is ∙ first.key_is ∙ sym second.key_is) (same.0 ∙ first.version_is ∙ sym second.version_is) in
           sym first.value_is ∙ sym same.1 ∙ ap (λ (entry : Entry). entry.value) is ∙ second.value_is
@@ -209,10 +206,9 @@ module _ (setup : Setup) (past rest early since : List Event) (whole : early ++ 
       (all.terms.grant_once first.stood.owned.grant second.stood.owned.grant first_granted second_granted same)
       ∙ sym second.stood.owned.owner_is in
       let is : first.entry ≡ second.entry = one-a-version world.sent world.masters world.hosts world.coordinator all x
-      first.stood.seg first.stood.offset second.stood.seg second.stood.offset first.entry second.entry
+      first.stood.seg first.stood.offset second.stood.seg second.stood.offset
       (subst (λ (k : ServerId). slice_get (log_in (world.masters k).log first.stood.seg) first.stood.offset ≡ Some first.entry) own
-      first_holds)
-      (second_holds second.stood.seg second.stood.offset second.entry second.stood.holds)
+      first_holds) (second_holds second.stood.seg second.stood.offset second.stood.holds)
       (sym first.stood.owned.term_is ∙ same ∙ second.stood.owned.term_is) (first.table_is ∙ sym second.table_is)
       (first.key_is ∙ sym second.key_is) (first.version_is ∙ sym second.version_is) in
       sym first.value_is ∙ ap (λ (entry : Entry). entry.value) is ∙ second.value_is
@@ -240,10 +236,10 @@ module _ (setup : Setup) (past rest early since : List Event) (whole : early ++ 
       by (inr (inr way)) = later (subst (λ n. IsEarlier world.sent table key n one.term) (second.stood.owned.term_is ∙ second.term_is)
           (subst (λ n. IsEarlier world.sent table key second.stood.owned.grant.term n) (first.stood.owned.term_is ∙ first.term_is) way))
 
-pub reads-alike : (setup : Setup) (past rest early since : List Event) → early ++ since ≡ past ++ rest → (m x : ServerId) →
-    (table key version : ℕ) → factor_of setup m.index ≢ 0 → factor_of setup x.index ≢ 0 → (value other : Option (List ℕ)) →
+pub reads-alike : {setup : Setup} {past : List Event} (rest : List Event) {early : List Event} (since : List Event) → early ++ since ≡ past ++ rest → {m x : ServerId} →
+    {table key version : ℕ} → factor_of setup m.index ≢ 0 → factor_of setup x.index ≢ 0 → {value other : Option (List ℕ)} →
     Finds setup early m table key version value → Finds setup past x table key version other → (version ≡ 0 → ⊥) → value ≡ other
-reads-alike setup past rest early since whole m x table key version some_m some_x value other one two above =
+reads-alike {setup} {past} rest {early} since whole {m} {x} {table} {key} {version} some_m some_x {value} {other} one two above =
     alike-or setup past rest early since whole m x table key version some_m some_x value other one two above
     (λ way. sym (alike-over setup early since past rest (sym whole) x m table key version some_x some_m other value two one
     above (subst (λ (l : List Event). IsEarlier (replay setup l).sent table key two.term one.term) (sym whole) way)))

@@ -17,21 +17,21 @@ use Rattle.rc_linear.proofs.Stood.{Stood, IsShowing, acked-stood, shown-stood}
 
 -- Lists
 
-pub take-get : {X : Type 0} (n k : ℕ) (xs : List X) (x : X) → k < n → slice_get xs k ≡ Some x → slice_get (take n xs) k ≡ Some x
-take-get zero k xs x less e = absurd (omega (arith, less))
-take-get (suc n) k [] x less e = cc
-take-get (suc n) zero (y ∷ xs) x less e = e
-take-get (suc n) (suc k) (y ∷ xs) x less e = take-get n k xs x (omega (arith, less)) e
+pub take-get : {X : Type 0} (n k : ℕ) (xs : List X) {x : X} → k < n → slice_get xs k ≡ Some x → slice_get (take n xs) k ≡ Some x
+take-get zero k xs less e = absurd (omega (arith, less))
+take-get (suc n) k [] less e = cc
+take-get (suc n) zero (y ∷ xs) less e = e
+take-get (suc n) (suc k) (y ∷ xs) less e = take-get n k xs (omega (arith, less)) e
 
 pub take-length : {X : Type 0} (n : ℕ) (xs : List X) → n ≤ length xs → length (take n xs) ≡ n
 take-length zero xs less = refl
 take-length (suc n) [] less = absurd (omega (arith, less))
 take-length (suc n) (y ∷ xs) less = (let rest : length (take n xs) ≡ n = take-length n xs (omega (arith, less)) in omega (arith, rest))
 
-pub split-at : {X : Type 0} (n : ℕ) (xs : List X) (x : X) → slice_get xs n ≡ Some x → xs ≡ take n xs ++ x ∷ drop (suc n) xs
-split-at n [] x e = cc
-split-at zero (y ∷ xs) x e = (let same : y ≡ x = cc in ap (λ z. z ∷ xs) same)
-split-at (suc n) (y ∷ xs) x e = ap (λ l. y ∷ l) (split-at n xs x e)
+pub split-at : {X : Type 0} (n : ℕ) (xs : List X) {x : X} → slice_get xs n ≡ Some x → xs ≡ take n xs ++ x ∷ drop (suc n) xs
+split-at n [] e = cc
+split-at zero (y ∷ xs) {x} e = (let same : y ≡ x = cc in ap (λ z. z ∷ xs) same)
+split-at (suc n) (y ∷ xs) e = ap (λ l. y ∷ l) (split-at n xs e)
 
 -- of two beginnings of one list the one is a beginning of the other
 pub which-begins : {X : Type 0} (xs r ys s : List X) → xs ++ r ≡ ys ++ s →
@@ -56,9 +56,9 @@ In-take-more (suc n) (suc k) [] x less at = at
 In-take-more (suc n) (suc k) (y ∷ xs) x less (inl e) = inl e
 In-take-more (suc n) (suc k) (y ∷ xs) x less (inr rest) = inr (In-take-more n k xs x (omega (arith, less)) rest)
 
-pub sent-more : (n k : ℕ) (sent : List Message) (m : ServerId) (s o : ℕ) → n ≤ k → HasSentFor (take n sent) m s o →
+pub sent-more : {n k : ℕ} (sent : List Message) {m : ServerId} {s o : ℕ} → n ≤ k → HasSentFor (take n sent) m s o →
     HasSentFor (take k sent) m s o
-sent-more n k sent m s o less (entry, made) = (
+sent-more {n} {k} sent less (entry, made) = (
   entry,
   record {
     message = made.message;
@@ -84,27 +84,27 @@ pub data IsAnswered (sent : List Message) (op : Operation) : Type 0 where
       ≡ Some (to_outside op.master (WriteOk seg offset term op.table op.key op.version)) → IsAnswered sent op
   shown : slice_get sent op.response ≡ Some (to_outside op.master (ReadOk op.table op.key op.version op.value)) → IsAnswered sent op
 
-pub is-answered : (sent : List Message) (op : Operation) → IsWrite sent op ⊎ IsRead sent op → IsAnswered sent op
-is-answered sent op (inl w) = written w.seg w.offset w.term w.response
-is-answered sent op (inr r) = shown r.response
+pub is-answered : {sent : List Message} {op : Operation} → IsWrite sent op ⊎ IsRead sent op → IsAnswered sent op
+is-answered (inl w) = written w.seg w.offset w.term w.response
+is-answered (inr r) = shown r.response
 
-pub answered-number : (sent : List Message) (op : Operation) → IsAnswered sent op → op.response < length sent
-answered-number sent op (written seg offset term e) = get-within sent op.response _ e
-answered-number sent op (shown e) = get-within sent op.response _ e
+pub answered-number : {sent : List Message} {op : Operation} → IsAnswered sent op → op.response < length sent
+answered-number {sent} {op} (written seg offset term e) = get-within sent op.response e
+answered-number {sent} {op} (shown e) = get-within sent op.response e
 
-pub answered-first : (n : ℕ) (sent : List Message) (op : Operation) → op.response < n → IsAnswered sent op → IsAnswered (take n sent) op
-answered-first n sent op less (written seg offset term e) = written seg offset term (take-get n op.response sent _ less e)
-answered-first n sent op less (shown e) = shown (take-get n op.response sent _ less e)
+pub answered-first : {n : ℕ} {sent : List Message} {op : Operation} → op.response < n → IsAnswered sent op → IsAnswered (take n sent) op
+answered-first {n} {sent} {op} less (written seg offset term e) = written seg offset term (take-get n op.response sent less e)
+answered-first {n} {sent} {op} less (shown e) = shown (take-get n op.response sent less e)
 
 pub ack_of : Operation → ℕ → ℕ → ℕ → Ack
 ack_of op seg offset term =
     record { seg = seg; offset = offset; term = term; table = op.table; key = op.key; version = op.version }
 
-pub acknowledged-at : (sent : List Message) (op : Operation) (seg offset term : ℕ) →
+pub acknowledged-at : {sent : List Message} (op : Operation) {seg offset term : ℕ} →
     slice_get sent op.response ≡ Some (to_outside op.master (WriteOk seg offset term op.table op.key op.version)) →
     HasAcknowledged sent op.master
     (record { seg = seg; offset = offset; term = term; table = op.table; key = op.key; version = op.version })
-acknowledged-at sent op seg offset term e = record {
+acknowledged-at {sent} op {seg} {offset} {term} e = record {
   message = to_outside op.master (WriteOk seg offset term op.table op.key op.version);
   among = In-get sent op.response _ e;
   from = refl;
@@ -114,13 +114,13 @@ acknowledged-at sent op seg offset term e = record {
 pub answer_of : Operation → Answer
 answer_of op = record { table = op.table; key = op.key; version = op.version; value = op.value }
 
-pub read-at : (sent : List Message) (op : Operation) →
+pub read-at : {sent : List Message} (op : Operation) →
     slice_get sent op.response ≡ Some (to_outside op.master (ReadOk op.table op.key op.version op.value)) →
     HasRead sent op.master (take op.response sent) (record { table = op.table; key = op.key; version = op.version; value = op.value })
-read-at sent op e = record {
+read-at {sent} op e = record {
   message = to_outside op.master (ReadOk op.table op.key op.version op.value);
   after = drop (suc op.response) sent;
-  whole = split-at op.response sent _ e;
+  whole = split-at op.response sent e;
   from = refl;
   says = refl;
 }
@@ -133,10 +133,10 @@ pub record IsFoundAt (setup : Setup) (events : List Event) (op : Operation) : Ty
   pub sent_is : (replay setup past).sent ≡ take op.response (replay setup events).sent
   pub finds : Finds setup past op.master op.table op.key op.version op.value
 
-pub found-at : (setup : Setup) (events : List Event) (op : Operation) →
+pub found-at : {setup : Setup} {events : List Event} {op : Operation} →
     slice_get (replay setup events).sent op.response ≡ Some (to_outside op.master (ReadOk op.table op.key op.version op.value)) →
     IsFoundAt setup events op
-found-at setup events op e = record {
+found-at {setup} {events} {op} e = record {
   past = was.past;
   rest = was.rest;
   whole = was.whole;
@@ -147,7 +147,7 @@ found-at setup events op e = record {
     was : WasRead setup events op.master (take op.response (replay setup events).sent) op.table op.key op.version op.value
     was = (clients-are-heard setup events).reads op.master (take op.response (replay setup events).sent)
         (to_outside op.master (ReadOk op.table op.key op.version op.value)) (drop (suc op.response) (replay setup events).sent)
-        (split-at op.response (replay setup events).sent _ e) refl op.table op.key op.version op.value refl
+        (split-at op.response (replay setup events).sent e) refl op.table op.key op.version op.value refl
 
 -- What it had made stand
 
@@ -161,34 +161,32 @@ pub record HadStood (setup : Setup) (events : List Event) (n : ℕ) (op : Operat
       × (one.version ≡ op.version))
 
 -- when a client's request was sent
-pub had-stood : (setup : Setup) (events : List Event) → HasReplicas setup → (n : ℕ) (m : ServerId) (asked : Body) →
+pub had-stood : {setup : Setup} {events : List Event} → HasReplicas setup → {n : ℕ} {m : ServerId} {asked : Body} →
     slice_get (replay setup events).sent n ≡ Some (record { from = Outside; to = Server m; body = asked }) →
-    (op : Operation) → op.response < n → IsAnswered (replay setup events).sent op → HadStood setup events n op
-had-stood setup events some n m asked e op less (written seg offset term response) = record {
+    {op : Operation} → op.response < n → IsAnswered (replay setup events).sent op → HadStood setup events n op
+had-stood {setup} {events} some {n} {m} {asked} e {op} less (written seg offset term response) = record {
   early = end.early;
   gap = end.since;
   whole = end.whole;
   within = λ k s o sent. subst (λ l. HasSentFor l k s o) end.sent_is sent;
-  stands = inr (acked-stood setup end.early end.since op.master (some op.master.index)
-      (record { seg = seg; offset = offset; term = term; table = op.table; key = op.key; version = op.version })
-      (acknowledged-at (replay setup end.early).sent op seg offset term
+  stands = inr (acked-stood setup end.early end.since op.master (some op.master.index) (acknowledged-at op
       (subst (λ l. slice_get l op.response ≡ Some (to_outside op.master (WriteOk seg offset term op.table op.key op.version)))
-      (sym end.sent_is) (take-get n op.response (replay setup events).sent _ less response))));
+      (sym end.sent_is) (take-get n op.response (replay setup events).sent less response))));
 }
   where
     end : IsEnd setup events n
-    end = requests-end setup events n (record { from = Outside; to = Server m; body = asked }) e refl
-had-stood setup events some n m asked e op less (shown response) = record {
+    end = requests-end n (record { from = Outside; to = Server m; body = asked }) e refl
+had-stood {setup} {events} some e {op} less (shown response) = record {
   early = was.past;
   gap = was.rest;
   whole = was.whole;
-  within = λ k s o sent. sent-more op.response n (replay setup events).sent k s o (omega (arith, less))
+  within = λ k s o sent. sent-more (replay setup events).sent (omega (arith, less))
       (subst (λ l. HasSentFor l k s o) was.sent_is sent);
   stands = by (zero-or-more op.version);
 }
   where
     was : IsFoundAt setup events op
-    was = found-at setup events op response
+    was = found-at response
 
     by : (op.version ≡ 0) ⊎ (op.version ≡ 0 → ⊥) → (op.version ≡ 0)
         ⊎ ((one : Entry) × Stood setup was.past was.rest op.master one × (one.table ≡ op.table) × (one.key ≡ op.key)

@@ -20,20 +20,20 @@ use Rattle.rc_linear.proofs.NoneLater.{owned-by}
 
 -- Counts only rise
 
-rises-from : (m : ServerId) (world : World) (events : List Event) → GoodWorld world →
+rises-from : {m : ServerId} (world : World) (events : List Event) → GoodWorld world →
     (world.masters m).log.durable ≤ ((replay_from world events).masters m).log.durable
-rises-from m world [] good = omega arith
-rises-from m world (one ∷ events) good =
-    let now : Counts (world.masters m).log ((step world one).masters m).log = counts-on world one good m in
+rises-from world [] good = omega arith
+rises-from {m} world (one ∷ events) good =
+    let now : Counts (world.masters m).log ((step world one).masters m).log = counts-on world one good {m = m} in
     let rest : ((step world one).masters m).log.durable ≤ ((replay_from (step world one) events).masters m).log.durable =
-    rises-from m (step world one) events (led-step world one good).good in
+    rises-from {m = m} (step world one) events (led-step world one good).good in
     omega (arith, now.rises, rest)
 
 count-rises : (setup : Setup) (past more : List Event) (m : ServerId) →
     ((replay setup past).masters m).log.durable ≤ ((replay setup (past ++ more)).masters m).log.durable
 count-rises setup past more m =
     subst (λ (world : World). ((replay setup past).masters m).log.durable ≤ (world.masters m).log.durable)
-    (sym (replay_from-append _ past more)) (rises-from m (replay setup past) more (good-world setup past))
+    (sym (replay_from-append _ past more)) (rises-from (replay setup past) more (good-world setup past))
 
 In-taken : {X : Type 0} (n : ℕ) (xs : List X) (k : ℕ) (x : X) → k < n → slice_get xs k ≡ Some x → In x (take n xs)
 In-taken zero xs k x less e = absurd (omega arith)
@@ -59,21 +59,21 @@ module _ (setup : Setup) (past rest : List Event) (m : ServerId) (some : factor_
       (replay setup past).coordinator (all_old setup past rest) m term table key
 
   -- as what is acknowledged
-  pub acked-stood : (ack : Ack) → (p : HasAcknowledged (replay setup past).sent m ack) →
+  pub acked-stood : {ack : Ack} → (p : HasAcknowledged (replay setup past).sent m ack) →
       (one : Entry) × Stood setup past rest m one × (one.table ≡ ack.table) × (one.key ≡ ack.key) × (one.version ≡ ack.version)
-  acked-stood ack p = (
+  acked-stood {ack} p = (
     w.entry,
     record {
       seg = ack.seg;
       offset = ack.offset;
       safe = w.safe;
       holds = w.holds;
-      sent_to = durable-sent_to setup past rest m ack.seg ack.offset (acknowledged-is-durable setup past m ack some p);
+      sent_to = durable-sent_to setup past rest (acknowledged-is-durable setup past m ack some p);
       owned = subst (λ k. Owned w.entry.term w.entry.table k) (sym w.key_is)
           (subst (λ t. Owned w.entry.term t ack.key) (sym w.table_is) (subst (λ n. Owned n ack.table ack.key) (sym w.term_is)
           (owner (replay setup past).sent (replay setup past).masters (replay setup past).hosts (replay setup past).coordinator
           (all_old setup past rest) m ack (acked (replay setup past).sent (replay setup past).masters (replay setup past).hosts
-          (replay setup past).coordinator (all_old setup past rest) m ack p))));
+          (replay setup past).coordinator (all_old setup past rest) p))));
     },
     w.table_is,
     w.key_is,
@@ -82,7 +82,7 @@ module _ (setup : Setup) (past rest : List Event) (m : ServerId) (some : factor_
     where
       w : IsWriteOk (replay setup past).sent m ((replay setup past).masters m).log ack.seg ack.offset ack.term ack.table ack.key ack.version
       w = (acked (replay setup past).sent (replay setup past).masters (replay setup past).hosts (replay setup past).coordinator
-          (all_old setup past rest) m ack p).write
+          (all_old setup past rest) p).write
 
   -- A read at that moment
   module _ (term table key version : ℕ) (value : Option (List ℕ))
@@ -91,8 +91,8 @@ module _ (setup : Setup) (past rest : List Event) (m : ServerId) (some : factor_
       (record { version = version; value = value })) where
     pub reader-owned : IsOwned (replay setup past).sent (replay setup past).masters (replay setup past).hosts
         (replay setup past).coordinator (all_old setup past rest) m term table key
-    reader-owned = owned-by setup past rest m term table key (granted-to (replay setup past).sent (replay setup past).masters
-        (replay setup past).hosts (replay setup past).coordinator (reading.all_old setup past rest) m term table key
+    reader-owned = owned-by setup past rest (granted-to (replay setup past).sent (replay setup past).masters
+        (replay setup past).hosts (replay setup past).coordinator (reading.all_old setup past rest)
         (reading.own setup past rest m term table key version value owns found))
 
     -- what it shows had stood, and had been counted
@@ -116,7 +116,7 @@ module _ (setup : Setup) (past rest : List Event) (m : ServerId) (some : factor_
         offset = at.place.offset;
         safe = ((all_old setup past rest).good.masters_are m).counted at.index at.place at.below at.at;
         holds = at.holds;
-        sent_to = durable-sent_to setup past rest m at.place.seg at.place.offset
+        sent_to = durable-sent_to setup past rest
             (counted-is-durable setup past m at.index at.place some at.below at.at);
         owned = subst (λ k. Owned is.entry.term is.entry.table k) (sym is.key_is)
             (subst (λ t. Owned is.entry.term t key) (sym is.table_is) (subst (λ n. Owned n table key) (sym is.term_is) reader-owned));
@@ -138,11 +138,10 @@ module _ (setup : Setup) (past rest : List Event) (m : ServerId) (some : factor_
             (places_of ((replay setup (past ++ more)).masters m).log) at.place
             (In-taken ((replay setup (past ++ more)).masters m).log.durable (places_of ((replay setup (past ++ more)).masters m).log)
             at.index at.place (omega (arith, at.below, count-rises setup past more m))
-            (get-begins (places_of ((replay setup past).masters m).log) (places_of ((replay setup (past ++ more)).masters m).log)
-            (places-later (replay setup (past ++ more)).sent m ((replay setup past).masters m).log
-            ((replay setup (past ++ more)).masters m).log (since-more setup past more m).later) at.index at.place at.at)))
+            (get-begins (places_of ((replay setup past).masters m).log)
+            (places-later (since-more setup past more).later) at.index at.at)))
 
     -- and what it shows above version 0
     pub shown-stood : (version ≡ 0 → ⊥) → IsShowing
-    shown-stood above = found-stood (read-is term table key (durable_entries ((replay setup past).masters m))
+    shown-stood above = found-stood (read-is term table key
         (λ e. above (sym (ap (λ (one : Found). one.version) found) ∙ e)))

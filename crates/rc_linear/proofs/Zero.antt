@@ -13,7 +13,7 @@ module _ (setup : Setup) (past rest : List Event) (m : ServerId) (some : factor_
     (found : ◌≡◌ {A = Found} (read_of term table key (durable_entries ((replay setup past).masters m)))
     (record { version = version; value = value })) where
   pub shows-none : version ≡ 0 → value ≡ None
-  shows-none none = by (read-ways term table key (durable_entries ((replay setup past).masters m)))
+  shows-none none = by (read-ways term table key)
     where
       by : (read_of term table key (durable_entries ((replay setup past).masters m)) ≡ record { version = 0; value = None })
           ⊎ IsFound term table key (durable_entries ((replay setup past).masters m))
@@ -27,7 +27,7 @@ module _ (setup : Setup) (past rest : List Event) (m : ServerId) (some : factor_
           came : Origin (replay setup past).sent (replay setup past).masters (replay setup past).hosts
               (replay setup past).coordinator (all-world setup past) m is.stood.seg is.stood.offset is.entry
           came = origin (replay setup past).sent (replay setup past).masters (replay setup past).hosts
-              (replay setup past).coordinator (all-world setup past) m is.stood.seg is.stood.offset is.entry
+              (replay setup past).coordinator (all-world setup past)
               is.stood.holds is.stood.owned.grant is.stood.owned.among is.stood.owned.owner_is is.stood.owned.term_is
               is.stood.owned.holds
 

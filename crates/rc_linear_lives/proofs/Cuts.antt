@@ -28,15 +28,14 @@ brought-first : (safe : NodeName → ℕ) (earlier deeds more : List Deed) → A
 brought-first safe earlier [] more is = tt
 brought-first safe earlier (deed ∷ deeds) more is = (is.0, brought-first safe (earlier ++ deed ∷ []) deeds more is.1)
 
-pub cut : (setup : Setup) (all : Processes) (kept rest : List Deed) → Goes setup all → all.done ≡ kept ++ rest →
+pub cut : {setup : Setup} {all : Processes} (kept rest : List Deed) → Goes setup all → all.done ≡ kept ++ rest →
     Cut setup (sent_by_deeds kept) (sent_by_deeds all.done)
-cut setup all kept rest goes same = record {
+cut {setup} {all} kept rest goes same = record {
   early = events_by first.told.steps;
   gap = events_by last.rest;
-  early_is = sent-apart setup first.told.steps first.told.apart ∙ first.told.sent;
-  whole_is =
-      ap (sent_after setup) (sym (map-append (λ (step : Step). step.event) first.told.steps last.rest))
-      ∙ (sent-apart setup (first.told.steps ++ last.rest) (subst (TakenApart setup) last.same last.told.apart)
+  early_is = sent-apart first.told.apart ∙ first.told.sent;
+  whole_is = ap (sent_after setup) (sym (map-append (λ (step : Step). step.event) first.told.steps last.rest))
+      ∙ (sent-apart (subst (TakenApart setup) last.same last.told.apart)
       ∙ (ap sent_by (sym last.same) ∙ (last.told.sent ∙ ap sent_by_deeds (sym same))));
 }
   where
@@ -47,10 +46,10 @@ cut setup all kept rest goes same = record {
     lived name = subst (IsLived name (new_life setup name))
         (ap (own name) same ∙ filter-append (λ (d : Deed). same_node d.node name) kept rest) (goes.well name).lived
 
-    first : Further setup [] kept (told-none setup)
-    first = told-from setup (safe_at all) [] kept (told-none setup) (brought-first (safe_at all) [] kept rest brought)
+    first : Further setup [] kept (told-none)
+    first = told-from (safe_at all) kept (brought-first (safe_at all) [] kept rest brought)
         (λ name. lived-first name (new_life setup name) (own name kept) (own name rest) (lived name))
 
     last : Further setup kept rest first.told
-    last = told-from setup (safe_at all) kept rest first.told (brought-last (safe_at all) [] kept rest brought)
+    last = told-from (safe_at all) rest (brought-last (safe_at all) [] kept rest brought)
         (λ name. lived-last name (new_life setup name) (own name kept) (own name rest) (lived name))

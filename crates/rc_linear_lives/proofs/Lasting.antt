@@ -35,8 +35,7 @@ outlives (Falls name count ∷ more) deed = is_left name count deed && outlives 
 
 -- what a process does that ends
 abbrev pub stopping : Setup → Processes → NodeName → ℕ → List Deed
-stopping setup all name count =
-    stop_deeds name (replayed setup name (take count (all.at name).life.journal))
+stopping setup all name count = stop_deeds name (replayed setup name (take count (all.at name).life.journal))
     (stops (replayed setup name (take count (all.at name).life.journal)).node)
 
 -- the deeds that a happening adds
@@ -54,11 +53,11 @@ before setup all (one ∷ more) (suc k) = filter (outlives more) (adds setup all
 
 -- Numbers
 
-at-most : (a b c : ℕ) → a ≤ b → b ≤ c → a ≤ c
-at-most a b c p q = omega (arith, p, q)
+at-most : {a b c : ℕ} → a ≤ b → b ≤ c → a ≤ c
+at-most p q = omega (arith, p, q)
 
-sums : (i f j b n t : ℕ) → i ≡ f + j → j ≡ b + n → t ≡ f + b → i ≡ t + n
-sums i f j b n t p q r = omega (arith, p, q, r)
+sums : {i : ℕ} (f : ℕ) {j : ℕ} (b n : ℕ) {t : ℕ} → i ≡ f + j → j ≡ b + n → t ≡ f + b → i ≡ t + n
+sums f b n p q r = omega (arith, p, q, r)
 
 -- Lists
 
@@ -127,23 +126,23 @@ pub record DoneFrom (setup : Setup) (all : Processes) (happenings : List Happeni
   pub does : deed ≡ deed_of deed.node ((after_all setup all (take number happenings)).at deed.node).life deed.work
   pub stays : (count : ℕ) → In (Falls deed.node count) (drop (suc number) happenings) → deed.rests ≤ count
 
-next : (k : ℕ) → k + 1 ≡ suc k
-next k = omega arith
+next : {k : ℕ} → k + 1 ≡ suc k
+next = omega arith
 
-pub is-done : (setup : Setup) (happenings : List Happening) (k : ℕ) (deed : Deed) →
+pub is-done : {setup : Setup} {happenings : List Happening} {k : ℕ} {deed : Deed} →
     DoneFrom setup (new_processes setup) happenings k deed → IsDone setup happenings k deed
-is-done setup happenings k deed done = record {
+is-done {happenings} {deed} done = record {
   takes = done.takes;
   does = done.does;
-  stays = λ count at. done.stays count (subst (λ n. In (Falls deed.node count) (drop n happenings)) (next k) at);
+  stays = λ count at. done.stays count (subst (λ n. In (Falls deed.node count) (drop n happenings)) (next) at);
 }
 
-pub done-from : (setup : Setup) (happenings : List Happening) (k : ℕ) (deed : Deed) → IsDone setup happenings k deed →
+pub done-from : {setup : Setup} {happenings : List Happening} {k : ℕ} {deed : Deed} → IsDone setup happenings k deed →
     DoneFrom setup (new_processes setup) happenings k deed
-done-from setup happenings k deed done = record {
+done-from {happenings} {deed} done = record {
   takes = done.takes;
   does = done.does;
-  stays = λ count at. done.stays count (subst (λ n. In (Falls deed.node count) (drop n happenings)) (sym (next k)) at);
+  stays = λ count at. done.stays count (subst (λ n. In (Falls deed.node count) (drop n happenings)) (sym (next)) at);
 }
 
 pub outlasts : (more : List Happening) (deed : Deed) → ((count : ℕ) → In (Falls deed.node count) more → deed.rests ≤ count) →
@@ -178,11 +177,9 @@ lasts (Falls name left ∷ more) deed e count (inl same) =
 
     by : (c : ℕ) → (name ≡ deed.node) × (left ≡ c) → cond (same_node deed.node name) (nat_le deed.rests left) true ≡ true →
         nat_le deed.rests c ≡ true
-    by c (named, lefts) passes =
-        subst (λ k. nat_le deed.rests k ≡ true) lefts
+    by c (named, lefts) passes = subst (λ k. nat_le deed.rests k ≡ true) lefts
         (ap (λ b. cond b (nat_le deed.rests left) true)
-        (sym (ap (λ (n : NodeName). same_node deed.node n) named ∙ same_node-refl deed.node))
-        ∙ passes)
+        (sym (ap (λ (n : NodeName). same_node deed.node n) named ∙ same_node-refl deed.node)) ∙ passes)
 
 -- such a step stands in what lasts, behind what was done before it
 pub deed-stands : (setup : Setup) (all : Processes) (happenings : List Happening) (k n : ℕ) (deed : Deed) → k < n →
@@ -205,8 +202,7 @@ deed-stands setup all (one ∷ more) zero (suc n) deed less done =
     is = (let e : slice_get (one ∷ more) zero ≡ Some (Takes deed.node deed.work) = done.takes in cc)
 
     alone : (h : Happening) → h ≡ Takes deed.node deed.work → filter (outlives more) (adds setup all h) ≡ deed ∷ []
-    alone h e =
-        ap (λ (h : Happening). filter (outlives more) (adds setup all h)) e
+    alone h e = ap (λ (h : Happening). filter (outlives more) (adds setup all h)) e
         ∙ (ap (λ (d : Deed). filter (outlives more) (d ∷ [])) (sym done.does)
         ∙ ap (λ b. cond b (deed ∷ []) []) (outlasts more deed done.stays))
 
@@ -241,15 +237,15 @@ pub record Found (setup : Setup) (all : Processes) (happenings : List Happening)
 abbrev added : Setup → Processes → Happening → List Happening → List Deed
 added setup all one more = filter (outlives more) (adds setup all one)
 
-found-first : (setup : Setup) (all : Processes) (one : Happening) (more : List Happening) (n i : ℕ) (message : Message) →
+found-first : {setup : Setup} {all : Processes} (one : Happening) {more : List Happening} {n i : ℕ} {message : Message} →
     slice_get (sent_by_deeds (filter (outlives more) (adds setup all one))) i ≡ Some message →
     Found setup all (one ∷ more) (suc n) i message
-found-first setup all (Syncs name count) more n i message e = (let never : slice_get [] i ≡ Some message = e in cc)
-found-first setup all (Leaves one) more n i message e = (let never : slice_get [] i ≡ Some message = e in cc)
-found-first setup all (Falls name count) more n i message e =
+found-first (Syncs name count) {i} {message} e = (let never : slice_get [] i ≡ Some message = e in cc)
+found-first (Leaves one) {i} {message} e = (let never : slice_get [] i ≡ Some message = e in cc)
+found-first {setup} {all} (Falls name count) {more} {i} {message} e =
     (let none : slice_get [] i ≡ Some message = ap (λ l. slice_get l i) (sym (stop-sends (outlives more) name
     (replayed setup name (take count (all.at name).life.journal)).node (take count (all.at name).life.journal))) ∙ e in cc)
-found-first setup all (Takes name work) more n i message e =
+found-first {setup} {all} (Takes name work) {more} {n} {i} {message} e =
     by (outlives more (deed_of name (all.at name).life work)) refl e
   where
     by : (b : Bool) → outlives more (deed_of name (all.at name).life work) ≡ b →
@@ -266,13 +262,13 @@ found-first setup all (Takes name work) more n i message e =
       place = (let none : i ≡ 0 + i = omega arith in none);
     }
 
-pub find : (setup : Setup) (all : Processes) (happenings : List Happening) (n i : ℕ) (message : Message) →
+pub find : {setup : Setup} {all : Processes} (happenings : List Happening) (n : ℕ) {i : ℕ} {message : Message} →
     slice_get (sent_by_deeds (before setup all happenings n)) i ≡ Some message → Found setup all happenings n i message
-find setup all happenings zero i message e = (let never : slice_get [] i ≡ Some message = e in cc)
-find setup all [] (suc n) i message e = (let never : slice_get [] i ≡ Some message = e in cc)
-find setup all (one ∷ more) (suc n) i message e =
-    by (λ j there. find setup (after setup all one) more n j message there)
-    (get-append (sent_by_deeds (added setup all one more)) (sent_by_deeds (before setup (after setup all one) more n)) i message
+find happenings zero {i} {message} e = (let never : slice_get [] i ≡ Some message = e in cc)
+find [] (suc n) {i} {message} e = (let never : slice_get [] i ≡ Some message = e in cc)
+find {setup} {all} (one ∷ more) (suc n) {i} {message} e =
+    by (λ j there. find {setup = setup} {all = (after setup all one)} more n {i = j} {message = message} there)
+    (get-append (sent_by_deeds (added setup all one more)) (sent_by_deeds (before setup (after setup all one) more n)) i {x = message}
     (ap (λ l. slice_get l i) (sym (flat_map-append (λ (d : Deed). d.sent) (added setup all one more)
     (before setup (after setup all one) more n))) ∙ e))
   where
@@ -282,7 +278,7 @@ find setup all (one ∷ more) (suc n) i message e =
         ⊎ ((j : ℕ) × (i ≡ length (sent_by_deeds (added setup all one more)) + j)
         × (slice_get (sent_by_deeds (before setup (after setup all one) more n)) j ≡ Some message)) →
         Found setup all (one ∷ more) (suc n) i message
-    by later (inl here) = found-first setup all one more n i message here
+    by later (inl here) = found-first {setup = setup} {all = all} one {more = more} {n = n} {i = i} {message = message} here
     by later (inr (j, same, there)) =
         let found : Found setup (after setup all one) more n j message = later j there in
         let below = found.below in
@@ -300,9 +296,9 @@ find setup all (one ∷ more) (suc n) i message e =
           below = omega (arith, below);
           done = record { takes = found.done.takes; does = found.done.does; stays = found.done.stays };
           at = found.at;
-          place = sums i (length (sent_by_deeds (added setup all one more))) j
+          place = sums {i = i} (length (sent_by_deeds (added setup all one more))) {j = j}
               (length (sent_by_deeds (before setup (after setup all one) more found.moment))) found.number
-              (length (sent_by_deeds (added setup all one more ++ before setup (after setup all one) more found.moment)))
+              {t = (length (sent_by_deeds (added setup all one more ++ before setup (after setup all one) more found.moment)))}
               same found.place long;
         }
 
@@ -317,20 +313,20 @@ left-stays setup all (Leaves one ∷ more) message at =
     left-stays setup (after setup all (Leaves one)) more message (In-left message all.left (one ∷ []) at)
 left-stays setup all (Falls name count ∷ more) message at = left-stays setup (after setup all (Falls name count)) more message at
 
-pub left-in : (setup : Setup) (all : Processes) (happenings : List Happening) (r : ℕ) (message : Message) →
+pub left-in : (setup : Setup) (all : Processes) (happenings : List Happening) (r : ℕ) {message : Message} →
     slice_get happenings r ≡ Some (Leaves message) → In message (after_all setup all happenings).left
-left-in setup all [] r message e = cc
-left-in setup all (one ∷ more) (suc r) message e = left-in setup (after setup all one) more r message e
-left-in setup all (one ∷ more) zero message e =
+left-in setup all [] r e = cc
+left-in setup all (one ∷ more) (suc r) e = left-in setup (after setup all one) more r e
+left-in setup all (one ∷ more) zero {message} e =
     left-stays setup (after setup all one) more message (subst (λ (h : Happening). In message (after setup all h).left) (sym is)
     (In-right message all.left (message ∷ []) (inl refl)))
   where
     is : one ≡ Leaves message
     is = cc
 
-pub left-by : (setup : Setup) (all : Processes) (happenings : List Happening) (r n : ℕ) (message : Message) →
+pub left-by : (setup : Setup) (all : Processes) (happenings : List Happening) {r n : ℕ} {message : Message} →
     slice_get happenings r ≡ Some (Leaves message) → r < n → In message (after_all setup all (take n happenings)).left
-left-by setup all happenings r n message e less = left-in setup all (take n happenings) r message (take-get n r happenings _ less e)
+left-by setup all happenings {r} {n} e less = left-in setup all (take n happenings) r (take-get n r happenings less e)
 
 -- what may leave is not forgotten later
 safe-lasts : (setup : Setup) (all : Processes) (happenings : List Happening) (deed : Deed) → MayAll setup all happenings →
@@ -338,28 +334,25 @@ safe-lasts : (setup : Setup) (all : Processes) (happenings : List Happening) (de
 safe-lasts setup all [] deed may rests = refl
 safe-lasts setup all (Takes name work ∷ more) deed may rests =
     let process : Process = record { life = life_next name (all.at name).life work; safe = (all.at name).safe } in
-    safe-lasts setup (after setup all (Takes name work)) more deed may.1
-    (at-most deed.rests (safe_at all deed.node) (safe_at (after setup all (Takes name work)) deed.node) rests
+    safe-lasts setup (after setup all (Takes name work)) more deed may.1 (at-most rests
     (put-safe all.at name process (omega arith) deed.node))
 safe-lasts setup all (Syncs name count ∷ more) deed may rests =
     let process : Process = record { life = (all.at name).life; safe = count } in
-    safe-lasts setup (after setup all (Syncs name count)) more deed may.1
-    (at-most deed.rests (safe_at all deed.node) (safe_at (after setup all (Syncs name count)) deed.node) rests
+    safe-lasts setup (after setup all (Syncs name count)) more deed may.1 (at-most rests
     (put-safe all.at name process may.0.no_less deed.node))
 safe-lasts setup all (Leaves message ∷ more) deed may rests = safe-lasts setup (after setup all (Leaves message)) more deed may.1 rests
 safe-lasts setup all (Falls name count ∷ more) deed may rests =
     let kept = take count (all.at name).life.journal in
     let process : Process = record { life = remade setup name kept; safe = (all.at name).safe } in
-    ap (λ b. b && outlives more deed) (left-passes name count (safe_at all) deed may.0.no_less rests)
-    ∙ safe-lasts setup (after setup all (Falls name count)) more deed may.1
-    (at-most deed.rests (safe_at all deed.node) (safe_at (after setup all (Falls name count)) deed.node) rests
+    ap (λ b. b && outlives more deed) (left-passes (safe_at all) deed may.0.no_less rests)
+    ∙ safe-lasts setup (after setup all (Falls name count)) more deed may.1 (at-most rests
     (put-safe all.at name process (omega arith) deed.node))
 
-goes-at : (setup : Setup) (all : Processes) (happenings : List Happening) (n : ℕ) → Goes setup all → MayAll setup all happenings →
+goes-at : {setup : Setup} {all : Processes} (happenings : List Happening) (n : ℕ) → Goes setup all → MayAll setup all happenings →
     Goes setup (after_all setup all (take n happenings)) × MayAll setup (after_all setup all (take n happenings)) (drop n happenings)
-goes-at setup all happenings zero goes may = (goes, may)
-goes-at setup all [] (suc n) goes may = (goes, may)
-goes-at setup all (one ∷ more) (suc n) goes may = goes-at setup (after setup all one) more n (goes-after setup all one goes may.0) may.1
+goes-at happenings zero goes may = (goes, may)
+goes-at [] (suc n) goes may = (goes, may)
+goes-at {setup} {all} (one ∷ more) (suc n) goes may = goes-at {setup = setup} {all = (after setup all one)} more n (goes-after {setup = setup} {all = all} one goes may.0) may.1
 
 -- so what has left by a moment is among what was sent before it, and lasts
 pub left-was-sent : (setup : Setup) (happenings : List Happening) (n : ℕ) (message : Message) →
@@ -373,7 +366,7 @@ left-was-sent setup happenings n message may at =
     leaves.its
   where
     both : Goes setup (at_moment setup happenings n) × MayAll setup (at_moment setup happenings n) (drop n happenings)
-    both = goes-at setup (new_processes setup) happenings n (goes-new setup) may
+    both = goes-at happenings n (goes-new) may
 
     leaves : MayLeave (safe_at (at_moment setup happenings n)) (at_moment setup happenings n).done message
     leaves = both.0.left message at

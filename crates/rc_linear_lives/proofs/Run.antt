@@ -28,20 +28,20 @@ pub it-may-happen : ItMayHappen
 it-may-happen = may-lines setup (new_processes setup) (lines_of setup forgetting) refl
 
 -- a step that outlives what comes after it is done
-done-at : (all : Setup) (happenings : List Happening) (number : ℕ) (name : NodeName) (work : NodeWork) →
+done-at : {all : Setup} {happenings : List Happening} {number : ℕ} {name : NodeName} {work : NodeWork} →
     slice_get happenings number ≡ Some (Takes name work) →
     outlives (drop (number + 1) happenings) (deed_of name ((at_moment all happenings number).at name).life work) ≡ true →
     IsDone all happenings number (deed_of name ((at_moment all happenings number).at name).life work)
-done-at all happenings number name work takes stays = record {
+done-at {all} {happenings} {number} {name} {work} takes stays = record {
   takes = takes;
   does = refl;
   stays = lasts (drop (number + 1) happenings) (deed_of name ((at_moment all happenings number).at name).life work) stays;
 }
 
 -- where the test finds nothing, nothing was sent for the place
-none-sent : (all : Setup) (happenings : List Happening) (n : ℕ) (m : ServerId) (s o : ℕ) →
+none-sent : {all : Setup} {happenings : List Happening} {n : ℕ} {m : ServerId} {s o : ℕ} →
     made (sent_by_deeds (before all (new_processes all) happenings n)) m s o ≡ [] → IsUnsent all happenings n m s o
-none-sent all happenings n m s o none number deed less done (entry, was) =
+none-sent {all} {happenings} {n} {m} {s} {o} none number deed less done (entry, was) =
     subst (In entry) none (HasMade-in (sent_by_deeds (before all (new_processes all) happenings n)) m s o entry (record {
       message = was.message;
       among = subst (λ (l : List Deed). In was.message (sent_by_deeds l)) (sym stands.1)
@@ -52,19 +52,18 @@ none-sent all happenings n m s o none number deed less done (entry, was) =
   where
     stands : (rest : List Deed) × (before all (new_processes all) happenings n
         ≡ (before all (new_processes all) happenings number) ++ deed ∷ rest)
-    stands = deed-stands all (new_processes all) happenings number n deed less
-        (done-from all happenings number deed done)
+    stands = deed-stands all (new_processes all) happenings number n deed less (done-from done)
 
     among : (first rest : List Deed) → In was.message (sent_by_deeds (first ++ deed ∷ rest))
     among [] rest = In-left was.message deed.sent (sent_by_deeds rest) was.among
     among (one ∷ first) rest = In-right was.message one.sent (sent_by_deeds (first ++ deed ∷ rest)) (among first rest)
 
 -- what the end of its process has left less than it rests on is not done
-not-done : (all : Setup) (happenings : List Happening) (number : ℕ) (name : NodeName) (work : NodeWork) →
+not-done : {all : Setup} {happenings : List Happening} {number : ℕ} {name : NodeName} {work : NodeWork} →
     slice_get happenings number ≡ Some (Takes name work) →
     outlives (drop (number + 1) happenings) (deed_of name ((at_moment all happenings number).at name).life work) ≡ false →
     (deed : Deed) → IsDone all happenings number deed → ⊥
-not-done all happenings number name work takes forgotten deed done =
+not-done {all} {happenings} {number} {name} {work} takes forgotten deed done =
     true_false (sym (outlasts (drop (number + 1) happenings) deed done.stays)
     ∙ (ap (outlives (drop (number + 1) happenings)) same ∙ forgotten))
   where
@@ -83,7 +82,7 @@ not-done all happenings number name work takes forgotten deed done =
 pub it-forgets : ItForgets
 it-forgets = record {
   taken = refl;
-  forgotten = not-done setup run (first_of brings_append run) (TheHost 1) (Deliver append_b) refl refl;
+  forgotten = not-done {all = setup} {happenings = run} {number = (first_of brings_append run)} {name = (TheHost 1)} {work = (Deliver append_b)} refl refl;
 }
 
 -- The write and the read
@@ -98,8 +97,7 @@ none-left : filter (acks_place (id 0 1) 1 0) (at_moment setup run (first_of lets
 none-left = refl
 
 not-left-before : In a_ok (at_moment setup run (first_of lets_write_ok_go run)).left → ⊥
-not-left-before at =
-    subst (In a_ok) none-left
+not-left-before at = subst (In a_ok) none-left
     (filter-In (acks_place (id 0 1) 1 0) a_ok (at_moment setup run (first_of lets_write_ok_go run)).left at refl)
 
 it-is-a-write : IsWrite setup run write_a
@@ -110,12 +108,12 @@ it-is-a-write = record {
   term = 1;
   request = asked
       (deed_of TheOutside ((at_moment setup run (first_of is_ask run)).at TheOutside).life (Ask (id 0 1) (Write 7 5 (Some (codes "a")))))
-      (done-at setup run (first_of is_ask run) TheOutside (Ask (id 0 1) (Write 7 5 (Some (codes "a")))) refl refl)
+      (done-at {all = setup} {happenings = run} {number = (first_of is_ask run)} {name = TheOutside} {work = (Ask (id 0 1) (Write 7 5 (Some (codes "a"))))} refl refl)
       (inl refl);
   response = refl;
   first = not-left-before;
   made = HasMade-from (sent_by_deeds (in_the_end setup run).done) (id 0 1) 1 0 entry_a (inl refl);
-  fresh = none-sent setup run (first_of is_ask run) (id 0 1) 1 0 refl;
+  fresh = none-sent {all = setup} {happenings = run} {n = (first_of is_ask run)} {m = (id 0 1)} {s = 1} {o = 0} refl;
 }
 
 abbrev c_ok : Message
@@ -132,14 +130,14 @@ it-is-a-read = record {
   kind = refl;
   moment = first_of brings_read run;
   deed = deed_of (TheHost 0) ((at_moment setup run (first_of brings_read run)).at (TheHost 0)).life the_read;
-  done = done-at setup run (first_of brings_read run) (TheHost 0) the_read refl refl;
+  done = done-at {all = setup} {happenings = run} {number = (first_of brings_read run)} {name = (TheHost 0)} {work = the_read} refl refl;
   answers = inl refl;
   response = refl;
   asked_before = leb-true (first_of brings_read run) (first_of brings_read run) refl;
   leaves_after = ltb-true (first_of brings_read run) (first_of lets_read_ok_go run) refl;
   ack = record { seg = 1; offset = 1; term = 2; table = 7; key = 5; version = 2 };
   acknowledged = record { message = c_ok; among = c-left; from = refl; says = refl };
-  unsent = none-sent setup run (first_of brings_read run + 1) (id 0 2) 1 1 refl;
+  unsent = none-sent {all = setup} {happenings = run} {n = (first_of brings_read run + 1)} {m = (id 0 2)} {s = 1} {o = 1} refl;
 }
 
 pub it-shows-what-was-acknowledged : ItShowsWhatWasAcknowledged
@@ -168,14 +166,14 @@ held-is-a-read = record {
   kind = refl;
   moment = first_of brings_read held_run;
   deed = deed_of (TheHost 0) ((at_moment setup held_run (first_of brings_read held_run)).at (TheHost 0)).life early_read;
-  done = done-at setup held_run (first_of brings_read held_run) (TheHost 0) early_read refl refl;
+  done = done-at {all = setup} {happenings = held_run} {number = (first_of brings_read held_run)} {name = (TheHost 0)} {work = early_read} refl refl;
   answers = inl refl;
   response = refl;
   asked_before = leb-true (first_of brings_read held_run) (first_of brings_read held_run) refl;
   leaves_after = ltb-true (first_of brings_read held_run) (first_of lets_read_ok_go held_run) refl;
   ack = record { seg = 1; offset = 1; term = 1; table = 7; key = 5; version = 2 };
   acknowledged = record { message = b_ok; among = b-left; from = refl; says = refl };
-  unsent = none-sent setup held_run (first_of brings_read held_run + 1) (id 0 1) 1 1 refl;
+  unsent = none-sent {all = setup} {happenings = held_run} {n = (first_of brings_read held_run + 1)} {m = (id 0 1)} {s = 1} {o = 1} refl;
 }
 
 pub it-is-held-back : ItIsHeldBack

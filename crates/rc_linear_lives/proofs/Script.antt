@@ -41,14 +41,14 @@ abbrev pub can_all : Setup → Processes → List Line → Bool
 can_all setup all [] = true
 can_all setup all (line ∷ lines) = can_line all line && can_all setup (after setup all (happening_of all line)) lines
 
-may-give : (all : Processes) (name : NodeName) (work : NodeWork) → node_can (all.at name).life.node work ≡ true → is_plain work ≡ true →
+may-give : {all : Processes} {name : NodeName} (work : NodeWork) → node_can (all.at name).life.node work ≡ true → is_plain work ≡ true →
     MayTake all name work
-may-give all name (Start kept) can plain = record { can = can; addressed = tt; brought = tt }
-may-give all name (Ask to body) can plain = record { can = can; addressed = tt; brought = tt }
-may-give all name (Create table owner) can plain = record { can = can; addressed = tt; brought = tt }
-may-give all name (Decide id) can plain = record { can = can; addressed = tt; brought = tt }
-may-give all name (Suspect id) can plain = record { can = can; addressed = tt; brought = tt }
-may-give all name _ can plain = true_false (sym plain)
+may-give (Start kept) can plain = record { can = can; addressed = tt; brought = tt }
+may-give (Ask to body) can plain = record { can = can; addressed = tt; brought = tt }
+may-give (Create table owner) can plain = record { can = can; addressed = tt; brought = tt }
+may-give (Decide id) can plain = record { can = can; addressed = tt; brought = tt }
+may-give (Suspect id) can plain = record { can = can; addressed = tt; brought = tt }
+may-give _ can plain = true_false (sym plain)
 
 may-bring : (all : Processes) (number : ℕ) (found : Option Message) → slice_get all.left number ≡ found → can_bring all found ≡ true →
     May all (brings found)
@@ -69,7 +69,7 @@ may-let all deed number (Some one) is (Some message) sends can = record {
 
 may-line : (all : Processes) (line : Line) → can_line all line ≡ true → May all (happening_of all line)
 may-line all (Gives name work) can =
-    let both = and_parts (node_can (all.at name).life.node work) (is_plain work) can in may-give all name work both.0 both.1
+    let both = and_parts (node_can (all.at name).life.node work) (is_plain work) can in may-give work both.0 both.1
 may-line all (Brings number) can = may-bring all number (slice_get all.left number) refl can
 may-line all (AllIsSafe name) can =
     record { no_less = leb-true (all.at name).safe (length (all.at name).life.journal) can; no_more = omega arith }

@@ -35,12 +35,10 @@ is_start _ = false
 
 -- Nothing but a start makes a host run
 
-server-runs : (host : HostNode) (m : Master) (message : Message) → host.master ≡ Some m → runs (server_takes host m message).0 ≡ true
-server-runs host m message is =
-    either (λ after. runs after.0 ≡ true) (is_for_backup message.body)
+server-runs : (host : HostNode) {m : Master} (message : Message) → host.master ≡ Some m → runs (server_takes host m message).0 ≡ true
+server-runs host {m} message is = either (λ after. runs after.0 ≡ true) (is_for_backup message.body)
     (with_backup host (backup_takes host.backup message.from message.body))
-    (with_master host (master_takes m message.from message.body))
-    (λ _. ap is_some is) (λ _. refl)
+    (with_master host (master_takes m message.from message.body)) (λ _. ap is_some is) (λ _. refl)
 
 takes-runs : (host : HostNode) (running : Option Master) (message : Message) → host.master ≡ running →
     runs (takes_if_running host running message).0 ≡ true → runs host ≡ true
@@ -72,8 +70,7 @@ stop-ends (node.TheHost host) so = true_false (sym so)
 
 -- a master's work is given where one runs
 masters-run : (n : Node) (work : NodeWork) → is_masters n work ≡ true → node_runs n ≡ true
-masters-run (node.TheHost host) (Deliver message) so =
-    (and_parts (runs host) (is_server (server_of host) message.to)
+masters-run (node.TheHost host) (Deliver message) so = (and_parts (runs host) (is_server (server_of host) message.to)
     (and_parts (is_running_at host message.to) (not (is_for_backup message.body)) so).0).0
 masters-run (node.TheHost host) Tick so = so
 masters-run (node.TheHost host) _ so = true_false (sym so)
@@ -95,32 +92,32 @@ record Gone (k : ℕ) (life : Life) : Type 0 where
   long : k < length life.journal
   late : node_runs life.node ≡ true → k < life.started
 
-gone-rests : (name : NodeName) (k : ℕ) (life : Life) (work : NodeWork) → Gone k life → k < rests_on name life work
-gone-rests name k life work gone = by (keeps name work) (is_masters life.node work) refl
+gone-rests : (name : NodeName) {k : ℕ} {life : Life} (work : NodeWork) → Gone k life → k < rests_on name life work
+gone-rests name {k} {life} work gone = by (keeps name work) (is_masters life.node work) refl
   where
     by : (b c : Bool) → is_masters life.node work ≡ c → k < cond b (length life.journal + 1) (cond c life.started (length life.journal))
     by true c is = let l = gone.long in omega arith
     by false true is = gone.late (masters-run life.node work is)
     by false false is = gone.long
 
-late-next : (name : NodeName) (k : ℕ) (life : Life) (work : NodeWork) → Gone k life →
+late-next : (name : NodeName) {k : ℕ} {life : Life} (work : NodeWork) → Gone k life →
     node_runs (node_step life.node work).0 ≡ true → k < started_next life work
-late-next name k life (Start kept) gone so = let l = gone.long in omega arith
-late-next name k life Stop gone so = absurd (stop-ends life.node so)
-late-next name k life given gone so = gone.late (node-runs-before life.node given refl so)
+late-next name (Start kept) gone so = let l = gone.long in omega arith
+late-next name {life} Stop gone so = absurd (stop-ends life.node so)
+late-next name {life} given gone so = gone.late (node-runs-before life.node given refl so)
 
-gone-next : (name : NodeName) (k : ℕ) (life : Life) (work : NodeWork) → Gone k life → Gone k (life_next name life work)
-gone-next name k life work gone = record {
+gone-next : (name : NodeName) {k : ℕ} {life : Life} (work : NodeWork) → Gone k life → Gone k (life_next name life work)
+gone-next name {life} work gone = record {
   long = let l = gone.long in let m = longer name life work in omega arith;
-  late = late-next name k life work gone;
+  late = late-next name work gone;
 }
 
-gone-left : (name : NodeName) (k : ℕ) (life : Life) (deeds : List Deed) → Gone k life → IsLived name life deeds → are_left k deeds ≡ []
-gone-left name k life [] gone lived = refl
-gone-left name k life (deed ∷ deeds) gone lived =
-    let over : k < deed.rests = subst (λ n. k < n) (sym lived.0.rests) (gone-rests name k life deed.work gone) in
+gone-left : (name : NodeName) {k : ℕ} {life : Life} (deeds : List Deed) → Gone k life → IsLived name life deeds → are_left k deeds ≡ []
+gone-left name [] gone lived = refl
+gone-left name {k} {life} (deed ∷ deeds) gone lived =
+    let over : k < deed.rests = subst (λ n. k < n) (sym lived.0.rests) (gone-rests name {k = k} {life = life} deed.work gone) in
     ap (λ b. cond b (deed ∷ are_left k deeds) (are_left k deeds)) (lt-leb deed.rests k over)
-    ∙ gone-left name k (life_next name life deed.work) deeds (gone-next name k life deed.work gone) lived.1
+    ∙ gone-left name {k = k} {life = (life_next name life deed.work)} deeds (gone-next name {k = k} {life = life} deed.work gone) lived.1
 
 -- What is left of a life's deeds, and of its journal
 
@@ -128,18 +125,18 @@ pub record IsCut (name : NodeName) (k : ℕ) (long short : Life) (deeds remainin
   pub lived : IsLived name short remaining
   pub journal : (life_of name short remaining).journal ≡ take k (life_of name long deeds).journal
 
-take-next : (name : NodeName) (k : ℕ) (life : Life) (work : NodeWork) → k ≤ length life.journal →
+take-next : (name : NodeName) {k : ℕ} (life : Life) (work : NodeWork) → k ≤ length life.journal →
     take k (journal_next name life work) ≡ take k life.journal
-take-next name k life work in' = by (keeps name work)
+take-next name {k} life work in' = by (keeps name work)
   where
     by : (b : Bool) → take k (cond b (life.journal ++ work ∷ []) life.journal) ≡ take k life.journal
     by true = take-append-le k life.journal (work ∷ []) in'
     by false = refl
 
-gone-cut : (name : NodeName) (k : ℕ) (long short : Life) (deeds : List Deed) → Gone k long → short.journal ≡ take k long.journal →
+gone-cut : {name : NodeName} {k : ℕ} {long short : Life} {deeds : List Deed} → Gone k long → short.journal ≡ take k long.journal →
     IsLived name long deeds → IsCut name k long short deeds (are_left k deeds)
-gone-cut name k long short deeds gone same lived =
-    let none : are_left k deeds ≡ [] = gone-left name k long deeds gone lived in
+gone-cut {name} {k} {long} {short} {deeds} gone same lived =
+    let none : are_left k deeds ≡ [] = gone-left name deeds gone lived in
     subst (IsCut name k long short deeds) (sym none) (record {
       lived = tt;
       journal = same ∙ later deeds long gone.long;
@@ -149,7 +146,7 @@ gone-cut name k long short deeds gone same lived =
     later [] life in' = refl
     later (deed ∷ deeds) life in' =
         let more = longer name life deed.work in
-        sym (take-next name k life deed.work (omega arith)) ∙ later deeds (life_next name life deed.work) (omega arith)
+        sym (take-next name life deed.work (omega arith)) ∙ later deeds (life_next name life deed.work) (omega arith)
 
 -- While the master runs on that ran when the journal ended
 
@@ -161,18 +158,18 @@ unchanging : (body : Body) → is_for_backup body ≡ false → changes_backup b
 unchanging (Fetch attempt master seg len part) e = refl
 unchanging body e = e
 
-skip : (name : NodeName) (k : ℕ) (long short : Life) (deed : Deed) (deeds : List Deed) → k < deed.rests →
+skip : {name : NodeName} {k : ℕ} {long short : Life} {deed : Deed} {deeds : List Deed} → k < deed.rests →
     IsCut name k (life_next name long deed.work) short deeds (are_left k deeds) →
     IsCut name k long short (deed ∷ deeds) (are_left k (deed ∷ deeds))
-skip name k long short deed deeds over cut =
+skip {name} {k} {long} {short} {deed} {deeds} over cut =
     let same : are_left k (deed ∷ deeds) ≡ are_left k deeds =
     ap (λ b. cond b (deed ∷ are_left k deeds) (are_left k deeds)) (lt-leb deed.rests k over) in
     subst (IsCut name k long short (deed ∷ deeds)) (sym same) (record { lived = cut.lived; journal = cut.journal })
 
-stay : (name : NodeName) (k : ℕ) (long short : Life) (deed : Deed) (deeds : List Deed) → deed.rests ≤ k → Lives name short deed →
+stay : {name : NodeName} {k : ℕ} {long short : Life} {deed : Deed} {deeds : List Deed} → deed.rests ≤ k → Lives name short deed →
     IsCut name k (life_next name long deed.work) (life_next name short deed.work) deeds (are_left k deeds) →
     IsCut name k long short (deed ∷ deeds) (are_left k (deed ∷ deeds))
-stay name k long short deed deeds within lives cut =
+stay {name} {k} {long} {short} {deed} {deeds} within lives cut =
     let same : are_left k (deed ∷ deeds) ≡ deed ∷ are_left k deeds =
     ap (λ b. cond b (deed ∷ are_left k deeds) (are_left k deeds)) (le-leb deed.rests k within) in
     subst (IsCut name k long short (deed ∷ deeds)) (sym same) (record { lived = (lives, cut.lived); journal = cut.journal })
@@ -187,9 +184,9 @@ record Facts (k : ℕ) (long short : List NodeWork) (started : ℕ) : Type 0 whe
   same : short ≡ take k long
   early : started ≤ k
 
-facts-more : (k : ℕ) (long short : List NodeWork) (started : ℕ) (work : NodeWork) → Facts k long short started →
+facts-more : {k : ℕ} {long short : List NodeWork} {started : ℕ} (work : NodeWork) → Facts k long short started →
     Facts k (long ++ work ∷ []) short started
-facts-more k long short started work facts = record {
+facts-more {k} {long} work facts = record {
   over = let o = facts.over in rw (length-append long (work ∷ [])) (omega arith);
   full = facts.full;
   same = let o : k ≤ length long = let p = facts.over in omega arith in facts.same ∙ sym (take-append-le k long (work ∷ []) o);
@@ -224,8 +221,8 @@ data Outcome (name : NodeName) (k rests again : ℕ) (sent said : List Message) 
   Stays : rests ≤ k → rests ≡ again → sent ≡ said → IsCut name k long next deeds (are_left k deeds) →
       Outcome name k rests again sent said long short next deeds
 
-take-outcome : (index k : ℕ) (base : HostNode) (one other : Backup) (m : Master) (long short : List NodeWork) (started rests : ℕ)
-    (sent : List Message) (message : Message) (deeds : List Deed) → AllCut index k base started deeds → Facts k long short started →
+take-outcome : {index k : ℕ} (base : HostNode) (one : Backup) {other : Backup} {m : Master} {long short : List NodeWork} {started rests : ℕ}
+    {sent : List Message} (message : Message) {deeds : List Deed} → AllCut index k base started deeds → Facts k long short started →
     (b c d : Bool) → (c ≡ false → d ≡ false) → sent ≡ (with_host (taking base one m message b c)).1 →
     rests ≡ cond d (length long + 1) (cond (b && not c) started (length long)) →
     IsLived (TheHost index) (taken_life base one m long started message b c d) deeds →
@@ -233,161 +230,138 @@ take-outcome : (index k : ℕ) (base : HostNode) (one other : Backup) (m : Maste
     (with_host (taking base other m message b c)).1
     (taken_life base one m long started message b c d) (life_at base other m short started)
     (taken_life base other m short started message b c d) deeds
-take-outcome index k base one other m long short started rests sent message deeds rest facts b false true follows sends is lived =
-    true_false (follows refl)
-take-outcome index k base one other m long short started rests sent message deeds rest facts true true true follows sends is lived =
+take-outcome base one message rest facts b false true follows sends is lived = true_false (follows refl)
+take-outcome base one {other} {m} {long} {short} message rest facts true true true follows sends is lived =
     Lost (let o = facts.over in omega arith)
     (rest (backup_takes one message.from message.body).0 other m (long ++ Deliver message ∷ []) short
-    (facts-more k long short started (Deliver message) facts) lived)
-take-outcome index k base one other m long short started rests sent message deeds rest facts false true true follows sends is lived =
+    (facts-more (Deliver message) facts) lived)
+take-outcome base one {other} {m} {long} {short} message rest facts false true true follows sends is lived =
     Lost (let o = facts.over in omega arith)
-    (rest one other m (long ++ Deliver message ∷ []) short (facts-more k long short started (Deliver message) facts) lived)
-take-outcome index k base one other m long short started rests sent message deeds rest facts true true false follows sends is lived =
+    (rest one other m (long ++ Deliver message ∷ []) short (facts-more (Deliver message) facts) lived)
+take-outcome base one {other} {m} {long} {short} message rest facts true true false follows sends is lived =
     Lost (let o = facts.over in omega arith)
     (rest (backup_takes one message.from message.body).0 other m long short facts lived)
-take-outcome index k base one other m long short started rests sent message deeds rest facts false c false follows sends is lived =
+take-outcome base one {other} {m} {long} {short} message rest facts false c false follows sends is lived =
     Lost (let o = facts.over in omega arith) (rest one other m long short facts lived)
-take-outcome index k base one other m long short started rests sent message deeds rest facts true false false follows sends is lived =
+take-outcome base one {other} {m} {long} {short} message rest facts true false false follows sends is lived =
     Stays (let o = facts.early in omega arith) is sends
     (rest one other (master_takes m message.from message.body).0 long short facts lived)
 
-same-next : (index k : ℕ) (base : HostNode) (one other : Backup) (m : Master) (long short : List NodeWork) (started : ℕ)
-    (named : NodeName) (work : NodeWork) (sent : List Message) (rests : ℕ) (deeds : List Deed) →
+same-next : {index k : ℕ} (base : HostNode) {one other : Backup} {m : Master} {long short : List NodeWork} {started : ℕ}
+    {named : NodeName} (work : NodeWork) {sent : List Message} {rests : ℕ} {deeds : List Deed} →
     AllCut index k base started deeds → Facts k long short started →
     IsLived (TheHost index) (life_at base one m long started) (record { node = named; work = work; sent = sent; rests = rests } ∷ deeds) →
     IsCut (TheHost index) k (life_at base one m long started) (life_at base other m short started)
     (record { node = named; work = work; sent = sent; rests = rests } ∷ deeds)
     (are_left k (record { node = named; work = work; sent = sent; rests = rests } ∷ deeds))
-same-next index k base one other m long short started named (Deliver message) sent rests deeds rest facts lived =
-    elim (take-outcome index k base one other m long short started rests sent message deeds rest facts
+same-next base {one} {m} (Deliver message) {rests} rest facts lived =
+    elim (take-outcome base one message rest facts
     (is_server (server_of (running base one m)) message.to) (is_for_backup message.body) (changes_backup message.body)
     (unchanging message.body) lived.0.sends lived.0.rests lived.1) [
-      | Lost over cut ↦ skip (TheHost index) k (life_at base one m long started) (life_at base other m short started)
-          (record { node = named; work = Deliver message; sent = sent; rests = rests }) deeds over cut
-      | Stays within again says cut ↦ stay (TheHost index) k (life_at base one m long started) (life_at base other m short started)
-          (record { node = named; work = Deliver message; sent = sent; rests = rests }) deeds within
-          (record { can = refl; sends = says; rests = again }) cut
+      | Lost over cut ↦ skip over cut
+      | Stays within again says cut ↦ stay within (record { can = refl; sends = says; rests = again }) cut
     ]
-same-next index k base one other m long short started named Tick sent rests deeds rest facts lived =
-    stay (TheHost index) k (life_at base one m long started) (life_at base other m short started)
-    (record { node = named; work = Tick; sent = sent; rests = rests }) deeds
+same-next base {one} {other} {m} {long} {short} {started} Tick {rests} rest facts lived = stay
     (let e = facts.early in let r : rests ≡ started = lived.0.rests in omega arith)
     (record { can = lived.0.can; sends = lived.0.sends; rests = lived.0.rests })
     (rest one other (master_ticks m).0 long short facts lived.1)
-same-next index k base one other m long short started named Stop sent rests deeds rest facts lived =
-    skip (TheHost index) k (life_at base one m long started) (life_at base other m short started)
-    (record { node = named; work = Stop; sent = sent; rests = rests }) deeds
-    (let o = facts.over in let r : rests ≡ length long + 1 = lived.0.rests in omega arith)
-    (gone-cut (TheHost index) k _ _ deeds
+same-next base {long} Stop {rests} rest facts lived = skip
+    (let o = facts.over in let r : rests ≡ length long + 1 = lived.0.rests in omega arith) (gone-cut
     (record {
       long = let o = facts.over in rw (length-append long (Stop ∷ [])) (omega arith);
       late = λ e. true_false (sym e);
-    })
-    (facts-more k long short started Stop facts).same lived.1)
-same-next index k base one other m long short started named (Start kept) sent rests deeds rest facts lived =
-    true_false (sym (sym (and-off base) ∙ lived.0.can))
-same-next index k base one other m long short started named _ sent rests deeds rest facts lived = true_false (sym lived.0.can)
+    }) (facts-more Stop facts).same lived.1)
+same-next base (Start kept) rest facts lived = true_false (sym (sym (and-off base) ∙ lived.0.can))
+same-next base _ rest facts lived = true_false (sym lived.0.can)
 
-same-cut : (index k : ℕ) (base : HostNode) (started : ℕ) (deeds : List Deed) → AllCut index k base started deeds
-same-cut index k base started [] one other m long short facts lived = record { lived = tt; journal = facts.same }
-same-cut index k base started (deed ∷ deeds) one other m long short facts lived =
-    same-next index k base one other m long short started deed.node deed.work deed.sent deed.rests deeds
-    (same-cut index k base started deeds) facts lived
+same-cut : {index k : ℕ} (base : HostNode) {started : ℕ} (deeds : List Deed) → AllCut index k base started deeds
+same-cut base [] one other m long short facts lived = record { lived = tt; journal = facts.same }
+same-cut base (deed ∷ deeds) one other m long short facts lived = same-next base deed.work
+    (same-cut base deeds) facts lived
 
 -- The whole of a life
 
 -- a kept work that is one too many
-gone-here : (name : NodeName) (k : ℕ) (life : Life) (work : NodeWork) (deeds : List Deed) → keeps name work ≡ true →
+gone-here : {name : NodeName} {k : ℕ} {life : Life} (work : NodeWork) {deeds : List Deed} → keeps name work ≡ true →
     length life.journal ≡ k →
     (node_runs (node_step life.node work).0 ≡ true → k < started_next life work) → IsLived name (life_next name life work) deeds →
     IsCut name k (life_next name life work) life deeds (are_left k deeds)
-gone-here name k life work deeds kept full late lived =
+gone-here {name} {k} {life} work kept full late lived =
     let grown : journal_next name life work ≡ life.journal ++ work ∷ [] =
     ap (λ b. cond b (life.journal ++ work ∷ []) life.journal) kept in
     let longer : length (life.journal ++ work ∷ []) ≡ length life.journal + 1 = length-append life.journal (work ∷ []) in
-    gone-cut name k (life_next name life work) life deeds
+    gone-cut
     (record {
       long = subst (λ l. k < length l) (sym grown) (omega arith);
       late = late;
-    })
-    (sym (ap (take k) grown ∙ take_at life.journal (work ∷ []) k full)) lived
+    }) (sym (ap (take k) grown ∙ take_at life.journal (work ∷ []) k full)) lived
 
-facts-here : (k : ℕ) (journal : List NodeWork) (started : ℕ) (work : NodeWork) → length journal ≡ k → started ≤ k →
+facts-here : {k : ℕ} {journal : List NodeWork} {started : ℕ} (work : NodeWork) → length journal ≡ k → started ≤ k →
     Facts k (journal ++ work ∷ []) journal started
-facts-here k journal started work full early = record {
+facts-here {k} {journal} work full early = record {
   over = rw (length-append journal (work ∷ [])) (omega arith);
   full = full;
   same = sym (take_at journal (work ∷ []) k full);
   early = early;
 }
 
-kept-message : (index k : ℕ) (base : HostNode) (backup : Backup) (m : Master) (journal : List NodeWork) (started : ℕ) (message : Message)
-    (deeds : List Deed) → length journal ≡ k → started ≤ k → (b c d : Bool) → (c ≡ false → d ≡ false) → d ≡ true →
+kept-message : {index k : ℕ} (base : HostNode) {backup : Backup} {m : Master} {journal : List NodeWork} {started : ℕ} (message : Message)
+    {deeds : List Deed} → length journal ≡ k → started ≤ k → (b c d : Bool) → (c ≡ false → d ≡ false) → d ≡ true →
     IsLived (TheHost index) (taken_life base backup m journal started message b c d) deeds →
     IsCut (TheHost index) k (taken_life base backup m journal started message b c d) (life_at base backup m journal started) deeds
     (are_left k deeds)
-kept-message index k base backup m journal started message deeds full early b c false follows kept lived = true_false (sym kept)
-kept-message index k base backup m journal started message deeds full early b false true follows kept lived = true_false (follows refl)
-kept-message index k base backup m journal started message deeds full early true true true follows kept lived =
-    same-cut index k base started deeds (backup_takes backup message.from message.body).0 backup m (journal ++ Deliver message ∷ []) journal
-    (facts-here k journal started (Deliver message) full early) lived
-kept-message index k base backup m journal started message deeds full early false true true follows kept lived =
-    same-cut index k base started deeds backup backup m (journal ++ Deliver message ∷ []) journal
-    (facts-here k journal started (Deliver message) full early) lived
+kept-message base message full early b c false follows kept lived = true_false (sym kept)
+kept-message base message full early b false true follows kept lived = true_false (follows refl)
+kept-message base {backup} {m} {journal} message {deeds} full early true true true follows kept lived =
+    same-cut base deeds (backup_takes backup message.from message.body).0 backup m (journal ++ Deliver message ∷ []) journal
+    (facts-here (Deliver message) full early) lived
+kept-message base {backup} {m} {journal} message {deeds} full early false true true follows kept lived =
+    same-cut base deeds backup backup m (journal ++ Deliver message ∷ []) journal
+    (facts-here (Deliver message) full early) lived
 
 abbrev life_with : HostNode → Option Master → List NodeWork → ℕ → Life
 life_with host running journal started = record
     { node = node.TheHost (record host { master = running }); journal = journal; started = started }
 
-message-next : (k : ℕ) (host : HostNode) (running : Option Master) (journal : List NodeWork) (started : ℕ) (message : Message)
-    (deeds : List Deed) →
+message-next : {k : ℕ} (host : HostNode) (running : Option Master) {journal : List NodeWork} {started : ℕ} (message : Message)
+    {deeds : List Deed} →
     changes_backup message.body ≡ true → length journal ≡ k → started ≤ k →
     IsLived (TheHost host.index) (life_next (TheHost host.index) (life_with host running journal started) (Deliver message)) deeds →
     IsCut (TheHost host.index) k (life_next (TheHost host.index) (life_with host running journal started) (Deliver message))
     (life_with host running journal started) deeds (are_left k deeds)
-message-next k host None journal started message deeds kept full early lived =
-    gone-here (TheHost host.index) k (life_with host None journal started) (Deliver message) deeds kept full (λ e. true_false (sym e)) lived
-message-next k host (Some m) journal started message deeds kept full early lived =
-    kept-message host.index k host host.backup m journal started message deeds full early
+message-next host None message kept full early lived =
+    gone-here (Deliver message) kept full (λ e. true_false (sym e)) lived
+message-next host (Some m) message kept full early lived = kept-message host message full early
     (is_server (server_of host) message.to) (is_for_backup message.body) (changes_backup message.body) (unchanging message.body) kept
     lived
 
-host-next : (k : ℕ) (host : HostNode) (journal : List NodeWork) (started : ℕ) (work : NodeWork) (deeds : List Deed) →
+host-next : {k : ℕ} {host : HostNode} {journal : List NodeWork} {started : ℕ} (work : NodeWork) {deeds : List Deed} →
     host_keeps work ≡ true → length journal ≡ k → started ≤ k →
     IsLived (TheHost host.index)
     (life_next (TheHost host.index) (record { node = node.TheHost host; journal = journal; started = started }) work) deeds →
     IsCut (TheHost host.index) k
     (life_next (TheHost host.index) (record { node = node.TheHost host; journal = journal; started = started }) work)
     (record { node = node.TheHost host; journal = journal; started = started }) deeds (are_left k deeds)
-host-next k host journal started (Deliver message) deeds kept full early lived =
-    message-next k host host.master journal started message deeds kept full early lived
-host-next k host journal started (Start names) deeds kept full early lived =
-    gone-here (TheHost host.index) k (record { node = node.TheHost host; journal = journal; started = started }) (Start names) deeds kept
-    full
-    (λ _. omega arith) lived
-host-next k host journal started Stop deeds kept full early lived =
-    gone-here (TheHost host.index) k (record { node = node.TheHost host; journal = journal; started = started }) Stop deeds kept full
-    (λ e. true_false (sym e)) lived
-host-next k host journal started _ deeds kept full early lived = true_false (sym kept)
+host-next {host} (Deliver message) kept full early lived = message-next host host.master message kept full early lived
+host-next (Start names) kept full early lived = gone-here (Start names) kept full (λ _. omega arith) lived
+host-next Stop kept full early lived = gone-here Stop kept full (λ e. true_false (sym e)) lived
+host-next _ kept full early lived = true_false (sym kept)
 
-over-next : (name : NodeName) (k : ℕ) (n : Node) (journal : List NodeWork) (started : ℕ) (work : NodeWork) (deeds : List Deed) → name_of n
+over-next : {name : NodeName} {k : ℕ} (n : Node) {journal : List NodeWork} {started : ℕ} (work : NodeWork) {deeds : List Deed} → name_of n
     ≡ name →
     keeps name work ≡ true → length journal ≡ k → started ≤ k →
     IsLived name (life_next name (record { node = n; journal = journal; started = started }) work) deeds →
     IsCut name k (life_next name (record { node = n; journal = journal; started = started }) work)
     (record { node = n; journal = journal; started = started }) deeds (are_left k deeds)
-over-next name k node.TheOutside journal started work deeds named kept full early lived =
-    gone-here name k (record { node = node.TheOutside; journal = journal; started = started }) work deeds kept full
+over-next node.TheOutside work named kept full early lived = gone-here work kept full (λ e. true_false (sym e)) lived
+over-next (node.TheCoordinator c) work named kept full early lived = gone-here work kept full
     (λ e. true_false (sym e)) lived
-over-next name k (node.TheCoordinator c) journal started work deeds named kept full early lived =
-    gone-here name k (record { node = node.TheCoordinator c; journal = journal; started = started }) work deeds kept full
-    (λ e. true_false (sym e)) lived
-over-next name k (node.TheHost host) journal started work deeds named kept full early lived =
+over-next {k} (node.TheHost host) {journal} {started} work {deeds} named kept full early lived =
     subst (λ (n : NodeName). keeps n work ≡ true →
     IsLived n (life_next n (record { node = node.TheHost host; journal = journal; started = started }) work) deeds →
     IsCut n k (life_next n (record { node = node.TheHost host; journal = journal; started = started }) work)
     (record { node = node.TheHost host; journal = journal; started = started }) deeds (are_left k deeds)) named
-    (λ its l. host-next k host journal started work deeds its full early l) kept lived
+    (λ its l. host-next work its full early l) kept lived
 
 pub name-next : (n : Node) (work : NodeWork) → name_of (node_step n work).0 ≡ name_of n
 name-next node.TheOutside work = refl
@@ -415,17 +389,17 @@ no-start-outside : (work : NodeWork) → node_can node.TheOutside work ≡ true 
 no-start-outside (Start kept) can = sym can
 no-start-outside work can = refl
 
-pub started-next : (name : NodeName) (n : Node) (life : Life) (work : NodeWork) → name_of n ≡ name → node_can n work ≡ true →
+pub started-next : {name : NodeName} (n : Node) (life : Life) (work : NodeWork) → name_of n ≡ name → node_can n work ≡ true →
     life.started ≤ length life.journal → started_next life work ≤ length (journal_next name life work)
-started-next name node.TheOutside life work named can early = started-other name life work (no-start-outside work can) early
-started-next name (node.TheCoordinator c) life work named can early = started-other name life work (no-start c work can) early
-started-next name (node.TheHost host) life work named can early =
+started-next {name} node.TheOutside life work named can early = started-other name life work (no-start-outside work can) early
+started-next {name} (node.TheCoordinator c) life work named can early = started-other name life work (no-start c work can) early
+started-next (node.TheHost host) life work named can early =
     subst (λ n. started_next life work ≤ length (journal_next n life work)) named (started-host life host work can early)
 
 -- what stays is within what is left of the journal
-within-next : (name : NodeName) (k : ℕ) (life : Life) (work : NodeWork) (rests : ℕ) → rests ≡ rests_on name life work → rests ≤ k →
+within-next : (name : NodeName) {k : ℕ} (life : Life) (work : NodeWork) {rests : ℕ} → rests ≡ rests_on name life work → rests ≤ k →
     length life.journal ≤ k → length (journal_next name life work) ≤ k
-within-next name k life work rests is in' within = by (keeps name work) is
+within-next name {k} life work {rests} is in' within = by (keeps name work) is
   where
     by : (b : Bool) → rests ≡ cond b (length life.journal + 1) (cond (is_masters life.node work) life.started (length life.journal)) →
         length (cond b (life.journal ++ work ∷ []) life.journal) ≤ k
@@ -433,9 +407,9 @@ within-next name k life work rests is in' within = by (keeps name work) is
     by false e = within
 
 -- what is lost and nothing before it is the first kept work that is too many
-over-here : (name : NodeName) (k : ℕ) (life : Life) (work : NodeWork) (rests : ℕ) → rests ≡ rests_on name life work → k < rests →
+over-here : (name : NodeName) {k : ℕ} (life : Life) (work : NodeWork) {rests : ℕ} → rests ≡ rests_on name life work → k < rests →
     length life.journal ≤ k → life.started ≤ length life.journal → (keeps name work ≡ true) × (length life.journal ≡ k)
-over-here name k life work rests is over within early = by (keeps name work) (is_masters life.node work) is
+over-here name {k} life work {rests} is over within early = by (keeps name work) (is_masters life.node work) is
   where
     by : (b c : Bool) → rests ≡ cond b (length life.journal + 1) (cond c life.started (length life.journal)) →
         (b ≡ true) × (length life.journal ≡ k)
@@ -444,21 +418,20 @@ over-here name k life work rests is over within early = by (keeps name work) (is
     by false false e = let none : ⊥ = omega arith in absurd none
 
 -- What is left of a life where no more than so many works of its journal are left is a life, and has just these
-pub first-cut : (name : NodeName) (k : ℕ) (life : Life) (deeds : List Deed) → name_of life.node ≡ name → length life.journal ≤ k →
+pub first-cut : {name : NodeName} {k : ℕ} {life : Life} (deeds : List Deed) → name_of life.node ≡ name → length life.journal ≤ k →
     life.started ≤ length life.journal → IsLived name life deeds → IsCut name k life life deeds (are_left k deeds)
-first-cut name k life [] named within early lived = record { lived = tt; journal = sym (take_all k life.journal within) }
-first-cut name k life (deed ∷ deeds) named within early lived =
-    by (nat_le deed.rests k) refl (λ in'. first-cut name k (life_next name life deed.work) deeds
-    (name-next life.node deed.work ∙ named) in' (started-next name life.node life deed.work named lived.0.can early) lived.1)
+first-cut {k} {life} [] named within early lived = record { lived = tt; journal = sym (take_all k life.journal within) }
+first-cut {name} {k} {life} (deed ∷ deeds) named within early lived =
+    by (nat_le deed.rests k) refl (λ in'. first-cut {name = name} {k = k} {life = (life_next name life deed.work)} deeds
+    (name-next life.node deed.work ∙ named) in' (started-next {name = name} life.node life deed.work named lived.0.can early) lived.1)
   where
-    by : (b : Bool) → nat_le deed.rests k ≡ b →
-        (length (journal_next name life deed.work) ≤ k →
+    by : (b : Bool) → nat_le deed.rests k ≡ b → (length (journal_next name life deed.work) ≤ k →
         IsCut name k (life_next name life deed.work) (life_next name life deed.work) deeds (are_left k deeds)) →
         IsCut name k life life (deed ∷ deeds) (are_left k (deed ∷ deeds))
     by true e rest =
-        stay name k life life deed deeds (leb-true deed.rests k e) lived.0
-        (rest (within-next name k life deed.work deed.rests lived.0.rests (leb-true deed.rests k e) within))
+        stay {name = name} {k = k} {long = life} {short = life} {deed = deed} {deeds = deeds} (leb-true deed.rests k e) lived.0
+        (rest (within-next name {k = k} life deed.work {rests = deed.rests} lived.0.rests (leb-true deed.rests k e) within))
     by false e rest =
-        let here = over-here name k life deed.work deed.rests lived.0.rests (leb-false deed.rests k e) within early in
-        skip name k life life deed deeds (leb-false deed.rests k e)
-        (over-next name k life.node life.journal life.started deed.work deeds named here.0 here.1 (omega arith) lived.1)
+        let here = over-here name {k = k} life deed.work {rests = deed.rests} lived.0.rests (leb-false deed.rests k e) within early in
+        skip {name = name} {k = k} {long = life} {short = life} {deed = deed} {deeds = deeds} (leb-false deed.rests k e)
+        (over-next {name = name} {k = k} life.node {journal = life.journal} {started = life.started} deed.work {deeds = deeds} named here.0 here.1 (omega arith) lived.1)

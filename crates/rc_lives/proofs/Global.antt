@@ -62,11 +62,11 @@ in-filter p deed (one ∷ deeds) (inr rest) passes = by (p one) (in-filter p dee
     by true later = inr later
     by false later = later
 
-pub leave-through : (safe after' : NodeName → ℕ) (done more : List Deed) (message : Message) →
+pub leave-through : {safe after' : NodeName → ℕ} {done more : List Deed} {message : Message} →
     ((name : NodeName) → safe name ≤ after' name) →
     ((deed : Deed) → In deed done → deed.rests ≤ safe deed.node → In deed more) → MayLeave safe done message →
     MayLeave after' more message
-leave-through safe after' done more message rises stays leaves = record {
+leave-through {safe} {after'} rises stays leaves = record {
   deed = leaves.deed;
   done_before = stays leaves.deed leaves.done_before leaves.safe_by_now;
   its = leaves.its;
@@ -74,21 +74,21 @@ leave-through safe after' done more message rises stays leaves = record {
       omega arith;
 }
 
-supported-through : (safe after' : NodeName → ℕ) (done more : List Deed) (work : NodeWork) → ((name : NodeName) → safe name ≤ after' name) →
+supported-through : {safe after' : NodeName → ℕ} (done more : List Deed) (work : NodeWork) → ((name : NodeName) → safe name ≤ after' name) →
     ((deed : Deed) → In deed done → deed.rests ≤ safe deed.node → In deed more) → IsSupported safe done work →
     IsSupported after' more work
-supported-through safe after' done more (Deliver message) rises stays is = leave-through safe after' done more message rises stays is
-supported-through safe after' done more work rises stays is = is
+supported-through done more (Deliver message) rises stays is = leave-through rises stays is
+supported-through done more work rises stays is = is
 
-brought-rises : (safe after' : NodeName → ℕ) (earlier deeds : List Deed) → ((name : NodeName) → safe name ≤ after' name) →
+brought-rises : {safe after' : NodeName → ℕ} (earlier deeds : List Deed) → ((name : NodeName) → safe name ≤ after' name) →
     AllBrought safe earlier deeds → AllBrought after' earlier deeds
-brought-rises safe after' earlier [] rises is = tt
-brought-rises safe after' earlier (deed ∷ deeds) rises is = (
+brought-rises earlier [] rises is = tt
+brought-rises earlier (deed ∷ deeds) rises is = (
   record {
     addressed = is.0.addressed;
-    supported = supported-through safe after' earlier earlier deed.work rises (λ d at e. at) is.0.supported;
+    supported = supported-through earlier earlier deed.work rises (λ d at e. at) is.0.supported;
   },
-  brought-rises safe after' (earlier ++ deed ∷ []) deeds rises is.1,
+  brought-rises (earlier ++ deed ∷ []) deeds rises is.1,
 )
 
 brought-append : (safe : NodeName → ℕ) (earlier deeds more : List Deed) → AllBrought safe earlier deeds →
@@ -105,19 +105,19 @@ filter-push : (p : Deed → Bool) (earlier : List Deed) (deed : Deed) → filter
     ≡ filter p earlier ++ cond (p deed) (deed ∷ []) []
 filter-push p earlier deed = filter-append p earlier (deed ∷ [])
 
-brought-filter : (safe : NodeName → ℕ) (p : Deed → Bool) → ((deed : Deed) → deed.rests ≤ safe deed.node → p deed ≡ true) →
+brought-filter : (safe : NodeName → ℕ) {p : Deed → Bool} → ((deed : Deed) → deed.rests ≤ safe deed.node → p deed ≡ true) →
     (earlier deeds : List Deed) → AllBrought safe earlier deeds → AllBrought safe (filter p earlier) (filter p deeds)
-brought-filter safe p keeps earlier [] is = tt
-brought-filter safe p keeps earlier (deed ∷ deeds) is =
+brought-filter safe keeps earlier [] is = tt
+brought-filter safe {p} keeps earlier (deed ∷ deeds) is =
     by (p deed) (subst (λ l. AllBrought safe l (filter p deeds)) (filter-push p earlier deed)
-    (brought-filter safe p keeps (earlier ++ deed ∷ []) deeds is.1))
+    (brought-filter safe keeps (earlier ++ deed ∷ []) deeds is.1))
   where
     by : (b : Bool) → AllBrought safe (filter p earlier ++ cond b (deed ∷ []) []) (filter p deeds) →
         AllBrought safe (filter p earlier) (cond b (deed ∷ filter p deeds) (filter p deeds))
     by true rest = (
       record {
         addressed = is.0.addressed;
-        supported = supported-through safe safe earlier (filter p earlier) deed.work (λ n. omega arith)
+        supported = supported-through earlier (filter p earlier) deed.work (λ n. omega arith)
             (λ d at e. in-filter p d earlier at (keeps d e)) is.0.supported;
       },
       rest,
@@ -133,8 +133,7 @@ own-push name done deed its = filter-push (λ (d : Deed). same_node d.node name)
 
 pub own-others : (name : NodeName) (done : List Deed) (deed : Deed) → same_node deed.node name ≡ false → own name (done ++ deed ∷ [])
     ≡ own name done
-own-others name done deed its =
-    filter-push (λ (d : Deed). same_node d.node name) done deed
+own-others name done deed its = filter-push (λ (d : Deed). same_node d.node name) done deed
     ∙ (ap (λ b. own name done ++ cond b (deed ∷ []) []) its ∙ append-nil (own name done))
 
 own-left : (name : NodeName) (k : ℕ) (done : List Deed) → own name (filter (is_left name k) done) ≡ are_left k (own name done)
@@ -162,8 +161,7 @@ other-left name other k (deed ∷ done) differ = by (same_node deed.node name) (
         own other (cond (cond b c true) (deed ∷ filter (is_left name k) done) (filter (is_left name k) done))
         ≡ cond (same_node deed.node other) (deed ∷ own other done) (own other done)
     by true true e rest = ap (λ l. cond (same_node deed.node other) (deed ∷ l) l) rest
-    by true false e rest =
-        rest ∙ sym (ap (λ b. cond b (deed ∷ own other done) (own other done))
+    by true false e rest = rest ∙ sym (ap (λ b. cond b (deed ∷ own other done) (own other done))
         (ap (λ n. same_node n other) (same_node-true deed.node name e) ∙ differ))
     by false c e rest = ap (λ l. cond (same_node deed.node other) (deed ∷ l) l) rest
 
@@ -194,17 +192,15 @@ longer-next name life work = by (keeps name work)
     by true = rw (length-append life.journal (work ∷ [])) (omega arith)
     by false = omega arith
 
-well-takes : (setup : Setup) (name : NodeName) (process : Process) (deeds : List Deed) (work : NodeWork) → Well setup name process deeds →
+well-takes : {setup : Setup} {name : NodeName} {process : Process} {deeds : List Deed} (work : NodeWork) → Well setup name process deeds →
     node_can process.life.node work ≡ true →
     Well setup name (record { life = life_next name process.life work; safe = process.safe })
     (deeds ++ deed_of name process.life work ∷ [])
-well-takes setup name process deeds work well can = record {
-  life =
-      ap (λ l. life_next name l work) well.life
+well-takes {setup} {name} {process} {deeds} work well can = record {
+  life = ap (λ l. life_next name l work) well.life
       ∙ sym (life_of-append name (new_life setup name) deeds (deed_of name process.life work ∷ []));
-  lived =
-      lived-append name (new_life setup name) deeds (deed_of name process.life work ∷ []) well.lived
-      (subst (λ l. IsLived name l (deed_of name process.life work ∷ [])) well.life (deed_lives name process.life work can, tt));
+  lived = lived-append name (new_life setup name) deeds (deed_of name process.life work ∷ []) well.lived
+      (subst (λ l. IsLived name l (deed_of name process.life work ∷ [])) well.life (deed_lives can, tt));
   safe = let s = well.safe in let l = longer-next name process.life work in omega arith;
 }
 
@@ -213,49 +209,44 @@ supported-takes : (all : Processes) (work : NodeWork) → IsBrought all.left wor
 supported-takes all (Deliver message) brought left = left message brought
 supported-takes all work brought left = tt
 
-goes-takes : (setup : Setup) (all : Processes) (name : NodeName) (work : NodeWork) → Goes setup all → MayTake all name work →
+goes-takes : {setup : Setup} {all : Processes} {name : NodeName} {work : NodeWork} → Goes setup all → MayTake all name work →
     Goes setup (after setup all (Takes name work))
-goes-takes setup all name work goes may =
+goes-takes {setup} {all} {name} {work} goes may =
     let deed = deed_of name (all.at name).life work in
     let process : Process = record { life = life_next name (all.at name).life work; safe = (all.at name).safe } in
     let rises = put-safe all.at name process (omega arith) in
     record {
-      well =
-          put-well setup all.at name process all.done (all.done ++ deed ∷ [])
+      well = put-well setup all.at name process all.done (all.done ++ deed ∷ [])
           (subst (Well setup name process) (sym (own-push name all.done deed (same_node-refl name)))
-          (well-takes setup name (all.at name) (own name all.done) work (goes.well name) may.can))
+          (well-takes work (goes.well name) may.can))
           (λ other differ. own-others other all.done deed differ) goes.well;
-      brought =
-          brought-rises (safe_at all) _ [] (all.done ++ deed ∷ []) rises
+      brought = brought-rises [] (all.done ++ deed ∷ []) rises
           (brought-append (safe_at all) [] all.done (deed ∷ []) goes.brought
           (record { addressed = may.addressed; supported = supported-takes all work may.brought goes.left }, tt));
-      left = λ message at.
-          leave-through (safe_at all) _ all.done (all.done ++ deed ∷ []) message rises (λ d among e. In-left d all.done (deed ∷ []) among)
+      left = λ message at. leave-through rises (λ d among e. In-left d all.done (deed ∷ []) among)
           (goes.left message at);
     }
 
 -- Works are safe
 
-goes-syncs : (setup : Setup) (all : Processes) (name : NodeName) (count : ℕ) → Goes setup all → MayBeLeft (all.at name) count →
+goes-syncs : {setup : Setup} {all : Processes} {name : NodeName} {count : ℕ} → Goes setup all → MayBeLeft (all.at name) count →
     Goes setup (after setup all (Syncs name count))
-goes-syncs setup all name count goes may =
+goes-syncs {setup} {all} {name} {count} goes may =
     let process : Process = record { life = (all.at name).life; safe = count } in
     let rises = put-safe all.at name process may.no_less in
     record {
-      well =
-          put-well setup all.at name process all.done all.done
+      well = put-well setup all.at name process all.done all.done
           (record { life = (goes.well name).life; lived = (goes.well name).lived; safe = may.no_more })
           (λ other differ. refl) goes.well;
-      brought = brought-rises (safe_at all) _ [] all.done rises goes.brought;
-      left = λ message at.
-          leave-through (safe_at all) _ all.done all.done message rises (λ d among e. among) (goes.left message at);
+      brought = brought-rises [] all.done rises goes.brought;
+      left = λ message at. leave-through rises (λ d among e. among) (goes.left message at);
     }
 
 -- A message leaves
 
-goes-leaves : (setup : Setup) (all : Processes) (message : Message) → Goes setup all → MayLeave (safe_at all) all.done message →
+goes-leaves : {setup : Setup} {all : Processes} {message : Message} → Goes setup all → MayLeave (safe_at all) all.done message →
     Goes setup (after setup all (Leaves message))
-goes-leaves setup all message goes may = record {
+goes-leaves {all} {message} goes may = record {
   well = goes.well;
   brought = goes.brought;
   left = λ one at. by one (In-append one all.left (message ∷ []) at);
@@ -287,8 +278,7 @@ own-stop : (name : NodeName) (life : Life) (works : List NodeWork) → own name 
 own-stop name life [] = refl
 own-stop name life (work ∷ works) =
     ap (λ b. cond b (deed_of name life work ∷ own name (stop_deeds name life works)) (own name (stop_deeds name life works)))
-    (same_node-refl name)
-    ∙ ap (λ l. deed_of name life work ∷ l) (own-stop name life works)
+    (same_node-refl name) ∙ ap (λ l. deed_of name life work ∷ l) (own-stop name life works)
 
 other-stop : (name other : NodeName) (life : Life) (works : List NodeWork) → same_node name other
     ≡ false → own other (stop_deeds name life works) ≡ []
@@ -322,11 +312,11 @@ longer-after : (name : NodeName) (life : Life) (works : List NodeWork) → lengt
 longer-after name life works =
     rw (life_journal name life works) (rw (length-append life.journal (filter (keeps name) works)) (omega arith))
 
-well-falls : (setup : Setup) (name : NodeName) (k : ℕ) (process : Process) (deeds : List Deed) → Well setup name process deeds →
+well-falls : {setup : Setup} {name : NodeName} {k : ℕ} {process : Process} {deeds : List Deed} → Well setup name process deeds →
     MayBeLeft process k → Falls' setup name k process deeds
-well-falls setup name k process deeds well may =
+well-falls {setup} {name} {k} {process} {deeds} well may =
     let fresh : Life = new_life setup name in
-    let cut = first-cut name k fresh deeds (name-new setup name) (omega arith) (omega arith) well.lived in
+    let cut = first-cut deeds (name-new setup name) (omega arith) (omega arith) well.lived in
     let short : Life = life_of name fresh (are_left k deeds) in
     let its : short.journal ≡ take k process.life.journal = cut.journal ∙ ap (λ (l : Life). take k l.journal) (sym well.life) in
     let ends : Ends name (replayed setup name (take k process.life.journal)) short =
@@ -335,13 +325,9 @@ well-falls setup name k process deeds well may =
     let size : length (take k process.life.journal) ≡ k = length-take-le k process.life.journal may.no_more in
     record {
       well = record {
-        life =
-            ends.life
-            ∙ (sym (stop-works name short)
-            ∙ (ap (life_of name short) (sym ends.deeds)
+        life = ends.life ∙ (sym (stop-works name short) ∙ (ap (life_of name short) (sym ends.deeds)
             ∙ sym (life_of-append name fresh (are_left k deeds) (stop_deeds name again (stops again.node)))));
-        lived =
-            lived-append name fresh (are_left k deeds) (stop_deeds name again (stops again.node)) cut.lived
+        lived = lived-append name fresh (are_left k deeds) (stop_deeds name again (stops again.node)) cut.lived
             (subst (IsLived name short) (sym ends.deeds) (stop-lived name short));
         safe =
             let longer : length (take k process.life.journal) ≤ length (life_after name again (stops again.node)).journal =
@@ -350,9 +336,9 @@ well-falls setup name k process deeds well may =
       };
     }
 
-pub left-passes : (name : NodeName) (k : ℕ) (safe : NodeName → ℕ) (deed : Deed) → safe name ≤ k → deed.rests ≤ safe deed.node →
+pub left-passes : {name : NodeName} {k : ℕ} (safe : NodeName → ℕ) (deed : Deed) → safe name ≤ k → deed.rests ≤ safe deed.node →
     is_left name k deed ≡ true
-left-passes name k safe deed within rests = by (same_node deed.node name) refl
+left-passes {name} {k} safe deed within rests = by (same_node deed.node name) refl
   where
     by : (b : Bool) → same_node deed.node name ≡ b → cond b (nat_le deed.rests k) true ≡ true
     by true e =
@@ -360,54 +346,48 @@ left-passes name k safe deed within rests = by (same_node deed.node name) refl
         le-leb deed.rests k (omega arith)
     by false e = refl
 
-goes-falls : (setup : Setup) (all : Processes) (name : NodeName) (k : ℕ) → Goes setup all → MayBeLeft (all.at name) k →
+goes-falls : {setup : Setup} {all : Processes} {name : NodeName} {k : ℕ} → Goes setup all → MayBeLeft (all.at name) k →
     Goes setup (after setup all (Falls name k))
-goes-falls setup all name k goes may =
+goes-falls {setup} {all} {name} {k} goes may =
     let kept : List NodeWork = take k (all.at name).life.journal in
     let again : Life = replayed setup name kept in
     let stop : List Deed = stop_deeds name again (stops again.node) in
     let remain : List Deed = filter (is_left name k) all.done in
     let process : Process = record { life = remade setup name kept; safe = (all.at name).safe } in
     let rises = put-safe all.at name process (omega arith) in
-    let passes = λ (deed : Deed) (e : deed.rests ≤ safe_at all deed.node). left-passes name k (safe_at all) deed may.no_less e in
+    let passes = λ (deed : Deed) (e : deed.rests ≤ safe_at all deed.node). left-passes (safe_at all) deed may.no_less e in
     let split = λ (n : NodeName). filter-append (λ (d : Deed). same_node d.node n) remain stop in
     record {
-      well =
-          put-well setup all.at name process all.done (remain ++ stop)
-          (subst (Well setup name process)
+      well = put-well setup all.at name process all.done (remain ++ stop) (subst (Well setup name process)
           (sym (split name ∙ (ap (λ l. l ++ own name stop) (own-left name k all.done)
           ∙ ap (λ l. are_left k (own name all.done) ++ l) (own-stop name again (stops again.node)))))
-          (well-falls setup name k (all.at name) (own name all.done) (goes.well name) may).well)
-          (λ other differ.
+          (well-falls (goes.well name) may).well) (λ other differ.
           split other ∙ (ap (λ l. l ++ own other stop) (other-left name other k all.done differ)
           ∙ (ap (λ l. own other all.done ++ l) (other-stop name other again (stops again.node) differ)
           ∙ append-nil (own other all.done))))
           goes.well;
-      brought =
-          brought-rises (safe_at all) _ [] (remain ++ stop) rises
-          (brought-append (safe_at all) [] remain stop
-          (brought-filter (safe_at all) (is_left name k) passes [] all.done goes.brought)
+      brought = brought-rises [] (remain ++ stop) rises (brought-append (safe_at all) [] remain stop
+          (brought-filter (safe_at all) passes [] all.done goes.brought)
           (stop-brought (safe_at all) remain name again again.node));
-      left = λ message at.
-          leave-through (safe_at all) _ all.done (remain ++ stop) message rises
+      left = λ message at. leave-through rises
           (λ d among e. In-left d remain stop (in-filter (is_left name k) d all.done among (passes d e))) (goes.left message at);
     }
 
 -- Whatever happens
 
-pub goes-after : (setup : Setup) (all : Processes) (one : Happening) → Goes setup all → May all one → Goes setup (after setup all one)
-goes-after setup all (Takes name work) goes may = goes-takes setup all name work goes may
-goes-after setup all (Syncs name count) goes may = goes-syncs setup all name count goes may
-goes-after setup all (Leaves message) goes may = goes-leaves setup all message goes may
-goes-after setup all (Falls name count) goes may = goes-falls setup all name count goes may
+pub goes-after : {setup : Setup} {all : Processes} (one : Happening) → Goes setup all → May all one → Goes setup (after setup all one)
+goes-after (Takes name work) goes may = goes-takes goes may
+goes-after (Syncs name count) goes may = goes-syncs goes may
+goes-after (Leaves message) goes may = goes-leaves goes may
+goes-after (Falls name count) goes may = goes-falls goes may
 
 pub goes-all : (setup : Setup) (all : Processes) (happenings : List Happening) → Goes setup all → MayAll setup all happenings →
     Goes setup (after_all setup all happenings)
 goes-all setup all [] goes may = goes
-goes-all setup all (one ∷ more) goes may = goes-all setup (after setup all one) more (goes-after setup all one goes may.0) may.1
+goes-all setup all (one ∷ more) goes may = goes-all setup (after setup all one) more (goes-after one goes may.0) may.1
 
-pub goes-new : (setup : Setup) → Goes setup (new_processes setup)
-goes-new setup = record {
+pub goes-new : {setup : Setup} → Goes setup (new_processes setup)
+goes-new = record {
   well = λ name. record { life = refl; lived = tt; safe = omega arith };
   brought = tt;
   left = λ message at. absurd at;

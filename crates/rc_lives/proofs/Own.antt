@@ -58,6 +58,6 @@ life_journal name life (work ∷ works) = life_journal name (life_next name life
     by true = append_assoc life.journal (work ∷ []) (filter (keeps name) works)
     by false = refl
 
-pub deed_lives : (name : NodeName) (life : Life) (work : NodeWork) → node_can life.node work ≡ true →
+pub deed_lives : {name : NodeName} {life : Life} {work : NodeWork} → node_can life.node work ≡ true →
     Lives name life (deed_of name life work)
-deed_lives name life work can = record { can = can; sends = refl; rests = refl }
+deed_lives can = record { can = can; sends = refl; rests = refl }

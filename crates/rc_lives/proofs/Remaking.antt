@@ -50,40 +50,40 @@ ticks-runs host (Some m) is = sym (ap is_some is)
 abbrev RestsZero : Life → Type 0
 RestsZero life = node_runs life.node ≡ false → life.started ≡ 0
 
-zero-host : (name : NodeName) (host : HostNode) (journal : List NodeWork) (started : ℕ) (work : NodeWork) →
+zero-host : (name : NodeName) (host : HostNode) (journal : List NodeWork) {started : ℕ} (work : NodeWork) →
     (runs host ≡ false → started ≡ 0) →
     RestsZero (life_next name (record { node = node.TheHost host; journal = journal; started = started }) work)
-zero-host name host journal started (Deliver message) zero e = zero (sym (takes-runs host host.master message refl) ∙ e)
-zero-host name host journal started Tick zero e = zero (sym (ticks-runs host host.master refl) ∙ e)
-zero-host name host journal started Stop zero e = refl
-zero-host name host journal started (Start kept) zero e = true_false e
-zero-host name host journal started _ zero e = zero e
+zero-host name host journal (Deliver message) zero e = zero (sym (takes-runs host host.master message refl) ∙ e)
+zero-host name host journal Tick zero e = zero (sym (ticks-runs host host.master refl) ∙ e)
+zero-host name host journal Stop zero e = refl
+zero-host name host journal (Start kept) zero e = true_false e
+zero-host name host journal _ zero e = zero e
 
-zero-coordinator : (name : NodeName) (c : Coordinator) (journal : List NodeWork) (started : ℕ) (work : NodeWork) → started ≡ 0 →
+zero-coordinator : (name : NodeName) (c : Coordinator) (journal : List NodeWork) {started : ℕ} (work : NodeWork) → started ≡ 0 →
     node_can (node.TheCoordinator c) work ≡ true →
     (life_next name (record { node = node.TheCoordinator c; journal = journal; started = started }) work).started ≡ 0
-zero-coordinator name c journal started (Start kept) zero can = true_false (sym can)
-zero-coordinator name c journal started Stop zero can = refl
-zero-coordinator name c journal started work zero can = zero
+zero-coordinator name c journal (Start kept) zero can = true_false (sym can)
+zero-coordinator name c journal Stop zero can = refl
+zero-coordinator name c journal work zero can = zero
 
-zero-outside : (name : NodeName) (journal : List NodeWork) (started : ℕ) (work : NodeWork) → started ≡ 0 →
+zero-outside : (name : NodeName) (journal : List NodeWork) {started : ℕ} (work : NodeWork) → started ≡ 0 →
     node_can node.TheOutside work ≡ true →
     (life_next name (record { node = node.TheOutside; journal = journal; started = started }) work).started ≡ 0
-zero-outside name journal started (Start kept) zero can = true_false (sym can)
-zero-outside name journal started Stop zero can = refl
-zero-outside name journal started work zero can = zero
+zero-outside name journal (Start kept) zero can = true_false (sym can)
+zero-outside name journal Stop zero can = refl
+zero-outside name journal work zero can = zero
 
-zero-next : (name : NodeName) (n : Node) (journal : List NodeWork) (started : ℕ) (work : NodeWork) → (node_runs n ≡ false → started ≡ 0) →
+zero-next : (name : NodeName) (n : Node) (journal : List NodeWork) {started : ℕ} (work : NodeWork) → (node_runs n ≡ false → started ≡ 0) →
     node_can n work ≡ true → RestsZero (life_next name (record { node = n; journal = journal; started = started }) work)
-zero-next name node.TheOutside journal started work zero can e = zero-outside name journal started work (zero refl) can
-zero-next name (node.TheCoordinator c) journal started work zero can e = zero-coordinator name c journal started work (zero refl) can
-zero-next name (node.TheHost host) journal started work zero can e = zero-host name host journal started work zero e
+zero-next name node.TheOutside journal work zero can e = zero-outside name journal work (zero refl) can
+zero-next name (node.TheCoordinator c) journal work zero can e = zero-coordinator name c journal work (zero refl) can
+zero-next name (node.TheHost host) journal work zero can e = zero-host name host journal work zero e
 
 pub zero-life : (name : NodeName) (life : Life) (deeds : List Deed) → RestsZero life → IsLived name life deeds →
     RestsZero (life_of name life deeds)
 zero-life name life [] zero lived = zero
 zero-life name life (deed ∷ deeds) zero lived =
-    zero-life name (life_next name life deed.work) deeds (zero-next name life.node life.journal life.started deed.work zero lived.0.can)
+    zero-life name (life_next name life deed.work) deeds (zero-next name life.node life.journal deed.work zero lived.0.can)
     lived.1
 
 zero-new : (setup : Setup) (name : NodeName) → RestsZero (new_life setup name)
@@ -95,41 +95,40 @@ pub record Ends (name : NodeName) (one other : Life) : Type 0 where
   pub life : life_after name one (stops one.node) ≡ life_after name other (stops other.node)
   pub deeds : stop_deeds name one (stops one.node) ≡ stop_deeds name other (stops other.node)
 
-ends-both : (name : NodeName) (base : HostNode) (one other : Option Master) (journal : List NodeWork) (started : ℕ) →
+ends-both : {name : NodeName} (base : HostNode) (one other : Option Master) {journal : List NodeWork} {started : ℕ} →
     is_some one ≡ is_some other → (is_some other ≡ false → started ≡ 0) →
     Ends name (record { node = node.TheHost (record base { master = one }); journal = journal; started = 0 })
     (record { node = node.TheHost (record base { master = other }); journal = journal; started = started })
-ends-both name base None None journal started both zero = record {
+ends-both base None None {journal} {started} both zero = record {
   life = ap (λ n. record { node = node.TheHost (record base { master = None }); journal = journal; started = n }) (sym (zero refl));
   deeds = refl;
 }
-ends-both name base None (Some other) journal started both zero = true_false (sym both)
-ends-both name base (Some one) None journal started both zero = true_false both
-ends-both name base (Some one) (Some other) journal started both zero = record { life = refl; deeds = refl }
+ends-both base None (Some other) both zero = true_false (sym both)
+ends-both base (Some one) None both zero = true_false both
+ends-both base (Some one) (Some other) both zero = record { life = refl; deeds = refl }
 
 -- hosts that are the same but for their masters, with one journal
-ends-host : (name : NodeName) (one other : HostNode) (journal : List NodeWork) (started : ℕ) → SameButMaster one other →
+ends-host : {name : NodeName} {one other : HostNode} {journal : List NodeWork} {started : ℕ} → SameButMaster one other →
     (runs other ≡ false → started ≡ 0) →
     Ends name (record { node = node.TheHost one; journal = journal; started = 0 })
     (record { node = node.TheHost other; journal = journal; started = started })
-ends-host name one other journal started same zero =
+ends-host {name} {one} {other} {journal} {started} same zero =
     subst (λ (h : HostNode). Ends name (record { node = node.TheHost (record h { master = one.master }); journal = journal; started = 0 })
     (record { node = node.TheHost other; journal = journal; started = started })) (sym same.rest)
-    (ends-both name (stopped other) one.master other.master journal started same.runs zero)
+    (ends-both (stopped other) one.master other.master same.runs zero)
 
-ends-same : (name : NodeName) (n : Node) (journal : List NodeWork) (started : ℕ) → started ≡ 0 →
+ends-same : {name : NodeName} {n : Node} {journal : List NodeWork} {started : ℕ} → started ≡ 0 →
     Ends name (record { node = n; journal = journal; started = 0 }) (record { node = n; journal = journal; started = started })
-ends-same name n journal started zero =
+ends-same {name} {n} {journal} {started} zero =
     subst (λ s. Ends name (record { node = n; journal = journal; started = 0 }) (record { node = n; journal = journal; started = s }))
-    (sym zero)
-    (record { life = refl; deeds = refl })
+    (sym zero) (record { life = refl; deeds = refl })
 
-ends-at : (name : NodeName) (n m one other : Node) (journal : List NodeWork) (started : ℕ) → n ≡ one → m ≡ other →
+ends-at : {name : NodeName} {n m one other : Node} {journal : List NodeWork} {started : ℕ} → n ≡ one → m ≡ other →
     (RestsZero (record { node = m; journal = journal; started = started })) →
     ((node_runs other ≡ false → started ≡ 0) →
     Ends name (record { node = one; journal = journal; started = 0 }) (record { node = other; journal = journal; started = started })) →
     Ends name (record { node = n; journal = journal; started = 0 }) (record { node = m; journal = journal; started = started })
-ends-at name n m one other journal started e f zero ends =
+ends-at {name} {m} {one} {journal} {started} e f zero ends =
     subst (λ x. Ends name (record { node = x; journal = journal; started = 0 })
     (record { node = m; journal = journal; started = started })) (sym e)
     (subst (λ x. Ends name (record { node = one; journal = journal; started = 0 })
@@ -140,34 +139,29 @@ pub remade-ends : (setup : Setup) (name : NodeName) (deeds : List Deed) → IsLi
     Ends name (replayed setup name (life_of name (new_life setup name) deeds).journal) (life_of name (new_life setup name) deeds)
 remade-ends setup TheOutside deeds lived =
     let life = life_of TheOutside (new_life setup TheOutside) deeds in
-    ends-at TheOutside _ life.node node.TheOutside node.TheOutside life.journal life.started (node_after-outside life.journal)
+    ends-at (node_after-outside life.journal)
     (life_node TheOutside (new_life setup TheOutside) (works_of deeds) ∙ node_after-outside (works_of deeds))
     (zero-life TheOutside (new_life setup TheOutside) deeds (zero-new setup TheOutside) lived)
-    (λ zero. ends-same TheOutside node.TheOutside life.journal life.started (zero refl))
+    (λ zero. ends-same (zero refl))
 remade-ends setup TheCoordinator deeds lived =
     let life = life_of TheCoordinator (new_life setup TheCoordinator) deeds in
     let works = works_of deeds in
     let remains = node.TheCoordinator (coordinator_after new_coordinator works) in
-    ends-at TheCoordinator _ life.node remains remains life.journal life.started
-    (node_after-coordinator new_coordinator life.journal
+    ends-at (node_after-coordinator new_coordinator life.journal
     ∙ ap node.TheCoordinator (ap (coordinator_after new_coordinator) (life_journal TheCoordinator (new_life setup TheCoordinator) works)
     ∙ coordinator-remade new_coordinator works))
     (life_node TheCoordinator (new_life setup TheCoordinator) works ∙ node_after-coordinator new_coordinator works)
     (zero-life TheCoordinator (new_life setup TheCoordinator) deeds (zero-new setup TheCoordinator) lived)
-    (λ zero. ends-same TheCoordinator remains life.journal life.started (zero refl))
+    (λ zero. ends-same (zero refl))
 remade-ends setup (TheHost index) deeds lived =
     let life = life_of (TheHost index) (new_life setup (TheHost index)) deeds in
     let works = works_of deeds in
     let fresh = new_host index (master_setup setup index) in
-    ends-at (TheHost index) _ life.node (node.TheHost (host_after fresh (filter host_keeps works)))
-    (node.TheHost (host_after fresh works))
-    life.journal life.started
-    (node_after-host fresh life.journal
+    ends-at (node_after-host fresh life.journal
     ∙ ap (λ l. node.TheHost (host_after fresh l)) (life_journal (TheHost index) (new_life setup (TheHost index)) works))
     (life_node (TheHost index) (new_life setup (TheHost index)) works ∙ node_after-host fresh works)
     (zero-life (TheHost index) (new_life setup (TheHost index)) deeds (zero-new setup (TheHost index)) lived)
-    (λ zero. ends-host (TheHost index) (host_after fresh (filter host_keeps works)) (host_after fresh works) life.journal life.started
-    (hosts-remade fresh works) zero)
+    (λ zero. ends-host (hosts-remade fresh works) zero)
 
 -- the stop is a deed of its life
 
@@ -206,25 +200,22 @@ stop-works name life = ap (life_after name life) (stop-works-node name life life
 
 -- A node that is given only what it keeps
 
-made-at : (n m one other : Node) → n ≡ one → m ≡ other → SameNode one other → SameNode n m
-made-at n m one other e f same =
+made-at : {n m one other : Node} → n ≡ one → m ≡ other → SameNode one other → SameNode n m
+made-at {m} {one} e f same =
     subst (λ (x : Node). SameNode x m) (sym e) (subst (λ (x : Node). SameNode one x) (sym f) same)
 
 pub same-made : (setup : Setup) (name : NodeName) (works : List NodeWork) →
     SameNode (node_after (new_node setup name) (filter (keeps name) works)) (node_after (new_node setup name) works)
 same-made setup TheOutside works =
-    made-at _ _ node.TheOutside node.TheOutside (node_after-outside (filter (keeps TheOutside) works)) (node_after-outside works) tt
+    made-at (node_after-outside (filter (keeps TheOutside) works)) (node_after-outside works) tt
 same-made setup TheCoordinator works =
     let kept : List NodeWork = filter coordinator_keeps works in
-    made-at _ _ (node.TheCoordinator (coordinator_after new_coordinator kept))
-    (node.TheCoordinator (coordinator_after new_coordinator works))
-    (node_after-coordinator new_coordinator kept) (node_after-coordinator new_coordinator works)
+    made-at (node_after-coordinator new_coordinator kept) (node_after-coordinator new_coordinator works)
     (coordinator-remade new_coordinator works)
 same-made setup (TheHost index) works =
     let kept : List NodeWork = filter host_keeps works in
     let fresh : HostNode = new_host index (master_setup setup index) in
-    made-at _ _ (node.TheHost (host_after fresh kept)) (node.TheHost (host_after fresh works))
-    (node_after-host fresh kept) (node_after-host fresh works) (hosts-remade fresh works)
+    made-at (node_after-host fresh kept) (node_after-host fresh works) (hosts-remade fresh works)
 
 pub journal-makes : (setup : Setup) (name : NodeName) (deeds : List Deed) →
     SameNode (node_after (new_node setup name) (life_of name (new_life setup name) deeds).journal)

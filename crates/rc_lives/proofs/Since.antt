@@ -46,15 +46,15 @@ since-same early = record {
   rises = λ name. omega arith;
 }
 
-through : (early now next : Processes) → ((name : NodeName) → safe_at now name ≤ safe_at next name) → Since early now →
+through : {early now : Processes} (next : Processes) → ((name : NodeName) → safe_at now name ≤ safe_at next name) → Since early now →
     (name : NodeName) →
     safe_at early name ≤ safe_at next name
-through early now next rises since name = let a : safe_at early name ≤ safe_at now name = since.rises name in
+through {early} {now} next rises since name = let a : safe_at early name ≤ safe_at now name = since.rises name in
     let b : safe_at now name ≤ safe_at next name = rises name in omega arith
 
-since-after : (setup : Setup) (early now : Processes) (one : Happening) → Since early now → May now one →
+since-after : (setup : Setup) {early now : Processes} (one : Happening) → Since early now → May now one →
     Since early (after setup now one)
-since-after setup early now (Takes name work) since may =
+since-after setup {now} (Takes name work) since may =
     let process : Process = record { life = life_next name (now.at name).life work; safe = (now.at name).safe } in
     record {
       kept = since.kept;
@@ -63,9 +63,9 @@ since-after setup early now (Takes name work) since may =
           ∙ append_assoc since.kept since.rest (deed_of name (now.at name).life work ∷ []);
       from = since.from;
       stays = since.stays;
-      rises = through early now (after setup now (Takes name work)) (put-safe now.at name process (omega arith)) since;
+      rises = through (after setup now (Takes name work)) (put-safe now.at name process (omega arith)) since;
     }
-since-after setup early now (Syncs name count) since may =
+since-after setup {now} (Syncs name count) since may =
     let process : Process = record { life = (now.at name).life; safe = count } in
     record {
       kept = since.kept;
@@ -73,9 +73,9 @@ since-after setup early now (Syncs name count) since may =
       same = since.same;
       from = since.from;
       stays = since.stays;
-      rises = through early now (after setup now (Syncs name count)) (put-safe now.at name process may.no_less) since;
+      rises = through (after setup now (Syncs name count)) (put-safe now.at name process may.no_less) since;
     }
-since-after setup early now (Leaves message) since may = record {
+since-after setup (Leaves message) since may = record {
   kept = since.kept;
   rest = since.rest;
   same = since.same;
@@ -83,7 +83,7 @@ since-after setup early now (Leaves message) since may = record {
   stays = since.stays;
   rises = since.rises;
 }
-since-after setup early now (Falls name k) since may =
+since-after setup {early} {now} (Falls name k) since may =
     let kept = take k (now.at name).life.journal in
     let again : Life = replayed setup name kept in
     let stop : List Deed = stop_deeds name again (stops again.node) in
@@ -91,23 +91,22 @@ since-after setup early now (Falls name k) since may =
     record {
       kept = filter (is_left name k) since.kept;
       rest = filter (is_left name k) since.rest ++ stop;
-      same =
-          ap (λ l. filter (is_left name k) l ++ stop) since.same
+      same = ap (λ l. filter (is_left name k) l ++ stop) since.same
           ∙ (ap (λ l. l ++ stop) (filter-append (is_left name k) since.kept since.rest)
           ∙ append_assoc (filter (is_left name k) since.kept) (filter (is_left name k) since.rest) stop);
       from = λ deed at. since.from deed (in-filtered (is_left name k) deed since.kept at);
       stays = λ deed at e.
           in-filter (is_left name k) deed since.kept (since.stays deed at e)
-          (left-passes name k (safe_at now) deed may.no_less
+          (left-passes (safe_at now) deed may.no_less
           (let r : safe_at early deed.node ≤ safe_at now deed.node = since.rises deed.node in omega arith));
-      rises = through early now (after setup now (Falls name k)) (put-safe now.at name process (omega arith)) since;
+      rises = through (after setup now (Falls name k)) (put-safe now.at name process (omega arith)) since;
     }
 
 since-all : (setup : Setup) (early now : Processes) (more : List Happening) → Since early now → MayAll setup now more →
     Since early (after_all setup now more)
 since-all setup early now [] since may = since
 since-all setup early now (one ∷ more) since may =
-    since-all setup early (after setup now one) more (since-after setup early now one since may.0) may.1
+    since-all setup early (after setup now one) more (since-after setup one since may.0) may.1
 
 -- The history of both
 
@@ -137,17 +136,17 @@ from-said message (one ∷ deeds) at = by (In-append message one.sent (said_by d
     by (inr there) later = let found : (deed : Deed) × In deed deeds × In message deed.sent = later there in
         (found.0, inr found.1, found.2)
 
-go-on : (setup : Setup) (early now : Processes) → Goes setup early → Goes setup now → Since early now → GoesOn setup early now
-go-on setup early now goes goes_now since =
+go-on : {setup : Setup} (early now : Processes) → Goes setup early → Goes setup now → Since early now → GoesOn setup early now
+go-on {setup} early now goes goes_now since =
     let brought : AllBrought (safe_at now) [] (since.kept ++ since.rest) = subst (AllBrought (safe_at now) []) since.same goes_now.brought
     in
     let lived = λ (name : NodeName).
     subst (IsLived name (new_life setup name)) (ap (own name) since.same ∙ own-append name since.kept since.rest)
     (goes_now.well name).lived in
-    let first : Further setup [] since.kept (told-none setup) = told-from setup (safe_at now) [] since.kept (told-none setup)
+    let first : Further setup [] since.kept (told-none) = told-from (safe_at now) since.kept
     (brought-first (safe_at now) [] since.kept since.rest brought)
     (λ name. lived-first name (new_life setup name) (own name since.kept) (own name since.rest) (lived name)) in
-    let last : Further setup since.kept since.rest first.told = told-from setup (safe_at now) since.kept since.rest first.told
+    let last : Further setup since.kept since.rest first.told = told-from (safe_at now) since.rest
     (brought-last (safe_at now) [] since.kept since.rest brought)
     (λ name. lived-last name (new_life setup name) (own name since.kept) (own name since.rest) (lived name)) in
     let all : sent_by last.told.steps ≡ said_by now.done = last.told.sent ∙ ap said_by (sym since.same) in
@@ -167,9 +166,7 @@ go-on setup early now goes goes_now since =
           let found : (deed : Deed) × In deed since.kept × In message deed.sent = from-said message since.kept
           (subst (In message) first.told.sent at) in
           record { deed = found.0; done_before = since.from found.0 found.1; its = found.2 };
-      nodes = λ name.
-          ap (left_at name (new_node setup name)) (sym last.same)
-          ∙ (last.told.nodes name
+      nodes = λ name. ap (left_at name (new_node setup name)) (sym last.same) ∙ (last.told.nodes name
           ∙ (ap (λ l. (life_of name (new_life setup name) (own name l)).node) (sym since.same)
           ∙ ap (λ (l : Life). l.node) (sym (goes_now.well name).life)));
     }
@@ -191,9 +188,9 @@ may-last setup all (one ∷ early) more may = may-last setup (after setup all on
 pub stays-left : WhatHasLeftStays
 stays-left setup early more may =
     let then : Processes = after_all setup (new_processes setup) early in
-    let goes : Goes setup then = goes-all setup (new_processes setup) early (goes-new setup)
+    let goes : Goes setup then = goes-all setup (new_processes setup) early (goes-new)
     (may-first setup (new_processes setup) early more may) in
     let later : MayAll setup then more = may-last setup (new_processes setup) early more may in
     subst (GoesOn setup then) (sym (after-append setup (new_processes setup) early more))
-    (go-on setup then (after_all setup then more) goes (goes-all setup then more goes later)
+    (go-on then (after_all setup then more) goes (goes-all setup then more goes later)
     (since-all setup then then more (since-same then) later))

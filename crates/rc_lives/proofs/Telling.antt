@@ -53,14 +53,14 @@ pub record Further (setup : Setup) (done more : List Deed) (base : Told setup do
   pub same : told.steps ≡ base.steps ++ rest
 
 -- what a node is given was sent to it, if it is a message
-was-sent : (safe : NodeName → ℕ) (earlier : List Deed) (sent : List Message) (name : NodeName) (n : Node) (work : NodeWork) →
+was-sent : (safe : NodeName → ℕ) (earlier : List Deed) {sent : List Message} {name : NodeName} (n : Node) (work : NodeWork) →
     sent ≡ said_by earlier → name_of n ≡ name → IsAddressed name work → IsSupported safe earlier work →
     (number : ℕ) × WasSent sent n number work
-was-sent safe earlier sent name n (Deliver message) same own addressed supported =
+was-sent safe earlier {sent} n (Deliver message) same own addressed supported =
     let at = place_of sent message
     (subst (In message) (sym same) (in-said message supported.deed earlier supported.done_before supported.its)) in
     (at.0, (at.1, addressed ∙ sym own))
-was-sent safe earlier sent name n _ same own addressed supported = (0, tt)
+was-sent safe earlier n _ same own addressed supported = (0, tt)
 
 -- One deed more
 
@@ -73,19 +73,18 @@ life-push setup name done deed = by (same_node deed.node name) refl
     by : (b : Bool) → same_node deed.node name ≡ b → life_of name (new_life setup name) (own name (done ++ deed ∷ []))
         ≡ cond b (life_next name (life_of name (new_life setup name) (own name done)) deed.work)
         (life_of name (new_life setup name) (own name done))
-    by true e =
-        ap (life_of name (new_life setup name)) (own-push name done deed e)
+    by true e = ap (life_of name (new_life setup name)) (own-push name done deed e)
         ∙ life_of-append name (new_life setup name) (own name done) (deed ∷ [])
     by false e = ap (life_of name (new_life setup name)) (own-others name done deed e)
 
-told-push : (setup : Setup) (safe : NodeName → ℕ) (done : List Deed) (deed : Deed) (told : Told setup done) → Brought safe done deed →
+told-push : {setup : Setup} {safe : NodeName → ℕ} {done : List Deed} {deed : Deed} {told : Told setup done} → Brought safe done deed →
     Lives deed.node (life_of deed.node (new_life setup deed.node) (own deed.node done)) deed → Further setup done (deed ∷ []) told
-told-push setup safe done deed told brought lives =
+told-push {setup} {safe} {done} {deed} {told} brought lives =
     let n : Node = (life_of deed.node (new_life setup deed.node) (own deed.node done)).node in
     let own_name : name_of n ≡ deed.node =
     name-life deed.node (new_life setup deed.node) (works_of (own deed.node done)) ∙ name-new setup deed.node in
     let was : (number : ℕ) × WasSent (sent_by told.steps) n number deed.work =
-    was-sent safe done (sent_by told.steps) deed.node n deed.work told.sent own_name brought.addressed brought.supported in
+    was-sent safe done n deed.work told.sent own_name brought.addressed brought.supported in
     let step : Step = record {
       node = deed.node;
       event = event_of n was.0 deed.work;
@@ -99,7 +98,7 @@ told-push setup safe done deed told brought lives =
       same = refl;
       told = record {
         steps = told.steps ++ step ∷ [];
-        apart = taken_apart-push setup told.steps step told.apart (record {
+        apart = taken_apart-push told.apart (record {
           given = given-job (sent_by told.steps) n was.0 deed.work was.1 lives.can
               ∙ ap (λ (name : NodeName). Some (let job : Job = record { node = name; work = deed.work } in job)) own_name;
           before = sym (told.nodes deed.node);
@@ -131,59 +130,56 @@ moved setup done other e told = record {
   nodes = λ name. told.nodes name ∙ ap (λ l. (life_of name (new_life setup name) (own name l)).node) e;
 }
 
-further-none : (setup : Setup) (done : List Deed) (told : Told setup done) → Further setup done [] told
-further-none setup done told = record {
+further-none : {setup : Setup} {done : List Deed} {told : Told setup done} → Further setup done [] told
+further-none {setup} {done} {told} = record {
   told = moved setup done (done ++ []) (sym (append-nil done)) told;
   rest = [];
   same = sym (append-nil told.steps);
 }
 
-further-both : (setup : Setup) (done more last : List Deed) (base : Told setup done) (one : Further setup done more base) →
+further-both : {setup : Setup} {done more last : List Deed} {base : Told setup done} (one : Further setup done more base) →
     Further setup (done ++ more) last one.told → Further setup done (more ++ last) base
-further-both setup done more last base one two = record {
+further-both {setup} {done} {more} {last} {base} one two = record {
   told = moved setup ((done ++ more) ++ last) (done ++ (more ++ last)) (append_assoc done more last) two.told;
   rest = one.rest ++ two.rest;
   same = two.same ∙ (ap (λ l. l ++ two.rest) one.same ∙ append_assoc base.steps one.rest two.rest);
 }
 
-pub told-from : (setup : Setup) (safe : NodeName → ℕ) (done more : List Deed) (told : Told setup done) → AllBrought safe done more →
+pub told-from : {setup : Setup} (safe : NodeName → ℕ) {done : List Deed} (more : List Deed) {told : Told setup done} → AllBrought safe done more →
     ((name : NodeName) → IsLived name (life_of name (new_life setup name) (own name done)) (own name more)) → Further setup done more told
-told-from setup safe done [] told brought lived = further-none setup done told
-told-from setup safe done (deed ∷ more) told brought lived =
-    let one : Further setup done (deed ∷ []) told = told-push setup safe done deed told brought.0 (here (lived deed.node)) in
-    let next : Further setup (done ++ deed ∷ []) more one.told = told-from setup safe (done ++ deed ∷ []) more one.told brought.1
+told-from {setup} safe {done} [] {told} brought lived = further-none {setup = setup} {done = done} {told = told}
+told-from {setup} safe {done} (deed ∷ more) {told} brought lived =
+    let one : Further setup done (deed ∷ []) told = told-push {setup = setup} {safe = safe} {done = done} {deed = deed} {told = told} brought.0 (here (lived deed.node)) in
+    let next : Further setup (done ++ deed ∷ []) more one.told = told-from {setup = setup} safe {done = (done ++ deed ∷ [])} more {told = one.told} brought.1
     (λ name. subst (λ l. IsLived name l (own name more)) (sym (life-push setup name done deed))
     (later name (same_node deed.node name) (lived name))) in
-    further-both setup done (deed ∷ []) more told one next
+    further-both {setup = setup} {done = done} {more = (deed ∷ [])} {last = more} {base = told} one next
   where
     here : IsLived deed.node (life_of deed.node (new_life setup deed.node) (own deed.node done)) (own deed.node (deed ∷ more)) →
         Lives deed.node (life_of deed.node (new_life setup deed.node) (own deed.node done)) deed
-    here its =
-        (subst (λ b. IsLived deed.node (life_of deed.node (new_life setup deed.node) (own deed.node done))
-        (cond b (deed ∷ own deed.node more) (own deed.node more)))
-        (same_node-refl deed.node) its).0
+    here its = (subst (λ b. IsLived deed.node (life_of deed.node (new_life setup deed.node) (own deed.node done))
+        (cond b (deed ∷ own deed.node more) (own deed.node more))) (same_node-refl deed.node) its).0
 
     later : (name : NodeName) (b : Bool) →
         IsLived name (life_of name (new_life setup name) (own name done)) (cond b (deed ∷ own name more) (own name more)) →
         IsLived name (cond b (life_next name (life_of name (new_life setup name) (own name done)) deed.work)
-        (life_of name (new_life setup name) (own name done)))
-        (own name more)
+        (life_of name (new_life setup name) (own name done))) (own name more)
     later name true its = its.1
     later name false its = its
 
-pub told-none : (setup : Setup) → Told setup []
-told-none setup = record { steps = []; apart = taken_apart-none setup; sent = refl; nodes = λ name. refl }
+pub told-none : {setup : Setup} → Told setup []
+told-none = record { steps = []; apart = taken_apart-none; sent = refl; nodes = λ name. refl }
 
-pub told-done : (setup : Setup) (all : Processes) → Goes setup all → Told setup all.done
-told-done setup all goes =
-    (told-from setup (safe_at all) [] all.done (told-none setup) goes.brought (λ name. (goes.well name).lived)).told
+pub told-done : {setup : Setup} {all : Processes} → Goes setup all → Told setup all.done
+told-done {setup} {all} goes =
+    (told-from {setup = setup} (safe_at all) {done = []} all.done {told = (told-none)} goes.brought (λ name. (goes.well name).lived)).told
 
 pub has-history : (setup : Setup) (happenings : List Happening) → MayAll setup (new_processes setup) happenings →
     HasHistory setup (after_all setup (new_processes setup) happenings)
 has-history setup happenings may =
     let all : Processes = after_all setup (new_processes setup) happenings in
-    let goes : Goes setup all = goes-all setup (new_processes setup) happenings (goes-new setup) may in
-    let told : Told setup all.done = told-done setup all goes in
+    let goes : Goes setup all = goes-all setup (new_processes setup) happenings (goes-new) may in
+    let told : Told setup all.done = told-done goes in
     record {
       steps = told.steps;
       apart = told.apart;
@@ -197,10 +193,9 @@ has-history setup happenings may =
 pub steps-come-last : StepsComeLast
 steps-come-last setup happenings may name work taken =
     let all : Processes = after_all setup (new_processes setup) happenings in
-    let goes : Goes setup all = goes-all setup (new_processes setup) happenings (goes-new setup) may in
+    let goes : Goes setup all = goes-all setup (new_processes setup) happenings (goes-new) may in
     let deed : Deed = deed_of name (all.at name).life work in
-    let told : Told setup (all.done ++ deed ∷ []) = told-done setup (after setup all (Takes name work))
-    (goes-after setup all (Takes name work) goes taken) in
+    let told : Told setup (all.done ++ deed ∷ []) = told-done (goes-after (Takes name work) goes taken) in
     record {
       steps = told.steps;
       apart = told.apart;
@@ -212,13 +207,12 @@ steps-come-last setup happenings may name work taken =
     }
 
 -- a node is the one that its journal makes
-pub journals-make : (setup : Setup) (all : Processes) → Goes setup all → (name : NodeName) →
+pub journals-make : {setup : Setup} {all : Processes} → Goes setup all → (name : NodeName) →
     SameNode (node_after (new_node setup name) (all.at name).life.journal) (all.at name).life.node
-journals-make setup all goes name =
+journals-make {setup} {all} goes name =
     subst (λ (l : Life). SameNode (node_after (new_node setup name) l.journal) l.node) (sym (goes.well name).life)
     (journal-makes setup name (own name all.done))
 
 pub journals-make-nodes : JournalsMakeNodes
-journals-make-nodes setup happenings may =
-    journals-make setup (after_all setup (new_processes setup) happenings)
-    (goes-all setup (new_processes setup) happenings (goes-new setup) may)
+journals-make-nodes setup happenings may = journals-make
+    (goes-all setup (new_processes setup) happenings (goes-new) may)

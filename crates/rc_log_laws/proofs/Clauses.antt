@@ -20,55 +20,51 @@ made-logged : (sent : List Message) (masters : ServerId → Master) (hosts : ℕ
 made-logged sent masters hosts c m s o entry (Server x) (Place seg epoch digest entries closed) fine at =
     either (λ found. found ≡ Some entry → slice_get (log_in (masters m).log s) o ≡ Some entry) (nat_eq seg s) (slice_get entries o) None
     (λ same it. subst (λ t. slice_get (log_in (masters m).log t) o ≡ Some entry) (eqb-true seg s same)
-    (get-begins entries (log_in (masters m).log seg) fine.begins o entry it))
-    (λ _ it. cc) at
+    (get-begins entries fine.begins o it)) (λ _ it. cc) at
 made-logged sent masters hosts c m s o entry AtCoordinator (Place seg epoch digest entries closed) fine at = absurd fine
 made-logged sent masters hosts c m s o entry Outside (Place seg epoch digest entries closed) fine at = absurd fine
 made-logged sent masters hosts c m s o entry to (Append seg offset entries) fine at =
     either (λ found. found ≡ Some entry → slice_get (log_in (masters m).log s) o ≡ Some entry)
-    (nat_eq seg s && nat_le offset o) (slice_get entries (o - offset)) None
-    (λ both it.
+    (nat_eq seg s && nat_le offset o) (slice_get entries (o - offset)) None (λ both it.
     let parts : (nat_eq seg s ≡ true) × (nat_le offset o ≡ true) = and_parts (nat_eq seg s) (nat_le offset o) both in
     let upto : offset ≤ o = leb-true offset o parts.1 in
     let there : slice_get (log_in (masters m).log seg) (offset + (o - offset)) ≡ Some entry = fine.stands (o - offset) entry it in
     let back : offset + (o - offset) ≡ o = omega arith in
     subst (λ t. slice_get (log_in (masters m).log t) o ≡ Some entry) (eqb-true seg s parts.0)
-    (subst (λ k. slice_get (log_in (masters m).log seg) k ≡ Some entry) back there))
-    (λ _ it. cc) at
+    (subst (λ k. slice_get (log_in (masters m).log seg) k ≡ Some entry) back there)) (λ _ it. cc) at
 made-logged sent masters hosts c m s o entry to _ fine at = cc
 
-pub made-is : (sent : List Message) (masters : ServerId → Master) (hosts : ℕ → HostNode) (c : Coordinator) →
-    Good sent masters hosts c → (m : ServerId) (s o : ℕ) (entry : Entry) →
+pub made-is : {sent : List Message} {masters : ServerId → Master} {hosts : ℕ → HostNode} {c : Coordinator} →
+    Good sent masters hosts c → {m : ServerId} {s o : ℕ} {entry : Entry} →
     HasMade sent m s o entry → slice_get (log_in (masters m).log s) o ≡ Some entry
-made-is sent masters hosts c good m s o entry made =
+made-is {sent} {masters} {hosts} {c} good {m} {s} {o} {entry} made =
     made-logged sent masters hosts c m s o entry made.message.to made.message.body
     (subst (λ (from : Addr). body_fine sent masters hosts c from made.message.to made.message.body) made.from
     (good.messages made.message made.among)) made.holds
 
 -- The plan, and the write, of a message
 
-pub accepted-is : (sent : List Message) (masters : ServerId → Master) (hosts : ℕ → HostNode) (c : Coordinator) →
-    Good sent masters hosts c → (plan : Accepted) → WasAccepted sent plan →
+pub accepted-is : {sent : List Message} {masters : ServerId → Master} {hosts : ℕ → HostNode} {c : Coordinator} →
+    Good sent masters hosts c → {plan : Accepted} → WasAccepted sent plan →
     PlanIs sent masters c plan.master plan.rows
-accepted-is sent masters hosts c good plan was =
-    plan-is sent masters hosts c good plan.attempt plan.master was.head plan.rows
+accepted-is {sent} {masters} {hosts} {c} good was = plan-is good
     (subst (λ (body : Body). body_fine sent masters hosts c was.message.from was.message.to body) was.says
     (good.messages was.message was.among))
 
-pub acknowledged-is : (sent : List Message) (masters : ServerId → Master) (hosts : ℕ → HostNode) (c : Coordinator) →
-    Good sent masters hosts c → (m : ServerId) (ack : Ack) → HasAcknowledged sent m ack →
+pub acknowledged-is : {sent : List Message} {masters : ServerId → Master} {hosts : ℕ → HostNode} {c : Coordinator} →
+    Good sent masters hosts c → {m : ServerId} {ack : Ack} → HasAcknowledged sent m ack →
     IsWriteOk sent m (masters m).log ack.seg ack.offset ack.term ack.table ack.key ack.version
-acknowledged-is sent masters hosts c good m ack was =
+acknowledged-is {sent} {masters} {hosts} {c} good {m} was =
     let fine : body_fine sent masters hosts c was.message.from was.message.to was.message.body = good.messages was.message was.among in
     let from_m : body_fine sent masters hosts c (Server m) was.message.to was.message.body =
     subst (λ (from : Addr). body_fine sent masters hosts c from was.message.to was.message.body) was.from fine in
     subst (λ (body : Body). body_fine sent masters hosts c (Server m) was.message.to body) was.says from_m
 
 -- what a row of the plan holds was made
-pub held-made : (sent : List Message) (masters : ServerId → Master) (hosts : ℕ → HostNode) (c : Coordinator) →
-    (m : ServerId) (rows : List PlanRow) → PlanIs sent masters c m rows → (s o : ℕ) → IsHeld rows s o →
+pub held-made : {sent : List Message} {masters : ServerId → Master} (hosts : ℕ → HostNode) {c : Coordinator} →
+    {m : ServerId} {rows : List PlanRow} → PlanIs sent masters c m rows → {s o : ℕ} → IsHeld rows s o →
     (entry : Entry) × (slice_get (log_in (masters m).log s) o ≡ Some entry) × HasMade sent m s o entry
-held-made sent masters hosts c m rows plan s o held = by (plan.each held.row held.among)
+held-made {sent} {masters} hosts {c} {m} plan {s} {o} held = by (plan.each held.row held.among)
   where
     by : ((y : ServerId) × (copy : Row) × (held.row ≡ record { seg = copy.seg; holder = y; len = copy.len })
         × (is_valid (c.least m) copy ≡ true) × IsCopy sent m (masters m).log y.index y.generation copy.seg copy.epoch
@@ -84,10 +80,10 @@ held-made sent masters hosts c m rows plan s o held = by (plan.each held.row hel
 -- Nothing acknowledged is missing
 
 -- what is safe, and could be acknowledged, is there
-pub safe-there : (sent : List Message) (masters : ServerId → Master) (hosts : ℕ → HostNode) (c : Coordinator) →
-    Good sent masters hosts c → (plan : Accepted) → WasAccepted sent plan → (ack : Ack) →
+pub safe-there : {sent : List Message} {masters : ServerId → Master} {hosts : ℕ → HostNode} {c : Coordinator} →
+    Good sent masters hosts c → {plan : Accepted} → WasAccepted sent plan → {ack : Ack} →
     IsWriteOk sent plan.master (masters plan.master).log ack.seg ack.offset ack.term ack.table ack.key ack.version → IsThere sent plan ack
-safe-there sent masters hosts c good plan accepted ack write = record { held = by is_covered.is_it; only = only }
+safe-there {sent} {masters} {hosts} {c} good {plan} accepted {ack} write = record { held = by is_covered.is_it; only = only }
   where
     m : ServerId
     m = plan.master
@@ -96,7 +92,7 @@ safe-there sent masters hosts c good plan accepted ack write = record { held = b
     log = (masters plan.master).log
 
     is_plan : PlanIs sent masters c plan.master plan.rows
-    is_plan = accepted-is sent masters hosts c good plan accepted
+    is_plan = accepted-is good accepted
 
     is_covered : IsCovered plan.master (masters plan.master).log plan.rows ack.seg ack.offset write.entry
     is_covered = covered sent masters hosts c good plan.master plan.rows is_plan ack.seg ack.offset write.entry write.safe write.holds
@@ -106,7 +102,7 @@ safe-there sent masters hosts c good plan accepted ack write = record { held = b
         let found : (entry : Entry) ×
         (slice_get (log_in (masters plan.master).log is_covered.seg) is_covered.offset ≡ Some entry) ×
         HasMade sent plan.master is_covered.seg is_covered.offset entry =
-        held-made sent masters hosts c plan.master plan.rows is_plan is_covered.seg is_covered.offset is_covered.held in
+        held-made hosts is_plan is_covered.held in
         let there : slice_get (log_in (masters plan.master).log is_covered.seg) is_covered.offset ≡ Some
         is_covered.other = is_covered.holds in
         let first : slice_get (log_in (masters plan.master).log is_covered.seg) is_covered.offset ≡ Some found.0 = found.1 in
@@ -134,7 +130,7 @@ safe-there sent masters hosts c good plan accepted ack write = record { held = b
     only : OnlyIt sent plan.master ack
     only entry made =
         let there : slice_get (log_in (masters plan.master).log ack.seg) ack.offset ≡ Some entry =
-        made-is sent masters hosts c good plan.master ack.seg ack.offset entry made in
+        made-is good made in
         let is : slice_get (log_in (masters plan.master).log ack.seg) ack.offset ≡ Some write.entry = write.holds in
         let same : entry ≡ write.entry = cc in (
           record {
@@ -147,21 +143,19 @@ safe-there sent masters hosts c good plan accepted ack write = record { held = b
 
 pub nothing-missing : (sent : List Message) (masters : ServerId → Master) (hosts : ℕ → HostNode) (c : Coordinator) →
     Good sent masters hosts c → NothingIsMissing sent
-nothing-missing sent masters hosts c good plan accepted ack acked = safe-there sent masters hosts c good plan accepted
-    ack (acknowledged-is sent masters hosts c good plan.master ack acked)
+nothing-missing sent masters hosts c good plan accepted ack acked = safe-there good accepted (acknowledged-is good acked)
 
 -- Nothing recovered is invented
 
 pub nothing-invented : (sent : List Message) (masters : ServerId → Master) (hosts : ℕ → HostNode) (c : Coordinator) →
     Good sent masters hosts c → NothingIsInvented sent
 nothing-invented sent masters hosts c good plan accepted s o held =
-    let is_plan : PlanIs sent masters c plan.master plan.rows = accepted-is sent masters hosts c good plan accepted in
+    let is_plan : PlanIs sent masters c plan.master plan.rows = accepted-is good accepted in
     let found : (entry : Entry) × (slice_get (log_in (masters plan.master).log s) o ≡ Some entry) ×
-    HasMade sent plan.master s o entry = held-made sent masters hosts c plan.master plan.rows is_plan s o held in
+    HasMade sent plan.master s o entry = held-made hosts is_plan held in
     let first : slice_get (log_in (masters plan.master).log s) o ≡ Some found.0 = found.1 in
     record {
       entry = found.0;
       made = found.2;
-      only = λ other made. (let there : slice_get (log_in (masters plan.master).log s) o ≡ Some other = made-is sent
-          masters hosts c good plan.master s o other made in cc);
+      only = λ other made. (let there : slice_get (log_in (masters plan.master).log s) o ≡ Some other = made-is good made in cc);
     }

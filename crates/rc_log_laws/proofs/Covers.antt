@@ -17,9 +17,9 @@ use Rattle.rc_step_laws.proofs.Attempting.{numbered-same}
 -- Pairs
 
 -- what is granted is not above the least pair, so what is below it in its segment is below the least pair
-below-least : (least : Pair) (s low high : ℕ) → is_below least (record { seg = s; epoch = high }) ≡ false → low < high →
+below-least : (least : Pair) (s : ℕ) {low high : ℕ} → is_below least (record { seg = s; epoch = high }) ≡ false → low < high →
     is_below (record { seg = s; epoch = low }) least ≡ false → ⊥
-below-least least s low high granted less valid = grind (arith, nat_tests)
+below-least least s granted less valid = grind (arith, nat_tests)
 
 -- an open row that is valid is not below the least pair
 open-valid : (least : Pair) (row : Row) → row.closed ≡ false → is_valid least row ≡ true →
@@ -34,18 +34,18 @@ open-valid least row unclosed valid = by row.closed (is_below (record { seg = ro
 -- One copy
 
 -- the epoch was granted, so a lower one of the segment is not valid
-granted-below : (sent : List Message) (masters : ServerId → Master) (hosts : ℕ → HostNode) (c : Coordinator) → Good sent masters hosts c →
-    (m : ServerId) (s low high : ℕ) → IsCommitted sent m s high → low < high →
+granted-below : {sent : List Message} {masters : ServerId → Master} {hosts : ℕ → HostNode} {c : Coordinator} → Good sent masters hosts c →
+    (m : ServerId) (s : ℕ) {low high : ℕ} → IsCommitted sent m s high → low < high →
     is_below (record { seg = s; epoch = low }) (c.least m) ≡ false → ⊥
-granted-below sent masters hosts c good m s low high (inl none) less valid = absurd (omega arith)
-granted-below sent masters hosts c good m s low high (inr told) less valid =
-    below-least (c.least m) s low high (good.messages (from_coordinator m (CommitOk s high)) told) less valid
+granted-below good m s (inl none) less valid = absurd (omega arith)
+granted-below {c} good m s {high} (inr told) less valid =
+    below-least (c.least m) s (good.messages (from_coordinator m (CommitOk s high)) told) less valid
 
 -- a valid row of a segment has each durable place of it
-pub row-covers : (sent : List Message) (masters : ServerId → Master) (hosts : ℕ → HostNode) (c : Coordinator) → Good sent masters hosts c →
-    (m y : ServerId) (row : Row) → IsCopy sent m (masters m).log y.index y.generation row.seg row.epoch row.closed row.len row.digest →
-    is_valid (c.least m) row ≡ true → (o : ℕ) → IsSafe sent m (masters m).log row.seg o → o < row.len
-row-covers sent masters hosts c good m y row copy valid o safe = split row.closed if_closed if_open
+pub row-covers : {sent : List Message} {masters : ServerId → Master} {hosts : ℕ → HostNode} {c : Coordinator} → Good sent masters hosts c →
+    {m : ServerId} (y : ServerId) {row : Row} → IsCopy sent m (masters m).log y.index y.generation row.seg row.epoch row.closed row.len row.digest →
+    is_valid (c.least m) row ≡ true → {o : ℕ} → IsSafe sent m (masters m).log row.seg o → o < row.len
+row-covers {sent} {masters} {c} good {m} y {row} copy valid {o} safe = split row.closed if_closed if_open
   where
     if_closed : row.closed ≡ true → o < row.len
     if_closed shut_so =
@@ -60,7 +60,7 @@ row-covers sent masters hosts c good m y row copy valid o safe = split row.close
       where
         by : IsOpenedAt sent m row.seg row.epoch y.index y.generation row.len →
             (row.epoch ≡ safe.epoch) ⊎ ((row.epoch < safe.epoch) ⊎ (safe.epoch < row.epoch)) → o < row.len
-        by at (inr (inl less)) = absurd (granted-below sent masters hosts c good m row.seg row.epoch safe.epoch
+        by at (inr (inl less)) = absurd (granted-below good m row.seg
             safe.granted less (open-valid (c.least m) row open_so valid))
         by at (inl same) =
             let member : IsMember sent m row.seg row.epoch at.to =
@@ -73,11 +73,11 @@ row-covers sent masters hosts c good m y row copy valid o safe = split row.close
             omega arith
 
 -- the head row is of no segment below a durable place: that one is shut
-pub head-not-below : (sent : List Message) (masters : ServerId → Master) (hosts : ℕ → HostNode) (c : Coordinator) →
+pub head-not-below : {sent : List Message} {masters : ServerId → Master} {hosts : ℕ → HostNode} {c : Coordinator} →
     Good sent masters hosts c →
-    (m y : ServerId) (row : Row) → IsCopy sent m (masters m).log y.index y.generation row.seg row.epoch row.closed row.len row.digest →
+    {m : ServerId} (y : ServerId) {row : Row} → IsCopy sent m (masters m).log y.index y.generation row.seg row.epoch row.closed row.len row.digest →
     row.closed ≡ false → is_valid (c.least m) row ≡ true → ((masters m).log.segments row.seg).shut ≡ true → ⊥
-head-not-below sent masters hosts c good m y row copy open_so valid shut_so =
+head-not-below {sent} {masters} {c} good {m} y {row} copy open_so valid shut_so =
     by (cases_order row.epoch ((masters m).log.segments row.seg).config.epoch)
   where
     at : IsOpenedAt sent m row.seg row.epoch y.index y.generation row.len
@@ -96,8 +96,7 @@ head-not-below sent masters hosts c good m y row copy open_so valid shut_so =
         let member : IsMember sent m row.seg row.epoch at.to = record { digest = at.digest; entries = at.entries; placed = at.placed } in
         let told : HasToldClosed sent at.to m row.seg row.epoch = place.told refl same shut_so in
         true_false (sym (copy.closed_too at.to at.host member told) ∙ open_so)
-    by (inr (inl less)) =
-        granted-below sent masters hosts c good m row.seg row.epoch ((masters m).log.segments row.seg).config.epoch
+    by (inr (inl less)) = granted-below good m row.seg
         (mine.committed row.seg (mine.shut_committed row.seg shut_so)) less (open-valid (c.least m) row open_so valid)
     by (inr (inr more)) = let upto : row.epoch ≤ ((masters m).log.segments row.seg).config.epoch = place.epoch in omega arith
 
@@ -107,12 +106,12 @@ top : List Entry → ℕ
 top [] = 0
 top (entry ∷ entries) = max entry.version (top entries)
 
-top-in : (entries : List Entry) (k : ℕ) (entry : Entry) → slice_get entries k ≡ Some entry → entry.version ≤ top entries
+top-in : (entries : List Entry) (k : ℕ) {entry : Entry} → slice_get entries k ≡ Some entry → entry.version ≤ top entries
 unfolding top
-top-in [] k entry e = cc
-top-in (other ∷ entries) zero entry e = let same : other ≡ entry =
+top-in [] k e = cc
+top-in (other ∷ entries) zero {entry} e = let same : other ≡ entry =
     cc in let v : other.version ≡ entry.version = ap (λ (one : Entry). one.version) same in omega arith
-top-in (other ∷ entries) (suc k) entry e = let rest : entry.version ≤ top entries = top-in entries k entry e in omega arith
+top-in (other ∷ entries) (suc k) {entry} e = let rest : entry.version ≤ top entries = top-in entries k e in omega arith
 
 top_to : Log → ℕ → ℕ
 top_to log zero = 0
@@ -124,7 +123,7 @@ top_to-in log zero s o entry above below at = absurd (omega arith)
 top_to-in log (suc n) s o entry above below at = by (cases_order s (suc n)) (λ (upto : s ≤ n). top_to-in log n s o entry above upto at)
   where
     here : s ≡ suc n → entry.version ≤ top (log_in log (suc n))
-    here same = top-in (log_in log (suc n)) o entry (subst (λ t. slice_get (log_in log t) o ≡ Some entry) same at)
+    here same = top-in (log_in log (suc n)) o (subst (λ t. slice_get (log_in log t) o ≡ Some entry) same at)
 
     by : (s ≡ suc n) ⊎ ((s < suc n) ⊎ (suc n < s)) → (s ≤ n → entry.version ≤ top_to log n) →
         entry.version ≤ max (top_to log n) (top (log_in log (suc n)))
@@ -162,35 +161,33 @@ pub record PlanIs (sent : List Message) (masters : ServerId → Master) (c : Coo
   pub all : (s : ℕ) → In s row.digest → (one : PlanRow) × (In one rows) × (one.seg ≡ s)
 
 -- a row of an answer of an attempt is a copy of its master's
-answered-copy : (sent : List Message) (masters : ServerId → Master) (hosts : ℕ → HostNode) (c : Coordinator) → Good sent masters hosts c →
-    (m : ServerId) (number : ℕ) (attempt : Attempt) → IsNumbered c.attempts number attempt → attempt.master ≡ m →
+answered-copy : {sent : List Message} {masters : ServerId → Master} {hosts : ℕ → HostNode} {c : Coordinator} → Good sent masters hosts c →
+    {m : ServerId} {number : ℕ} {attempt : Attempt} → IsNumbered c.attempts number attempt → attempt.master ≡ m →
     (held : HeldRow) → IsAnswered attempt.replies held →
     IsCopy sent m (masters m).log held.holder.index held.holder.generation held.row.seg held.row.epoch held.row.closed
     held.row.len held.row.digest
-answered-copy sent masters hosts c good m number attempt numbered of_m held answered =
+answered-copy {sent} {masters} {hosts} {c} good {m} {number} {attempt} numbered of_m held answered =
     let mine : GoodAttempt sent c number attempt = good.coordinator.attempts number attempt numbered in
     let answer : IsAnswer sent masters hosts c held.holder number answered.rows =
     good.messages (to_coordinator held.holder (Replicas number answered.rows))
     (mine.answered held.holder answered.rows answered.reply) in
     let same : answer.attempt.attempt ≡ attempt =
-    numbered-same c.attempts number answer.attempt.attempt attempt answer.attempt.numbered numbered in
+    numbered-same answer.attempt.numbered numbered in
     let master : answer.master ≡ m = sym answer.attempt.master_is ∙ (ap (λ (one : Attempt). one.master) same ∙ of_m) in
     subst (λ n. IsCopy sent n (masters n).log held.holder.index held.holder.generation held.row.seg held.row.epoch
-    held.row.closed held.row.len held.row.digest) master
-    (answer.rows_are held.row answered.row)
+    held.row.closed held.row.len held.row.digest) master (answer.rows_are held.row answered.row)
 
 -- the plan of a message was picked from the answers of its attempt
-pub plan-picked : (sent : List Message) (masters : ServerId → Master) (hosts : ℕ → HostNode) (c : Coordinator) → Good sent masters hosts c →
-    (number : ℕ) (m : ServerId) (head : ℕ) (rows : List PlanRow) → (plan : IsPlan c number m head rows) →
+pub plan-picked : {sent : List Message} {masters : ServerId → Master} {hosts : ℕ → HostNode} {c : Coordinator} → Good sent masters hosts c →
+    {number : ℕ} {m : ServerId} {head : ℕ} {rows : List PlanRow} → (plan : IsPlan c number m head rows) →
     IsPicked (c.least m) plan.attempt.replies plan.decision.plan
-plan-picked sent masters hosts c good number m head rows plan =
-    subst (λ least. IsPicked least plan.attempt.replies plan.decision.plan) (ap c.least plan.master_is)
-    (picked-is (c.least plan.attempt.master) plan.attempt.replies plan.decision.plan
+plan-picked {c} good {number} plan =
+    subst (λ least. IsPicked least plan.attempt.replies plan.decision.plan) (ap c.least plan.master_is) (picked-is
     ((good.coordinator.attempts number plan.attempt plan.numbered).picked plan.decision plan.decided))
 
-pub plan-is : (sent : List Message) (masters : ServerId → Master) (hosts : ℕ → HostNode) (c : Coordinator) → Good sent masters hosts c →
-    (number : ℕ) (m : ServerId) (head : ℕ) (rows : List PlanRow) → IsPlan c number m head rows → PlanIs sent masters c m rows
-plan-is sent masters hosts c good number m head rows plan = record {
+pub plan-is : {sent : List Message} {masters : ServerId → Master} {hosts : ℕ → HostNode} {c : Coordinator} → Good sent masters hosts c →
+    {number : ℕ} {m : ServerId} {head : ℕ} {rows : List PlanRow} → IsPlan c number m head rows → PlanIs sent masters c m rows
+plan-is {sent} {masters} {c} good {m} {head} {rows} plan = record {
   head = picked.head.holder;
   row = picked.head.row;
   head_copy = copy picked.head picked.is_head.answered;
@@ -205,12 +202,12 @@ plan-is sent masters hosts c good number m head rows plan = record {
     rows_are = ap (λ (one : Plan). one.rows) plan.plan_is
 
     picked : IsPicked (c.least m) plan.attempt.replies plan.decision.plan
-    picked = plan-picked sent masters hosts c good number m head rows plan
+    picked = plan-picked good plan
 
     copy : (held : HeldRow) → IsAnswered plan.attempt.replies held →
         IsCopy sent m (masters m).log held.holder.index held.holder.generation held.row.seg held.row.epoch
         held.row.closed held.row.len held.row.digest
-    copy = answered-copy sent masters hosts c good m number plan.attempt plan.numbered plan.master_is
+    copy = answered-copy good plan.numbered plan.master_is
 
     each : (one : PlanRow) → IsTaken (c.least m) plan.attempt.replies one →
         (y : ServerId) × (row : Row) × (one ≡ record { seg = row.seg; holder = y; len = row.len })
@@ -222,13 +219,12 @@ plan-is sent masters hosts c good number m head rows plan = record {
     all s found = (found.0, subst (λ (rs : List PlanRow). In found.0 rs) rows_are found.1, found.2)
 
 -- and the plan's head is the segment of its head row
-pub plan-head : (sent : List Message) (masters : ServerId → Master) (hosts : ℕ → HostNode) (c : Coordinator) →
+pub plan-head : {sent : List Message} {masters : ServerId → Master} {hosts : ℕ → HostNode} {c : Coordinator} →
     (good : Good sent masters hosts c) →
-    (number : ℕ) (m : ServerId) (head : ℕ) (rows : List PlanRow) → (plan : IsPlan c number m head rows) →
-    (plan-is sent masters hosts c good number m head rows plan).row.seg ≡ head
+    {number : ℕ} {m : ServerId} {head : ℕ} {rows : List PlanRow} → (plan : IsPlan c number m head rows) →
+    (plan-is good plan).row.seg ≡ head
 unfolding plan-is
-plan-head sent masters hosts c good number m head rows plan =
-    sym (plan-picked sent masters hosts c good number m head rows plan).head_is ∙ ap (λ (one : Plan). one.head) plan.plan_is
+plan-head good {head} plan = sym (plan-picked good plan).head_is ∙ ap (λ (one : Plan). one.head) plan.plan_is
 
 -- a durable place of a segment of the head's digest is held
 pub held-in : (sent : List Message) (masters : ServerId → Master) (hosts : ℕ → HostNode) (c : Coordinator) → Good sent masters hosts c →
@@ -244,7 +240,7 @@ held-in sent masters hosts c good m rows plan s o safe at =
         copy.closed copy.len copy.digest) → IsHeld rows s o
     by one there seg (y, copy, is, valid, of_log) =
         let of_seg : s ≡ copy.seg = sym seg ∙ ap (λ (row : PlanRow). row.seg) is in
-        let below : o < copy.len = row-covers sent masters hosts c good m y copy of_log valid o
+        let below : o < copy.len = row-covers good y of_log valid
         (subst (λ t. IsSafe sent m (masters m).log t o) of_seg safe) in
         let len : one.len ≡ copy.len = ap (λ (row : PlanRow). row.len) is in
         record { row = one; among = there; seg = seg; below = subst (λ n. o < n) (sym len) below }
@@ -320,8 +316,7 @@ covered-step sent masters hosts c good m rows plan s o entry safe at rec = by_pl
 
     by_place : (plan.row.seg ≡ s) ⊎ ((plan.row.seg < s) ⊎ (s < plan.row.seg)) → IsCovered m log rows s o entry
     by_place (inl same) = if_in (subst (λ t. In t (log.segments plan.row.seg).digest) same digest.own)
-    by_place (inr (inl below)) =
-        absurd (head-not-below sent masters hosts c good m plan.head plan.row plan.head_copy plan.unclosed plan.valid
+    by_place (inr (inl below)) = absurd (head-not-below good plan.head plan.head_copy plan.unclosed plan.valid
         (safe.below plan.row.seg plan.head_copy.opened.above below))
     by_place (inr (inr above)) = by_digest (digest.lacks s safe.opened.above above)
 

@@ -68,23 +68,23 @@ abbrev pub OfAll : (List Message → ServerId → Master → Type 0) → List Me
 OfAll P sent masters = (m : ServerId) → P sent m (masters m)
 
 module _ (P Q : List Message → ServerId → Master → Type 0) (led : IsLed P Q) where
-  quiet-all : (sent messages : List Message) (masters : ServerId → Master) → OfAll P sent masters →
+  quiet-all : {sent : List Message} (messages : List Message) {masters : ServerId → Master} → OfAll P sent masters →
       ((m : ServerId) → OthersSay m messages) → OfAll Q (sent ++ messages) masters
-  quiet-all sent messages masters p others m = led.others sent messages m (masters m) (p m) (others m)
+  quiet-all {sent} messages {masters} p others m = led.others sent messages m (masters m) (p m) (others m)
 
   -- the view of a host's master is put in again as it is
-  same-view : (sent : List Message) (masters now : ServerId → Master) → ((m : ServerId) → now m ≡ masters m) →
+  same-view : {sent : List Message} {masters now : ServerId → Master} → ((m : ServerId) → now m ≡ masters m) →
       OfAll Q sent masters → OfAll Q sent now
-  same-view sent masters now same p m = subst (Q sent m) (sym (same m)) (p m)
+  same-view {sent} same p m = subst (Q sent m) (sym (same m)) (p m)
 
-  not-server : {Q : Type 0} (m : ServerId) → AtCoordinator ≡ Server m → Q
-  not-server m e = cc
+  not-server : {Q : Type 0} {m : ServerId} → AtCoordinator ≡ Server m → Q
+  not-server e = cc
 
-  not-server_too : {Q : Type 0} (m : ServerId) → Outside ≡ Server m → Q
-  not-server_too m e = cc
+  not-server_too : {Q : Type 0} {m : ServerId} → Outside ≡ Server m → Q
+  not-server_too e = cc
 
   outside-others : (work : NodeWork) (m : ServerId) → OthersSay m (outside_sends work)
-  outside-others (Ask to body) m message (inl same) from = not-server_too m (sym (ap (λ (one : Message). one.from) same) ∙ from)
+  outside-others (Ask to body) m message (inl same) from = not-server_too (sym (ap (λ (one : Message). one.from) same) ∙ from)
   outside-others (Ask to body) m message (inr never) from = absurd never
   outside-others _ m message at from = absurd at
 
@@ -92,30 +92,29 @@ module _ (P Q : List Message → ServerId → Master → Type 0) (led : IsLed P 
     abbrev Done : HostNode × List Message → Type 0
     Done after = OfAll Q (world.sent ++ after.1) (with_last_view world.masters after.0.master)
 
-    own-is : (master : Master) → (world.hosts i).master ≡ Some master → master.log.own ≡ server_of (world.hosts i)
-    own-is master e = (is-good world one i good master e).own
+    own-is : {master : Master} → (world.hosts i).master ≡ Some master → master.log.own ≡ server_of (world.hosts i)
+    own-is e = (is-good world one i good e).own
 
-    view-same : (found : Option Master) → (world.hosts i).master ≡ found → (m : ServerId) →
+    view-same : (found : Option Master) → (world.hosts i).master ≡ found → {m : ServerId} →
         with_last_view world.masters found m ≡ world.masters m
-    view-same None e m = refl
-    view-same (Some master) e m =
+    view-same None e = refl
+    view-same (Some master) e {m} =
         either (λ (now : Master). now ≡ world.masters m) (same_id master.log.own m) master (world.masters m)
-        (λ is. sym ((good.hosts_are i).runs master e) ∙ ap world.masters (sym (own-is master e) ∙ same_id-true master.log.own m is))
+        (λ is. sym ((good.hosts_are i).runs master e) ∙ ap world.masters (sym (own-is e) ∙ same_id-true master.log.own m is))
         (λ _. refl)
 
     -- the master stays, and nothing loud is said
     done-quiet : (host : HostNode) (messages : List Message) → host.master ≡ (world.hosts i).master → Each BySelf messages →
         Done (host, messages)
-    done-quiet host messages same soft =
-        same-view (world.sent ++ messages) world.masters (with_last_view world.masters host.master)
-        (λ m. ap (λ (found : Option Master). with_last_view world.masters found m) same ∙ view-same (world.hosts i).master refl m)
-        (quiet-all world.sent messages world.masters p (λ m message at from. soft message at))
+    done-quiet host messages same soft = same-view
+        (λ m. ap (λ (found : Option Master). with_last_view world.masters found m) same ∙ view-same (world.hosts i).master refl)
+        (quiet-all messages p (λ m message at from. soft message at))
 
     -- the master moves
-    done-moved : (master : Master) → (world.hosts i).master ≡ Some master → (after : Master × List Message) →
+    done-moved : {master : Master} → (world.hosts i).master ≡ Some master → (after : Master × List Message) →
         MasterMoved world.sent (server_of (world.hosts i)) master after →
         Q (world.sent ++ after.1) (server_of (world.hosts i)) after.0 → Done (with_master (world.hosts i) after)
-    done-moved master e (now, messages) moved new m =
+    done-moved e (now, messages) moved new m =
         either (Q (world.sent ++ messages) m) (same_id now.log.own m) now (world.masters m)
         (λ is. subst (λ (k : ServerId). Q (world.sent ++ messages) k now) (sym moved.good.own ∙ same_id-true now.log.own m is) new)
         (λ isn't. led.others world.sent messages m (world.masters m) (p m)
@@ -127,20 +126,18 @@ module _ (P Q : List Message → ServerId → Master → Type 0) (led : IsLed P 
             m same) ∙ same_id-refl m) ∙ isn't)
 
     -- what holds of the master that runs
-    mine : (master : Master) → (world.hosts i).master ≡ Some master → P world.sent (server_of (world.hosts i)) master
-    mine master e = subst (P world.sent (server_of (world.hosts i))) ((good.hosts_are i).runs master e) (p (server_of (world.hosts i)))
+    mine : {master : Master} → (world.hosts i).master ≡ Some master → P world.sent (server_of (world.hosts i)) master
+    mine {master} e = subst (P world.sent (server_of (world.hosts i))) ((good.hosts_are i).runs master e) (p (server_of (world.hosts i)))
 
     done-backup : (after : Backup × List Message) → Each BySelf after.1 → Done (with_backup (world.hosts i) after)
     done-backup (backup, messages) soft = done-quiet (record (world.hosts i) { backup = backup }) messages refl soft
 
     done-starts : (list : List (ServerId × ℕ)) → Done (starts_host (world.hosts i) (next_server (world.hosts i)) list)
-    done-starts list =
-        same-view (world.sent ++ to_coordinator (next_server (world.hosts i)) Enlist ∷ []) world.masters
-        (put_id world.masters (next_server (world.hosts i)) (new_master (next_server (world.hosts i)) (world.hosts i).setup))
+    done-starts list = same-view
         (λ m. either (λ (now : Master). now ≡ world.masters m) (same_id (next_server (world.hosts i)) m)
         (new_master (next_server (world.hosts i)) (world.hosts i).setup) (world.masters m)
         (λ is. sym started ∙ ap world.masters (same_id-true (next_server (world.hosts i)) m is)) (λ _. refl))
-        (quiet-all world.sent (to_coordinator (next_server (world.hosts i)) Enlist ∷ []) world.masters p
+        (quiet-all (to_coordinator (next_server (world.hosts i)) Enlist ∷ []) p
         (λ m message at from. each-one BySelf (to_coordinator (next_server (world.hosts i)) Enlist) refl message at))
       where
         was : GoodHost world.sent world.masters i (world.hosts i)
@@ -149,19 +146,18 @@ module _ (P Q : List Message → ServerId → Master → Type 0) (led : IsLed P 
         started : world.masters (next_server (world.hosts i)) ≡ new_master (next_server (world.hosts i)) (world.hosts i).setup
         started = subst (λ n. world.masters (record { index = n; generation = (world.hosts i).generation + 1 }) ≡
             new_master (record { index = n; generation = (world.hosts i).generation + 1 }) (world.hosts i).setup)
-            (sym was.index)
-            (was.unstarted ((world.hosts i).generation + 1) (omega arith))
+            (sym was.index) (was.unstarted ((world.hosts i).generation + 1) (omega arith))
 
     done-host : (work : NodeWork) → IsGiven world.sent (TheHost i) work → Done (host_step (world.hosts i) work)
     done-host work given = walked-host world one i good Done (record {
       still = done-quiet (world.hosts i) [] refl (each-none BySelf);
       backs = λ master e from says at moved. done-backup (backup_takes (world.hosts i).backup from says)
           (others-backup (world.hosts i).backup from says);
-      takes = λ master e from says at moved. done-moved master e (master_takes master from says) moved
-          (led.takes world.sent (server_of (world.hosts i)) master from says (is-good world one i good master e) (mine master e) at);
-      ticks = λ master e moved. done-moved master e (master_ticks master) moved
-          (led.ticks world.sent (server_of (world.hosts i)) master (is-good world one i good master e) (mine master e));
-      stops = quiet-all world.sent [] world.masters p (λ m message at. absurd at);
+      takes = λ master e from says at moved. done-moved e (master_takes master from says) moved
+          (led.takes world.sent (server_of (world.hosts i)) master from says (is-good world one i good e) (mine e) at);
+      ticks = λ master e moved. done-moved e (master_ticks master) moved
+          (led.ticks world.sent (server_of (world.hosts i)) master (is-good world one i good e) (mine e));
+      stops = quiet-all [] p (λ m message at. absurd at);
       starts = done-starts;
     }) work given
 
@@ -173,21 +169,19 @@ module _ (P Q : List Message → ServerId → Master → Type 0) (led : IsLed P 
 
   led-node : (world : World) (one : Event) (node : NodeName) (work : NodeWork) → GoodWorld world → Before world →
       IsGiven world.sent node work → After (node_done world one node work)
-  led-node world one TheOutside work good p given = quiet-all world.sent (outside_sends work) world.masters p (outside-others work)
-  led-node world one TheCoordinator work good p given =
-      quiet-all world.sent (coordinator_step world.coordinator work).1 world.masters p
-      (λ m message at from. not-server m (sym (coordinator-from world work good given message at) ∙ from))
+  led-node world one TheOutside work good p given = quiet-all (outside_sends work) p (outside-others work)
+  led-node world one TheCoordinator work good p given = quiet-all (coordinator_step world.coordinator work).1 p
+      (λ m message at from. not-server (sym (coordinator-from world work good given message at) ∙ from))
   led-node world one (TheHost i) work good p given = done-host world one i good p work given
 
   led-job : (world : World) (one : Event) (found : Option Job) → job_of world.sent one ≡ found → GoodWorld world →
       Before world → After (job_done world one found)
   led-job world one None is good p = λ m. led.same world.sent m (world.masters m) (p m)
-  led-job world one (Some job) is good p = led-node world one job.node job.work good p (job_of-given world.sent one job is)
+  led-job world one (Some job) is good p = led-node world one job.node job.work good p (job_of-given world.sent one is)
 
   -- an event
   pub led-by : (world : World) (one : Event) → GoodWorld world → Before world → After (step world one)
-  led-by world one good p =
-      either After (is_possible world one) (job_done world one (job_of world.sent one)) world
+  led-by world one good p = either After (is_possible world one) (job_done world one (job_of world.sent one)) world
       (λ _. led-job world one (job_of world.sent one) refl good p)
       (λ _ m. led.same world.sent m (world.masters m) (p m))
 

@@ -29,8 +29,7 @@ answer-about world y m number rows good asked at =
 
     of_m : answer.master ≡ m
     of_m =
-        let same : answer.attempt.attempt ≡ is_of.attempt = numbered-same world.coordinator.attempts number
-        answer.attempt.attempt is_of.attempt answer.attempt.numbered is_of.numbered in
+        let same : answer.attempt.attempt ≡ is_of.attempt = numbered-same answer.attempt.numbered is_of.numbered in
         sym answer.attempt.master_is ∙ (ap (λ (one : Attempt). one.master) same ∙ is_of.master_is)
 
 -- so it tells nothing new

@@ -34,8 +34,7 @@ freed_of-append (message ∷ first) second m =
 -- what one of them frees is freed by them
 freed_of-in : (messages : List Message) (m : ServerId) (s : ℕ) → In s (freed_of messages m) → In s (freed_in messages)
 freed_of-in [] m s at = absurd at
-freed_of-in (message ∷ messages) m s at =
-    by (is_server m message.from) (freed_of-in messages m s)
+freed_of-in (message ∷ messages) m s at = by (is_server m message.from) (freed_of-in messages m s)
     (In-append s (cond (is_server m message.from) (freed_by message.body) []) (freed_of messages m) at)
   where
     by : (b : Bool) → (In s (freed_of messages m) → In s (freed_in messages)) →
@@ -77,9 +76,9 @@ freed_of-has (first ∷ sent) m s message (inr rest) from says =
 -- A world
 
 -- nothing of it was freed in these
-unfreed : (sent messages : List Message) (m : ServerId) (log : Log) → NoFrees m messages →
+unfreed : (sent messages : List Message) {m : ServerId} {log : Log} → NoFrees m messages →
     GoodFrees (freed_of sent m) log → GoodFrees (freed_of (sent ++ messages) m) log
-unfreed sent messages m log none good = fewer (freed_of sent m) (freed_of (sent ++ messages) m) log
+unfreed sent messages {m} none good = fewer
     (λ s at. by s (In-append s (freed_of sent m) (freed_of messages m) (subst (In s) (freed_of-append sent messages m) at))) good
   where
     by : (s : ℕ) → In s (freed_of sent m) ⊎ In s (freed_of messages m) → In s (freed_of sent m)
@@ -87,9 +86,9 @@ unfreed sent messages m log none good = fewer (freed_of sent m) (freed_of (sent 
     by s (inr is) = absurd (none-freed messages m none s is)
 
 -- what was freed in the master's own step was
-freed-now : (sent messages : List Message) (m : ServerId) (log : Log) →
+freed-now : (sent messages : List Message) (m : ServerId) {log : Log} →
     GoodFrees (freed_of sent m ++ freed_in messages) log → GoodFrees (freed_of (sent ++ messages) m) log
-freed-now sent messages m log good = fewer (freed_of sent m ++ freed_in messages) (freed_of (sent ++ messages) m) log
+freed-now sent messages m good = fewer
     (λ s at. by s (In-append s (freed_of sent m) (freed_of messages m) (subst (In s) (freed_of-append sent messages m) at))) good
   where
     by : (s : ℕ) → In s (freed_of sent m) ⊎ In s (freed_of messages m) → In s (freed_of sent m ++ freed_in messages)
@@ -107,8 +106,8 @@ freed-by_others m messages others message at from = frees-not message.body (othe
 abbrev Freed : List Message → ServerId → Master → Type 0
 Freed sent m master = GoodFrees (freed_of sent m) master.log
 
-freed-kept : (setup : Setup) → IsKeptByAll setup Freed
-freed-kept setup = record {
+freed-kept : {setup : Setup} → IsKeptByAll setup Freed
+freed-kept = record {
   opened = λ m. record {
     left_out = λ s at. absurd at;
     old_shut = λ s above below. absurd (omega (arith, below));
@@ -117,10 +116,10 @@ freed-kept setup = record {
   };
   led = record {
     same = λ sent m master p. p;
-    others = λ sent messages m master p others. unfreed sent messages m master.log (freed-by_others m messages others) p;
-    takes = λ sent m master from body good p at. freed-now sent (master_takes master from body).1 m (master_takes master from body).0.log
-        ((takes-moves master from body).keeps (freed_of sent m) p);
-    ticks = λ sent m master good p. freed-now sent (master_ticks master).1 m (master_ticks master).0.log
+    others = λ sent messages m master p others. unfreed sent messages (freed-by_others m messages others) p;
+    takes = λ sent m master from body good p at. freed-now sent (master_takes master from body).1 m
+        ((takes-moves from body).keeps (freed_of sent m) p);
+    ticks = λ sent m master good p. freed-now sent (master_ticks master).1 m
         ((ticks-moves master).keeps (freed_of sent m) p);
   };
 }
@@ -129,7 +128,7 @@ freed-kept setup = record {
     opened e = cc
 
 all-world : (setup : Setup) (events : List Event) (m : ServerId) → Freed (replay setup events).sent m ((replay setup events).masters m)
-all-world setup events m = kept-replay setup Freed (freed-kept setup) events m
+all-world setup events m = kept-replay setup Freed (freed-kept) events m
 
 -- What the plans and the Frees say of it
 
@@ -151,20 +150,18 @@ module _ (setup : Setup) (events : List Event) (plan : Accepted) (was : WasAccep
       (good.messages was.message was.among)
 
   is : PlanIs (replay setup events).sent (replay setup events).masters (replay setup events).coordinator plan.master plan.rows
-  is = plan-is (replay setup events).sent (replay setup events).masters (replay setup events).hosts
-      (replay setup events).coordinator good plan.attempt plan.master was.head plan.rows of
+  is = plan-is good of
 
   head-is : is.row.seg ≡ was.head
   unfolding is
-  head-is = plan-head (replay setup events).sent (replay setup events).masters (replay setup events).hosts
-      (replay setup events).coordinator good plan.attempt plan.master was.head plan.rows of
+  head-is = plan-head good of
 
   -- its head row has the digest of the head
   digest-is : is.row.digest ≡ (((replay setup events).masters plan.master).log.segments was.head).digest
   digest-is = is.head_copy.digest_is ∙ ap (λ k. (((replay setup events).masters plan.master).log.segments k).digest) head-is
 
-  pub rows-are : (s : ℕ) → HasRow plan s → In s (((replay setup events).masters plan.master).log.segments was.head).digest
-  rows-are s has = subst (λ (digest : List ℕ). In s digest) digest-is
+  pub rows-are : {s : ℕ} → HasRow plan s → In s (((replay setup events).masters plan.master).log.segments was.head).digest
+  rows-are {s} has = subst (λ (digest : List ℕ). In s digest) digest-is
       (subst (λ t. In t is.row.digest) has.seg (is.within has.row has.among))
 
   pub are-rows : (s : ℕ) → In s (((replay setup events).masters plan.master).log.segments was.head).digest → HasRow plan s
@@ -174,14 +171,12 @@ module _ (setup : Setup) (events : List Event) (plan : Accepted) (was : WasAccep
       record { row = found.0; among = found.1; seg = found.2 }
 
   pub not-shut : (((replay setup events).masters plan.master).log.segments was.head).shut ≡ true → ⊥
-  not-shut shut =
-      head-not-below (replay setup events).sent (replay setup events).masters (replay setup events).hosts
-      (replay setup events).coordinator good plan.master is.head is.row is.head_copy is.unclosed is.valid
+  not-shut shut = head-not-below good is.head is.head_copy is.unclosed is.valid
       (subst (λ k. (((replay setup events).masters plan.master).log.segments k).shut ≡ true) (sym head-is) shut)
 
   -- the head is at or above the one from which on the segment is left out
-  pub not-in : (s : ℕ) → IsLeftOut ((replay setup events).masters plan.master).log s → HasRow plan s → ⊥
-  not-in s out has = by (cases_order was.head out.head)
+  pub not-in : {s : ℕ} → IsLeftOut ((replay setup events).masters plan.master).log s → HasRow plan s → ⊥
+  not-in out has = by (cases_order was.head out.head)
     where
       above : 0 < was.head
       above = subst (λ k. 0 < k) head-is is.head_copy.opened.above
@@ -190,7 +185,7 @@ module _ (setup : Setup) (events : List Event) (plan : Accepted) (was : WasAccep
       below = subst (λ k. k ≤ ((replay setup events).masters plan.master).log.head) head-is is.head_copy.opened.below
 
       lacks : out.head ≤ was.head → ⊥
-      lacks from = out.lacks was.head from below (rows-are s has)
+      lacks from = out.lacks was.head from below (rows-are has)
 
       by : (was.head ≡ out.head) ⊎ ((was.head < out.head) ⊎ (out.head < was.head)) → ⊥
       by (inl same) = lacks (omega (arith, same))
@@ -198,11 +193,11 @@ module _ (setup : Setup) (events : List Event) (plan : Accepted) (was : WasAccep
       by (inr (inr more)) = lacks (omega (arith, more))
 
 pub recoveries-are-digests : RecoveriesAreDigests
-recoveries-are-digests setup events plan was s = (rows-are setup events plan was s, are-rows setup events plan was s)
+recoveries-are-digests setup events plan was s = (rows-are setup events plan was, are-rows setup events plan was s)
 
 pub heads-are-not-shut : HeadsAreNotShut
 heads-are-not-shut setup events plan was shut = not-shut setup events plan was shut
 
 pub freed-is-in-no-recovery : FreedIsInNoRecovery
 freed-is-in-no-recovery setup events plan s was freed has =
-    not-in setup events plan was s (freed-is-left-out setup events plan.master s freed) has
+    not-in setup events plan was (freed-is-left-out setup events plan.master s freed) has

@@ -17,35 +17,28 @@ use Rattle.rc_log_laws.proofs.Since.{Since, since-more}
 pub one-entry : OneEntryAtAPlace
 one-entry setup events m s o one other p q =
     let first : slice_get (log_in ((replay setup events).masters m).log s) o ≡ Some one =
-    made-is (replay setup events).sent (replay setup events).masters (replay setup events).hosts
-    (replay setup events).coordinator (good-world setup events) m s o one p in
+    made-is (good-world setup events) p in
     let second : slice_get (log_in ((replay setup events).masters m).log s) o ≡ Some other =
-    made-is (replay setup events).sent (replay setup events).masters (replay setup events).hosts
-    (replay setup events).coordinator (good-world setup events) m s o other q in
+    made-is (good-world setup events) q in
     cc
 
 pub logs-grow : LogsGrow
-logs-grow setup events more m s =
-    grows-log (replay setup (events ++ more)).sent m ((replay setup events).masters m).log
-    ((replay setup (events ++ more)).masters m).log (since-more setup events more m).later s
+logs-grow setup events more m s = grows-log (since-more setup events more).later s
 
 pub shut-is-final : ShutIsFinal
 shut-is-final setup events more m s shut = record {
   shut = (later.later.shut s shut).0;
-  same = final-log (replay setup (events ++ more)).sent m ((replay setup events).masters m).log
-      ((replay setup (events ++ more)).masters m).log later.later s
-      (((good-world setup events).masters_are m).shut_below s shut).1;
+  same = final-log later.later (((good-world setup events).masters_are m).shut_below s shut).1;
 }
   where
     later : Since m (replay setup events) (replay setup (events ++ more))
-    later = since-more setup events more m
+    later = since-more setup events more
 
 -- each place of a shut segment is safe
-shut-safe : (sent : List Message) (m : ServerId) (master : Master) (s o : ℕ) → GoodMaster sent m master →
+shut-safe : {sent : List Message} {m : ServerId} {master : Master} {s o : ℕ} → GoodMaster sent m master →
     OwnFine sent m master.log → (master.log.segments s).shut ≡ true →
     o < length (log_in master.log s) → IsSafe sent m master.log s o
-shut-safe sent m master s o good fine shut less =
-    covered-safe sent m master.log place (view-of sent m master good fine).log fine
+shut-safe {master} {s} {o} good fine shut less = covered-safe (view-of good fine).log fine
     (record { above = stands.0; upto = omega (arith, stands.1); holds = at.1 })
     (record { reason = inl shut; below = λ t above under. good.old_shut t above (omega (arith, under, stands.1)) })
   where
@@ -63,15 +56,13 @@ shut-safe sent m master s o good fine shut less =
     place = record { seg = s; offset = o; entry = at.0.0; client = at.0.1 }
 
 pub shut-is-safe : ShutIsSafe
-shut-is-safe setup events m s o shut less =
-    shut-safe (replay setup events).sent m ((replay setup events).masters m) s o ((good-world setup events).masters_are m)
-    (own-fine (replay setup events).sent (replay setup events).masters (replay setup events).hosts
-    (replay setup events).coordinator (good-world setup events) m) shut less
+shut-is-safe setup events m s o shut less = shut-safe ((good-world setup events).masters_are m)
+    (own-fine (good-world setup events)) shut less
 
 pub replicas-are-beginnings : ReplicasAreBeginnings
 replicas-are-beginnings setup events i m s replica kept = record {
   begins = one.begins;
-  whole = λ closed. begins-whole replica.entries (log_in ((replay setup events).masters m).log s) one.begins (one.copy.whole closed).1;
+  whole = λ closed. begins-whole one.begins (one.copy.whole closed).1;
   made = λ o less. one.copy.made o less;
 }
   where
@@ -80,8 +71,5 @@ replicas-are-beginnings setup events i m s replica kept = record {
     one = (((good-world setup events).hosts_are i).held m).each s replica kept
 
 pub recovered-is-made : RecoveredIsMade
-recovered-is-made setup events plan s o accepted held =
-    held-made (replay setup events).sent (replay setup events).masters (replay setup events).hosts
-    (replay setup events).coordinator plan.master plan.rows
-    (accepted-is (replay setup events).sent (replay setup events).masters (replay setup events).hosts
-    (replay setup events).coordinator (good-world setup events) plan accepted) s o held
+recovered-is-made setup events plan s o accepted held = held-made (replay setup events).hosts
+    (accepted-is (good-world setup events) accepted) held

@@ -20,9 +20,9 @@ use Rattle.rc_model.proofs.Tables.{put-same, put_each}
 use Rattle.rc_model.proofs.Ids.{server-same}
 
 -- the coordinator stays good where more is sent
-pub coordinator-still : (sent messages : List Message) (c : Coordinator) → GoodCoordinator sent c → GoodCoordinator (sent ++ messages) c
-coordinator-still sent messages c good = record {
-  attempts = λ number attempt numbered. attempt-kept sent messages c c number attempt (kept-refl c) (good.attempts number attempt numbered);
+pub coordinator-still : {sent : List Message} (messages : List Message) {c : Coordinator} → GoodCoordinator sent c → GoodCoordinator (sent ++ messages) c
+coordinator-still messages good = record {
+  attempts = λ number attempt numbered. attempt-kept messages (kept-refl) (good.attempts number attempt numbered);
   servers = good.servers;
   current_numbered = good.current_numbered;
   current_master = good.current_master;
@@ -77,10 +77,9 @@ module _ (sent : List Message) (masters : ServerId → Master) (hosts : ℕ → 
   onward : Onward sent masters hosts c (sent ++ messages) masters (put hosts i (record (hosts i) { backup = after })) c
   onward = record {
     more = more;
-    grown = λ m. unmoved-grown sent (sent ++ messages) m (masters m) (good.masters_are m) more (back m);
-    masters_are = λ m. unmoved-good sent (sent ++ messages) m (masters m) (good.masters_are m) more (back m);
-    own = λ m. unmoved-own sent (sent ++ messages) m (masters m) (good.masters_are m)
-        (own-fine sent masters hosts c good m) more (back m) (fits m);
+    grown = λ m. unmoved-grown (good.masters_are m) more (back m);
+    masters_are = λ m. unmoved-good (good.masters_are m) more (back m);
+    own = λ m. unmoved-own (good.masters_are m) (own-fine good) more (back m) (fits m);
     hosts_later = λ j. put_each (λ k host. HostLater (hosts k) host) hosts i (record (hosts i) { backup = after })
         (record { generation = omega arith; held = λ same m. moved.later m }) (λ k. host_later-refl (hosts k)) j;
     c_later = coordinator_later-refl c;
@@ -98,9 +97,7 @@ module _ (sent : List Message) (masters : ServerId → Master) (hosts : ℕ → 
   }
 
   other : (j : ℕ) → (i ≡ j → ⊥) → GoodHost (sent ++ messages) masters j (hosts j)
-  other j differs =
-      host-still sent masters hosts c (sent ++ messages) masters (put hosts i (record (hosts i) { backup = after })) c
-      good onward j (λ g. refl) nothing
+  other j differs = host-still good onward (λ g. refl) nothing
     where
       nothing : (m x : ServerId) (s e len : ℕ) (closed : Bool) → x.index ≡ j →
           In (between x m (body.Stored s e len closed)) (sent ++ messages) →
@@ -108,11 +105,11 @@ module _ (sent : List Message) (masters : ServerId → Master) (hosts : ℕ → 
       nothing m x s e len closed on at = In-either (between x m (body.Stored s e len closed)) sent messages at (λ there. there)
           (λ new. absurd (differs (sym was.index ∙ (sym (ap (λ (id : ServerId). id.index) (teller x m s e len closed new)) ∙ on))))
 
-  stored-now : (m : ServerId) (s e len : ℕ) (closed : Bool) →
+  stored-now : {m : ServerId} {s e len : ℕ} {closed : Bool} →
       IsTold (sent ++ messages) m (masters m).log (server_of (hosts i)) s e len closed →
       StillStands (after.held m) s e len closed →
       IsStored (sent ++ messages) (put hosts i (record (hosts i) { backup = after })) m (masters m).log (server_of (hosts i)) s e len closed
-  stored-now m s e len closed told stands = record {
+  stored-now {m} {s} {e} {len} {closed} told stands = record {
     told = told;
     since = subst (λ (host : HostNode). (hosts i).generation ≤ host.generation) (sym here) (omega arith);
     stands = λ _. inl (subst (λ (host : HostNode). StillStands (host.backup.held m) s e len closed) (sym here) stands);
@@ -125,7 +122,7 @@ module _ (sent : List Message) (masters : ServerId → Master) (hosts : ℕ → 
       backup_body_said (sent ++ messages) masters (put hosts i (record (hosts i) { backup = after })) c (hosts i) after
       to says →
       body_fine (sent ++ messages) masters (put hosts i (record (hosts i) { backup = after })) c (Server (server_of (hosts i))) to says
-  said-fine (Server m) (body.Stored s e len closed) said = stored-now m s e len closed said.0 said.1.0
+  said-fine (Server m) (body.Stored s e len closed) said = stored-now said.0 said.1.0
   said-fine AtCoordinator (body.Stored s e len closed) said = absurd said
   said-fine Outside (body.Stored s e len closed) said = absurd said
   said-fine to (body.Replicas number rows) said = said
@@ -140,20 +137,17 @@ module _ (sent : List Message) (masters : ServerId → Master) (hosts : ℕ → 
   said-fine to _ said = tt
 
   pub good-backup : Led sent masters hosts c (sent ++ messages) masters (put hosts i (record (hosts i) { backup = after })) c
-  good-backup =
-      good-onward sent masters hosts c (sent ++ messages) masters (put hosts i (record (hosts i) { backup = after })) c good onward
+  good-backup = good-onward good onward
       (λ j. put-cases (λ k host. GoodHost (sent ++ messages) masters k host) hosts i (record (hosts i) { backup = after }) mine other j)
-      (coordinator-still sent messages c good.coordinator) (λ message at. by message (In-append message sent messages at))
+      (coordinator-still messages good.coordinator) (λ message at. by message (In-append message sent messages at))
     where
       by : (message : Message) → In message sent ⊎ In message messages →
           In message sent ⊎ Fine (sent ++ messages) masters (put hosts i (record (hosts i) { backup = after })) c
           message
       by message (inl there) = inl there
-      by message (inr new) = inr
-          (subst (λ (from : Addr). body_fine (sent ++ messages) masters
+      by message (inr new) = inr (subst (λ (from : Addr). body_fine (sent ++ messages) masters
           (put hosts i (record (hosts i) { backup = after })) c from message.to message.body)
-          (sym (moved.from message new))
-          (said-fine message.to message.body (moved.says message new)))
+          (sym (moved.from message new)) (said-fine message.to message.body (moved.says message new)))
 
 -- The host changes otherwise: it starts, or it stops
 
@@ -163,17 +157,16 @@ module _ (sent messages : List Message) (masters : ServerId → Master) (hosts :
     (fine_now : (message : Message) → In message messages →
     Fine (sent ++ messages) masters (put hosts i host) c message) where
   moved_onward : Onward sent masters hosts c (sent ++ messages) masters (put hosts i host) c
-  moved_onward = onward-quiet sent messages masters hosts c c good quiet (coordinator_later-refl c) grants (put hosts i host)
+  moved_onward = onward-quiet sent messages masters hosts c c good quiet (coordinator_later-refl c) grants
       (λ j. put_each (λ k one. HostLater (hosts k) one) hosts i host later (λ k. host_later-refl (hosts k)) j)
 
   pub good-host : Led sent masters hosts c (sent ++ messages) masters (put hosts i host) c
-  good-host =
-      good-onward sent masters hosts c (sent ++ messages) masters (put hosts i host) c good moved_onward
+  good-host = good-onward good moved_onward
       (λ j. put-cases (λ k one. GoodHost (sent ++ messages) masters k one) hosts i host mine_now
-      (λ k differs. host-still sent masters hosts c (sent ++ messages) masters (put hosts i host) c good moved_onward k
+      (λ k differs. host-still good moved_onward
       (λ g. refl) (λ m x s e len closed on at. told-quiet sent messages masters hosts c c good quiet (coordinator_later-refl c) grants x m
       s e len closed at)) j)
-      (coordinator-still sent messages c good.coordinator) (λ message at. by message (In-append message sent messages at))
+      (coordinator-still messages good.coordinator) (λ message at. by message (In-append message sent messages at))
     where
       by : (message : Message) → In message sent ⊎ In message messages →
           In message sent ⊎ Fine (sent ++ messages) masters (put hosts i host) c message

@@ -59,13 +59,13 @@ module _ (L : Log → Log → Type 0) (still : (log : Log) → L log log)
     ticks = λ sent m master good p. from m master (master_ticks master).0 p (ticks master);
   }
 
-  each-event : (one : Event) → GoodWorld world → (m : ServerId) → L (world.masters m).log ((step world one).masters m).log
-  each-event one good m = led-by Before After led world one good (λ k. refl) m
+  each-event : (one : Event) → GoodWorld world → {m : ServerId} → L (world.masters m).log ((step world one).masters m).log
+  each-event one good {m} = led-by Before After led world one good (λ k. refl) m
 
 of-events : (L : Log → Log → Type 0) → ((log : Log) → L log log) → OfEachStep L → OfEachEvent L
 of-events L still steps setup events one m =
     subst (λ (after : World). L ((replay setup events).masters m).log (after.masters m).log) (sym (pushed setup events one))
-    (each-event L still steps.0 steps.1 (replay setup events) one (good-world setup events) m)
+    (each-event L still steps.0 steps.1 (replay setup events) one (good-world setup events))
 
 pub writes-where-it-may-each : OfEachEvent WritesWhereItMay
 writes-where-it-may-each = of-events WritesWhereItMay (λ log s is. inl is) writes-where-it-may
@@ -74,9 +74,9 @@ appends-each : OfEachEvent AppendsWhereItWrites
 appends-each = of-events AppendsWhereItWrites
     (λ log s upto. inl (record { still = λ _. refl; none = λ above. absurd (omega (arith, upto, above)) })) appends-where-it-writes
 
-none-above : (setup : Setup) (events : List Event) (m : ServerId) (s : ℕ) → (log_of setup events m).head < s →
+none-above : (setup : Setup) (events : List Event) (m : ServerId) {s : ℕ} → (log_of setup events m).head < s →
     log_in (log_of setup events m) s ≡ []
-none-above setup events m s above =
+none-above setup events m {s} above =
     ap (λ (segment : Segment). map (λ one. one.0) segment.entries) (((good-world setup events).masters_are m).none_above s above)
 
 heads-rise : (setup : Setup) (events : List Event) (one : Event) (m : ServerId) →
@@ -97,7 +97,7 @@ keeps-unless-written setup events one m s = by (upto_or s new.head)
     same : HasItsEntries old new s → (s ≤ old.head) ⊎ (old.head < s) → log_in new s ≡ log_in old s
     same has (inl upto) = ap (λ (entries : List (Entry × Bool)). map (λ one. one.0) entries) (has.still upto)
     same has (inr above) = ap (λ (entries : List (Entry × Bool)). map (λ one. one.0) entries) (has.none above) ∙
-        sym (none-above setup events m s above)
+        sym (none-above setup events m above)
 
     known : HasItsEntries old new s ⊎ (IsWritingIn old s ⊎ MayTakeData new s) →
         (log_in new s ≡ log_in old s) ⊎ (IsWritingIn old s ⊎ MayTakeData new s)
@@ -106,8 +106,8 @@ keeps-unless-written setup events one m s = by (upto_or s new.head)
 
     by : (s ≤ new.head) ⊎ (new.head < s) → (log_in new s ≡ log_in old s) ⊎ (IsWritingIn old s ⊎ MayTakeData new s)
     by (inl upto) = known (appends-each setup events one m s upto)
-    by (inr above) = inl (none-above setup (events ++ one ∷ []) m s above ∙
-        sym (none-above setup events m s (omega (arith, above, heads-rise setup events one m))))
+    by (inr above) = inl (none-above setup (events ++ one ∷ []) m above ∙
+        sym (none-above setup events m (omega (arith, above, heads-rise setup events one m))))
 
 -- Messages
 
@@ -118,11 +118,11 @@ sent-of setup events one message at =
     subst (λ (after : World). In message (drop (length (replay setup events).sent) after.sent)) (pushed setup events one) at
 
 -- who is no server's
-not-coordinator : {X : Type 0} (m : ServerId) → AtCoordinator ≡ Server m → X
-not-coordinator m e = cc
+not-coordinator : {X : Type 0} {m : ServerId} → AtCoordinator ≡ Server m → X
+not-coordinator e = cc
 
-not-outside : {X : Type 0} (m : ServerId) → Outside ≡ Server m → X
-not-outside m e = cc
+not-outside : {X : Type 0} {m : ServerId} → Outside ≡ Server m → X
+not-outside e = cc
 
 outside-coordinator : {X : Type 0} → Outside ≡ AtCoordinator → X
 outside-coordinator e = cc
@@ -134,20 +134,19 @@ module _ (world : World) (one : Event) (good : GoodWorld world) where
       message.from ≡ Server (server_of (world.hosts i))
   takes-from i master given message e among to at =
       ((master_takes_keeps world.sent (server_of (world.hosts i)) master given.from given.body
-      (is-good world one i good master e) (is-fine world one i good master e)
-      (hears world one i good given.from given.body
+      (is-good world one i good e) (is-fine world one i good e) (hears world one i good given.from given.body
       (subst (λ (to : Addr). In (record { from = given.from; to = to; body = given.body }) world.sent) to among))).says message at).from
 
   ticks-from : (i : ℕ) (master : Master) (message : Message) → (world.hosts i).master ≡ Some master →
       In message (master_ticks master).1 → message.from ≡ Server (server_of (world.hosts i))
   ticks-from i master message e at =
-      ((master_ticks_keeps world.sent (server_of (world.hosts i)) master (is-good world one i good master e)
-      (is-fine world one i good master e)).says message at).from
+      ((master_ticks_keeps world.sent (server_of (world.hosts i)) master (is-good world one i good e)
+      (is-fine world one i good e)).says message at).from
 
   -- the view of the running master
-  view-of : (i : ℕ) (master : Master) (m : ServerId) → (world.hosts i).master ≡ Some master →
+  view-of : {i : ℕ} {master : Master} {m : ServerId} → (world.hosts i).master ≡ Some master →
       Server (server_of (world.hosts i)) ≡ Server m → world.masters m ≡ master
-  view-of i master m e same = ap world.masters (sym (server-same (server_of (world.hosts i)) m same)) ∙ (good.hosts_are i).runs master e
+  view-of {i} {master} {m} e same = ap world.masters (sym (server-same (server_of (world.hosts i)) m same)) ∙ (good.hosts_are i).runs master e
 
   said-takes : (i : ℕ) (master : Master) (given message : Message) → (world.hosts i).master ≡ Some master → In given world.sent →
       given.to ≡ Server (server_of (world.hosts i)) → (at : In message (master_takes master given.from given.body).1) →
@@ -155,8 +154,7 @@ module _ (world : World) (one : Event) (good : GoodWorld world) where
       (master_takes master given.from given.body).0.log message.to message.body
   said-takes i master given message e among to at =
       ((master_takes_keeps world.sent (server_of (world.hosts i)) master given.from given.body
-      (is-good world one i good master e) (is-fine world one i good master e)
-      (hears world one i good given.from given.body
+      (is-good world one i good e) (is-fine world one i good e) (hears world one i good given.from given.body
       (subst (λ (to : Addr). In (record { from = given.from; to = to; body = given.body }) world.sent) to among))).says message at).says
 
   said-ticks : (i : ℕ) (master : Master) (message : Message) → (world.hosts i).master ≡ Some master →
@@ -164,8 +162,8 @@ module _ (world : World) (one : Event) (good : GoodWorld world) where
       body_said world.sent (world.sent ++ (master_ticks master).1) (server_of (world.hosts i)) master.log
       (master_ticks master).0.log message.to message.body
   said-ticks i master message e at =
-      ((master_ticks_keeps world.sent (server_of (world.hosts i)) master (is-good world one i good master e)
-      (is-fine world one i good master e)).says message at).says
+      ((master_ticks_keeps world.sent (server_of (world.hosts i)) master (is-good world one i good e)
+      (is-fine world one i good e)).says message at).says
 
   -- what a backup says is in its server's name
   backup-from : (i : ℕ) (given message : Message) →
@@ -186,28 +184,27 @@ module _ (world : World) (one : Event) (good : GoodWorld world) where
     abbrev SaysOf : World → Message → Type 0
     SaysOf after message = message.from ≡ Server m → Says (world.masters m).log (after.masters m).log message.body
 
-    by_view : (i : ℕ) (master : Master) (after : World) (message : Message) (now : Master) → (world.hosts i).master ≡ Some master →
+    by_view : {i : ℕ} {master : Master} (after : World) (message : Message) {now : Master} → (world.hosts i).master ≡ Some master →
         message.from ≡ Server (server_of (world.hosts i)) → after.masters (server_of (world.hosts i)) ≡ now →
         Says master.log now.log message.body → SaysOf after message
-    by_view i master after message now e sender view says from =
+    by_view {i} {master} after message e sender view says from =
         let same : Server (server_of (world.hosts i)) ≡ Server m = sym sender ∙ from in
-        subst (λ (old : Master). Says old.log (after.masters m).log message.body) (sym (view-of i master m e same))
+        subst (λ (old : Master). Says old.log (after.masters m).log message.body) (sym (view-of e same))
         (subst (λ (new : Master). Says master.log new.log message.body)
         (sym view ∙ ap after.masters (server-same (server_of (world.hosts i)) m same)) says)
 
     says-sender : EachSender world SaysOf
     says-sender = record {
-      outside = λ after to asked clients from. not-outside m from;
-      coordinator = λ after work message given at from. not-coordinator m
+      outside = λ after to asked clients from. not-outside from;
+      coordinator = λ after work message given at from. not-coordinator
           (sym (coordinator-from world work good given message at) ∙ from);
       backup = λ after i given message among to view at from. soft (world.masters m).log (after.masters m).log message.body
           (each-told (λ (message : Message). is_others message.body ≡ true) (world.hosts i).backup (λ x s e len closed. refl)
           (λ attempt rows. refl) (λ x attempt seg term entries. refl) given.from given.body message at);
       starts = λ after i from. soft (world.masters m).log (after.masters m).log Enlist refl;
-      takes = λ after i master given message e among to view at. by_view i master after message
-          (master_takes master given.from given.body).0 e (takes-from i master given message e among to at) view
+      takes = λ after i master given message e among to view at. by_view after message e (takes-from i master given message e among to at) view
           (takes master given.from given.body message at);
-      ticks = λ after i master message e view at. by_view i master after message (master_ticks master).0 e
+      ticks = λ after i master message e view at. by_view after message e
           (ticks-from i master message e at) view (ticks master message at);
     }
 
@@ -224,10 +221,10 @@ module _ (world : World) (one : Event) (good : GoodWorld world) where
   answer-is true refusal message (inr never) = absurd never
   answer-is false refusal message at = absurd at
 
-  silent-sender : (m : ServerId) → EachSender world (Silent m)
-  silent-sender m = record {
-    outside = λ after to asked clients is from. not-outside m from;
-    coordinator = λ after work message given at is from. not-coordinator m
+  silent-sender : {m : ServerId} → EachSender world (Silent m)
+  silent-sender {m} = record {
+    outside = λ after to asked clients is from. not-outside from;
+    coordinator = λ after work message given at is from. not-coordinator
         (sym (coordinator-from world work good given message at) ∙ from);
     backup = λ after i given message among to view at is from. inl
         (each-told (λ (message : Message). is_backups message.body ≡ true) (world.hosts i).backup (λ x s e len closed. refl)
@@ -241,7 +238,7 @@ module _ (world : World) (one : Event) (good : GoodWorld world) where
     where
       mine : (i : ℕ) (master : Master) → (world.hosts i).master ≡ Some master → (world.masters m).deposed ≡ true →
           Server (server_of (world.hosts i)) ≡ Server m → master.deposed ≡ true
-      mine i master e is same = ap (λ (one : Master). one.deposed) (sym (view-of i master m e same)) ∙ is
+      mine i master e is same = ap (λ (one : Master). one.deposed) (sym (view-of e same)) ∙ is
 
       began : (i : ℕ) → next_server (world.hosts i) ≡ m → (world.masters m).deposed ≡ false
       began i same = ap (λ (id : ServerId). (world.masters id).deposed) (sym same) ∙ ap (λ (one : Master). one.deposed)
@@ -259,16 +256,16 @@ module _ (world : World) (one : Event) (good : GoodWorld world) where
           (deposed-only-refuse master given.from given.body (mine i master e is same))) at) in
           inr (record {
             refusal = found.1 ∙ ap (λ (own : ServerId). refuses own Deposed)
-                ((is-good world one i good master e).own ∙ server-same (server_of (world.hosts i)) m same);
+                ((is-good world one i good e).own ∙ server-same (server_of (world.hosts i)) m same);
             asked = given;
             among = among;
             to = to ∙ same;
             clients = found.0;
           })
 
-  silent-in : (m : ServerId) (message : Message) → In message (drop (length world.sent) (step world one).sent) →
+  silent-in : {m : ServerId} (message : Message) → In message (drop (length world.sent) (step world one).sent) →
       Silent m (step world one) message
-  silent-in m = each-sent world one good (Silent m) (silent-sender m)
+  silent-in {m} = each-sent world one good (Silent m) (silent-sender)
 
   -- Backups
 
@@ -285,8 +282,8 @@ module _ (world : World) (one : Event) (good : GoodWorld world) where
 
   tells-sender : EachSender world Tells
   tells-sender = record {
-    outside = λ after to asked clients y from. not-outside y from;
-    coordinator = λ after work message given at y from. not-coordinator y
+    outside = λ after to asked clients y from. not-outside from;
+    coordinator = λ after work message given at y from. not-coordinator
         (sym (coordinator-from world work good given message at) ∙ from);
     backup = λ after i given message among to view at y from is. told i after given message among to view at y
         (server-same (server_of (world.hosts i)) y (sym (backup-from i given message at) ∙ from)) is;
@@ -376,7 +373,7 @@ closes-are-due-each = of-sent ClosesAreDue soft-closes closes-are-due
 
 pub deposed-refuse-clients : DeposedRefuseClients
 deposed-refuse-clients setup events one m message is at from =
-    silent-in (replay setup events) one (good-world setup events) m message (sent-of setup events one message at) is from
+    silent-in (replay setup events) one (good-world setup events) message (sent-of setup events one message at) is from
 
 pub deposed-acknowledge-nothing : DeposedAcknowledgeNothing
 deposed-acknowledge-nothing setup events one m s o term table key version is at =
@@ -414,32 +411,32 @@ module _ (world : World) where
   abbrev Stays : List Message → ServerId → Master → Type 0
   Stays sent m master = (world.masters m).deposed ≡ true → master ≡ world.masters m
 
-  stays-by : (m : ServerId) (master after : Master) → master ≡ world.masters m → (master.deposed ≡ true → after ≡ master) →
+  stays-by : {m : ServerId} {master after : Master} → master ≡ world.masters m → (master.deposed ≡ true → after ≡ master) →
       (world.masters m).deposed ≡ true → after ≡ world.masters m
-  stays-by m master after same stays is = stays (ap (λ (one : Master). one.deposed) same ∙ is) ∙ same
+  stays-by same stays is = stays (ap (λ (one : Master). one.deposed) same ∙ is) ∙ same
 
   stays-led : IsLed WasSo Stays
   stays-led = record {
     same = λ sent m master p is. p;
     others = λ sent messages m master p others is. p;
-    takes = λ sent m master sender body good p at. stays-by m master (master_takes master sender body).0 p
+    takes = λ sent m master sender body good p at. stays-by p
         (λ is. ap (λ (done : Master × List Message). done.0) (deposed-only-refuse master sender body is));
-    ticks = λ sent m master good p. stays-by m master (master_ticks master).0 p
+    ticks = λ sent m master good p. stays-by p
         (λ is. ap (λ (done : Master × List Message). done.0) (deposed-do-not-tick master is));
   }
 
-  stays-on : (one : Event) → GoodWorld world → (m : ServerId) → (world.masters m).deposed ≡ true →
+  stays-on : (one : Event) → GoodWorld world → {m : ServerId} → (world.masters m).deposed ≡ true →
       (step world one).masters m ≡ world.masters m
-  stays-on one good m is = led-by WasSo Stays stays-led world one good (λ k. refl) m is
+  stays-on one good {m} is = led-by WasSo Stays stays-led world one good (λ k. refl) m is
 
-deposed-from : (world : World) (more : List Event) (m : ServerId) → GoodWorld world → (world.masters m).deposed ≡ true →
+deposed-from : (world : World) (more : List Event) {m : ServerId} → GoodWorld world → (world.masters m).deposed ≡ true →
     (replay_from world more).masters m ≡ world.masters m
-deposed-from world [] m good is = refl
-deposed-from world (one ∷ more) m good is =
-    let same : (step world one).masters m ≡ world.masters m = stays-on world one good m is in
-    deposed-from (step world one) more m (good-step world one good) (ap (λ (master : Master). master.deposed) same ∙ is) ∙ same
+deposed-from world [] good is = refl
+deposed-from world (one ∷ more) {m} good is =
+    let same : (step world one).masters m ≡ world.masters m = stays-on world one good is in
+    deposed-from (step world one) more (good-step world one good) (ap (λ (master : Master). master.deposed) same ∙ is) ∙ same
 
 pub deposed-stay : DeposedStay
 deposed-stay setup events more m is =
     ap (λ (world : World). world.masters m) (replay_from-append (opening setup) events more) ∙
-    deposed-from (replay setup events) more m (good-world setup events) is
+    deposed-from (replay setup events) more (good-world setup events) is

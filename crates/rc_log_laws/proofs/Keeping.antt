@@ -31,16 +31,15 @@ Kept master after = Keeps master → KeepsAfter after
 -- Segments
 
 -- a segment is changed, but for its digest
-whole-put : (log : Log) (seg : ℕ) (segment : Segment) → segment.digest ≡ (log.segments seg).digest → WholeLog log →
+whole-put : (log : Log) {seg : ℕ} (segment : Segment) → segment.digest ≡ (log.segments seg).digest → WholeLog log →
     WholeLog (with_segment seg segment log)
-whole-put log seg segment same w s t upto above below =
-    subst (λ (digest : List ℕ). In t digest)
+whole-put log {seg} segment same w s t upto above below = subst (λ (digest : List ℕ). In t digest)
     (sym (put_each (λ k (one : Segment). one.digest ≡ (log.segments k).digest) log.segments seg segment same
     (λ k. refl) s)) (w s t upto above below)
 
 -- the number below, or the last
-last_or : (t n : ℕ) → t ≤ n + 1 → (t ≡ n + 1) ⊎ (t ≤ n)
-last_or t n p = grind arith
+last_or : {t n : ℕ} → t ≤ n + 1 → (t ≡ n + 1) ⊎ (t ≤ n)
+last_or p = grind arith
 
 -- a new head
 whole-opened : (log : Log) (digest : List ℕ) (ids : List ServerId) → WholeLog log →
@@ -48,14 +47,14 @@ whole-opened : (log : Log) (digest : List ℕ) (ids : List ServerId) → WholeLo
 whole-opened log digest ids w all s t upto above below =
     put-cases (λ k (one : Segment). k ≤ log.head + 1 → t ≤ k → In t one.digest) log.segments (log.head + 1)
     (new_segment (log.head + 1) digest ids)
-    (λ k_upto t_upto. all t above t_upto) (λ k differs k_upto t_upto. by k differs t_upto (last_or k log.head k_upto)) s upto below
+    (λ k_upto t_upto. all t above t_upto) (λ k differs k_upto t_upto. by k differs t_upto (last_or k_upto)) s upto below
   where
     by : (k : ℕ) → (log.head + 1 ≡ k → ⊥) → t ≤ k → (k ≡ log.head + 1) ⊎ (k ≤ log.head) → In t (log.segments k).digest
     by k differs t_upto (inl same) = absurd (differs (sym same))
     by k differs t_upto (inr less) = w k t less above t_upto
 
 whole-next : (log : Log) → WholeLog log → (t : ℕ) → 0 < t → t ≤ log.head + 1 → In t (next_digest log [])
-whole-next log w t above upto = by (last_or t log.head upto)
+whole-next log w t above upto = by (last_or upto)
   where
     by : (t ≡ log.head + 1) ⊎ (t ≤ log.head) → In t (next_digest log [])
     by (inl same) = In-right t (filter (λ seg. nat_eq seg log.head || not (list_any (nat_eq seg) []))
@@ -68,9 +67,9 @@ whole-next log w t above upto = by (last_or t log.head upto)
 none-dead : (master : Master) → master.free ≡ false → dead_segments master ≡ []
 none-dead master keeps = ap (λ (b : Bool). cond b (filter (is_dead_segment master) (head_of master.log).digest) []) keeps
 
-keeps-put : (master : Master) (seg : ℕ) (segment : Segment) → segment.digest ≡ (master.log.segments seg).digest →
+keeps-put : {master : Master} (seg : ℕ) (segment : Segment) → segment.digest ≡ (master.log.segments seg).digest →
     Keeps master → Keeps (with_log master (with_segment seg segment master.log))
-keeps-put master seg segment same k = record { free = k.free; whole = whole-put master.log seg segment same k.whole }
+keeps-put {master} seg segment same k = record { free = k.free; whole = whole-put master.log segment same k.whole }
 
 keeps-rolls : (master : Master) → Rolls Kept master
 keeps-rolls master ids writing room chosen k = record {
@@ -85,21 +84,21 @@ keeps-rolls master ids writing room chosen k = record {
 whole-freed : (segs : List ℕ) (log : Log) → WholeLog log → WholeLog (with_freed segs log)
 whole-freed [] log w = w
 whole-freed (seg ∷ segs) log w = whole-freed segs (with_segment seg (record (log.segments seg) { freed = true }) log)
-    (whole-put log seg (record (log.segments seg) { freed = true }) refl w)
+    (whole-put log (record (log.segments seg) { freed = true }) refl w)
 
 keeps-followed : Followed Kept
 keeps-followed = record {
-  marks = λ master is. keeps-put master (master.log.head - 1) (record (old_head_of master.log) { shut = true }) refl;
+  marks = λ master is. keeps-put (master.log.head - 1) (record (old_head_of master.log) { shut = true }) refl;
   starts = λ master may k. record { free = k.free; whole = k.whole };
   places = λ master may k. record { free = k.free; whole = k.whole };
-  closes = λ master due. keeps-put master (master.log.head - 1) (with_closes_sent (old_head_of master.log)) refl;
+  closes = λ master due. keeps-put (master.log.head - 1) (with_closes_sent (old_head_of master.log)) refl;
   shuts = λ master may k. record { free = k.free; whole = whole-freed (left_out master.log) _ k.whole };
-  commits = λ master seg open_one wants. keeps-put master seg (record (master.log.segments seg) { commit_sent = true }) refl;
+  commits = λ master seg open_one wants. keeps-put seg (record (master.log.segments seg) { commit_sent = true }) refl;
   counts = λ master more k. record { free = k.free; whole = k.whole };
   rolls = keeps-rolls;
   replays = λ master entry entries is writing room k. record {
     free = k.free;
-    whole = whole-put master.log master.log.head (with_entry entry false (head_of master.log)) refl k.whole;
+    whole = whole-put master.log (with_entry entry false (head_of master.log)) refl k.whole;
   };
   answers = λ master term is k. record { free = k.free; whole = k.whole };
 }
@@ -107,16 +106,16 @@ keeps-followed = record {
 -- Inputs
 
 whole-change : (seg : ℕ) (log : Log) (answer : Config × Result Bool Fault) → WholeLog log → WholeLog (opens_change seg log answer).0
-whole-change seg log (config, Ok true) w = whole-put log seg (under_new_epoch config (log.segments seg)) refl w
-whole-change seg log (config, Ok false) w = whole-put log seg (record (log.segments seg) { config = config }) refl w
-whole-change seg log (config, Err fault) w = whole-put log seg (record (log.segments seg) { config = config }) refl w
+whole-change seg log (config, Ok true) w = whole-put log (under_new_epoch config (log.segments seg)) refl w
+whole-change seg log (config, Ok false) w = whole-put log (record (log.segments seg) { config = config }) refl w
+whole-change seg log (config, Err fault) w = whole-put log (record (log.segments seg) { config = config }) refl w
 
 whole-loses : (servers : ServerList) (seg : ℕ) (log : Log) → WholeLog log → WholeLog (loses servers seg log).0
 whole-loses servers seg log w =
     either (λ (after : Log × Result (List ServerId) Fault). WholeLog after.0) (log.segments seg).shut
     (refills seg log (refill log.own servers (log.segments seg).config))
     (opens_change seg log (lose log.own servers (log.segments seg).config))
-    (λ _. whole-put log seg (record (log.segments seg) { config = (refill log.own servers (log.segments seg).config).0 }) refl w)
+    (λ _. whole-put log (record (log.segments seg) { config = (refill log.own servers (log.segments seg).config).0 }) refl w)
     (λ _. whole-change seg log (lose log.own servers (log.segments seg).config) w)
 
 keeps-listed : Listed Kept
@@ -131,24 +130,24 @@ keeps-listed = record {
     first : (t n : ℕ) → n ≡ 0 → 0 < t → t ≤ n + 1 → t ≡ 1
     first t n e above upto = omega arith
 
-keeps-config : (master : Master) (b : Bool) (seg : ℕ) (config : Config) → Keeps master →
+keeps-config : {master : Master} (b : Bool) (seg : ℕ) (config : Config) → Keeps master →
     Keeps (with_log master (cond b (with_config seg config master.log) master.log))
-keeps-config master b seg config k =
+keeps-config {master} b seg config k =
     either (λ (one : Log). Keeps (with_log master one)) b (with_config seg config master.log) master.log
-    (λ _. keeps-put master seg (record (master.log.segments seg) { config = config }) refl k)
+    (λ _. keeps-put seg (record (master.log.segments seg) { config = config }) refl k)
     (λ _. record { free = k.free; whole = k.whole })
 
-keeps-taken : (master : Master) (from : Addr) (body : Body) → Taken Kept master from body
-keeps-taken master from body = record {
+keeps-taken : {master : Master} {from : Addr} {body : Body} → Taken Kept master from body
+keeps-taken {master} = record {
   refuses = λ one fault k. k;
   rolls = keeps-rolls master;
-  writes = λ term table key value is owned writing room. keeps-put master master.log.head
+  writes = λ term table key value is owned writing room. keeps-put master.log.head
       (with_entry (written master term table key value) true (head_of master.log)) refl;
   reads = λ term table key is owned k. k;
   lists = λ version rows is newer k. record { free = k.free; whole = k.whole };
-  stores = λ teller seg epoch len closed is told. keeps-config master (has_segment master.log seg) seg
+  stores = λ teller seg epoch len closed is told. keeps-config (has_segment master.log seg) seg
       (noted teller epoch len closed (master.log.segments seg).config);
-  commits = λ seg epoch is. keeps-config master (has_segment master.log seg) seg (committed_at epoch (master.log.segments seg).config);
+  commits = λ seg epoch is. keeps-config (has_segment master.log seg) seg (committed_at epoch (master.log.segments seg).config);
   deposes = λ k. record { free = k.free; whole = k.whole };
   begins = λ one attempt crashed head rows parts part is at new k. record { free = k.free; whole = k.whole };
   comes = λ holder attempt seg term entries is says k. record { free = k.free; whole = k.whole };
@@ -160,9 +159,9 @@ keeps-taken master from body = record {
 keeps-joined : Joined Kept
 keeps-joined = record { still = λ master k. k; both = λ one two first after p q k. q (p k) }
 
-pub keeps-takes : (master : Master) (from : Addr) (body : Body) → Keeps master → KeepsAfter (master_takes master from body)
-keeps-takes master from body =
-    kept-takes Kept keeps-joined keeps-listed keeps-followed master from body (keeps-taken master from body)
+pub keeps-takes : {master : Master} (from : Addr) (body : Body) → Keeps master → KeepsAfter (master_takes master from body)
+keeps-takes {master} from body =
+    kept-takes Kept keeps-joined keeps-listed keeps-followed master from body (keeps-taken)
 
 pub keeps-ticks : (master : Master) → Keeps master → KeepsAfter (master_ticks master)
 keeps-ticks = kept-ticks Kept keeps-joined keeps-listed keeps-followed

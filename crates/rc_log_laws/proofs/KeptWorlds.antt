@@ -16,19 +16,19 @@ use Rattle.rc_log_laws.proofs.Keeping.{Keeps, keeps-takes, keeps-ticks}
 abbrev KeepsAll : (ServerId → Master) → Type 0
 KeepsAll masters = (m : ServerId) → Keeps (masters m)
 
-keeps-kept : (setup : Setup) → setup.free ≡ false → IsKeptByAll setup (λ sent m master. Keeps master)
-keeps-kept setup free = record {
+keeps-kept : {setup : Setup} → setup.free ≡ false → IsKeptByAll setup (λ sent m master. Keeps master)
+keeps-kept free = record {
   opened = λ m. record { free = free; whole = λ s t upto above below. absurd (omega arith) };
   led = record {
     same = λ sent m master k. k;
     others = λ sent messages m master k others. k;
-    takes = λ sent m master from body good k at. keeps-takes master from body k;
+    takes = λ sent m master from body good k at. keeps-takes from body k;
     ticks = λ sent m master good k. keeps-ticks master k;
   };
 }
 
 keeps-world : (setup : Setup) (events : List Event) → setup.free ≡ false → KeepsAll (replay setup events).masters
-keeps-world setup events free m = kept-replay setup (λ sent m master. Keeps master) (keeps-kept setup free) events m
+keeps-world setup events free m = kept-replay setup (λ sent m master. Keeps master) (keeps-kept free) events m
 
 -- Each safe place is held
 
@@ -38,16 +38,13 @@ safe-held : (world : World) → GoodWorld world → KeepsAll world.masters → (
 safe-held world good k m rows plan s o safe = by (cases_order plan.row.seg s)
   where
     upto : s ≤ plan.row.seg → IsHeld rows s o
-    upto less =
-        held-in world.sent world.masters world.hosts world.coordinator good m rows plan s o safe
+    upto less = held-in world.sent world.masters world.hosts world.coordinator good m rows plan s o safe
         (subst (λ (ns : List ℕ). In s ns) (sym plan.head_copy.digest_is)
         ((k m).whole plan.row.seg s plan.head_copy.opened.below safe.opened.above less))
 
     by : (plan.row.seg ≡ s) ⊎ ((plan.row.seg < s) ⊎ (s < plan.row.seg)) → IsHeld rows s o
     by (inl same) = upto (omega arith)
-    by (inr (inl below)) =
-        absurd (head-not-below world.sent world.masters world.hosts world.coordinator good m plan.head plan.row
-        plan.head_copy plan.unclosed plan.valid
+    by (inr (inl below)) = absurd (head-not-below good plan.head plan.head_copy plan.unclosed plan.valid
         (safe.below plan.row.seg plan.head_copy.opened.above below))
     by (inr (inr above)) = upto (omega arith)
 
@@ -57,16 +54,15 @@ pub safe-is-held : (setup : Setup) (events : List Event) → setup.free ≡ fals
     (s o : ℕ) → IsSafe (replay setup events).sent m ((replay setup events).masters m).log s o → IsHeld rows s o
 safe-is-held setup events free = safe-held (replay setup events) (good-world setup events) (keeps-world setup events free)
 
-plan-of : (world : World) → GoodWorld world → (plan : Accepted) → WasAccepted world.sent plan →
+plan-of : (world : World) → GoodWorld world → {plan : Accepted} → WasAccepted world.sent plan →
     PlanIs world.sent world.masters world.coordinator plan.master plan.rows
-plan-of world good plan accepted = accepted-is world.sent world.masters world.hosts world.coordinator good plan accepted
+plan-of world good accepted = accepted-is good accepted
 
 pub nothing-is-dropped : NothingIsDroppedWhereNothingIsFreed
 nothing-is-dropped setup events free plan accepted ack acked = record {
   held = safe-held (replay setup events) good (keeps-world setup events free) plan.master plan.rows
-      (plan-of (replay setup events) good plan accepted) ack.seg ack.offset write.safe;
-  only = (safe-there (replay setup events).sent (replay setup events).masters (replay setup events).hosts
-      (replay setup events).coordinator good plan accepted ack write).only;
+      (plan-of (replay setup events) good accepted) ack.seg ack.offset write.safe;
+  only = (safe-there good accepted write).only;
 }
   where
     good : GoodWorld (replay setup events)
@@ -74,12 +70,11 @@ nothing-is-dropped setup events free plan accepted ack acked = record {
 
     write : IsWriteOk (replay setup events).sent plan.master ((replay setup events).masters plan.master).log ack.seg
         ack.offset ack.term ack.table ack.key ack.version
-    write = acknowledged-is (replay setup events).sent (replay setup events).masters (replay setup events).hosts
-        (replay setup events).coordinator good plan.master ack acked
+    write = acknowledged-is good acked
 
 pub durable-is-held : DurableIsHeldWhereNothingIsFreed
 durable-is-held setup events free m s o durable plan accepted same =
     safe-held (replay setup events) (good-world setup events) (keeps-world setup events free) plan.master plan.rows
-    (plan-of (replay setup events) (good-world setup events) plan accepted) s o
+    (plan-of (replay setup events) (good-world setup events) accepted) s o
     (subst (λ (n : ServerId). IsSafe (replay setup events).sent n ((replay setup events).masters n).log s o) (sym same)
-    ((since-take setup events durable.moment m).safe s o (stored-is-safe setup (take durable.moment events) m s o durable.stored)))
+    ((since-take setup events durable.moment).safe s o (stored-is-safe setup (take durable.moment events) m s o durable.stored)))

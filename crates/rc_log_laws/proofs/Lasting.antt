@@ -33,10 +33,10 @@ pub record Onward (sent : List Message) (masters : ServerId → Master) (hosts :
       In (from_coordinator m (body.CommitOk s e)) sent ⊎ (is_up c.servers m ≡ true)
 
 -- what was told and stands, stands
-stands-later : (old new : Held) (s e len : ℕ) (closed : Bool) → HeldLater old new →
+stands-later : {old new : Held} {s e len : ℕ} {closed : Bool} → HeldLater old new →
     StillStands old s e len closed ⊎ (is_freed s old ≡ true) → StillStands new s e len closed ⊎ (is_freed s new ≡ true)
-stands-later old new s e len closed later (inr freed) = inr (later.freed s freed)
-stands-later old new s e len closed later (inl p) = by (later.replicas s p.replica p.kept)
+stands-later {s} later (inr freed) = inr (later.freed s freed)
+stands-later {new} {s} {e} {len} {closed} later (inl p) = by (later.replicas s p.replica p.kept)
   where
     by : StillStands new s p.replica.epoch (length p.replica.entries) p.replica.closed ⊎ (is_freed s new ≡ true) →
         StillStands new s e len closed ⊎ (is_freed s new ≡ true)
@@ -50,15 +50,15 @@ stands-later old new s e len closed later (inl p) = by (later.replicas s p.repli
     })
 
 -- an attempt is for its master, for good
-of-later : (c c_now : Coordinator) (number : ℕ) (m : ServerId) → CoordinatorLater c c_now → IsOf c.attempts number m →
+of-later : {c c_now : Coordinator} {number : ℕ} {m : ServerId} → CoordinatorLater c c_now → IsOf c.attempts number m →
     IsOf c_now.attempts number m
-of-later c c_now number m later p =
+of-later {c_now} {number} later p =
     let l : AttemptLater c_now.attempts number p.attempt = later.attempts number p.attempt p.numbered in
     record { attempt = l.now; numbered = l.numbered; master_is = l.master ∙ p.master_is }
 
-plan-later : (c c_now : Coordinator) (number : ℕ) (m : ServerId) (head : ℕ) (rows : List PlanRow) →
+plan-later : {c c_now : Coordinator} {number : ℕ} {m : ServerId} {head : ℕ} {rows : List PlanRow} →
     CoordinatorLater c c_now → IsPlan c number m head rows → IsPlan c_now number m head rows
-plan-later c c_now number m head rows later p = record {
+plan-later {c_now} {number} later p = record {
   attempt = l.now;
   numbered = l.numbered;
   master_is = l.master ∙ p.master_is;
@@ -82,12 +82,12 @@ module _ (sent : List Message) (masters : ServerId → Master) (hosts : ℕ → 
     (sent_now : List Message) (masters_now : ServerId → Master) (hosts_now : ℕ → HostNode) (c_now : Coordinator)
     (good : Good sent masters hosts c) (w : Onward sent masters hosts c sent_now masters_now hosts_now c_now) where
   -- copies of a host of which no more is told, up to this generation
-  pub lives : (m : ServerId) (index generation : ℕ) → NoneNewUpTo sent sent_now m index generation →
+  pub lives : {m : ServerId} {index generation : ℕ} → NoneNewUpTo sent sent_now m index generation →
       CopyLives sent sent_now m (masters m).log (masters_now m).log index generation
-  lives m index generation none = record {
+  lives {m} none = record {
     more = w.more;
     later = (w.grown m).later;
-    old_fine = own-fine sent masters hosts c good m;
+    old_fine = own-fine good;
     new_fine = w.own m;
     places = (w.grown m).places;
     one_a_host = (w.masters_are m).one_a_host;
@@ -114,16 +114,14 @@ module _ (sent : List Message) (masters : ServerId → Master) (hosts : ℕ → 
               subst (λ i. (held_at hosts i answer.master).fenced ≡ false) on (fresh.unfenced same_x) in
               true_false (sym (answer.fenced same_y) ∙ unfenced)
 
-  answer-later : (y : ServerId) (number : ℕ) (rows : List Row) → IsAnswer sent masters hosts c y number rows →
+  answer-later : {y : ServerId} {number : ℕ} {rows : List Row} → IsAnswer sent masters hosts c y number rows →
       IsAnswer sent_now masters_now hosts_now c_now y number rows
-  answer-later y number rows answer = record {
+  answer-later {y} {number} {rows} answer = record {
     master = answer.master;
-    attempt = of-later c c_now number answer.master w.c_later answer.attempt;
+    attempt = of-later w.c_later answer.attempt;
     since = omega (arith, answer.since, (w.hosts_later y.index).generation);
     fenced = λ same. fenced same;
-    rows_are = λ row at. copy-later sent sent_now answer.master (masters answer.master).log
-        (masters_now answer.master).log y.index y.generation row.seg row.epoch row.closed row.len row.digest
-        (lives answer.master y.index y.generation (silent y number rows answer)) (answer.rows_are row at);
+    rows_are = λ row at. copy-later (lives (silent y number rows answer)) (answer.rows_are row at);
   }
     where
       fenced : y.generation ≡ (hosts_now y.index).generation → (held_at hosts_now y.index answer.master).fenced ≡ true
@@ -148,8 +146,7 @@ module _ (sent : List Message) (masters : ServerId → Master) (hosts : ℕ → 
           let up : (hosts x.index).generation ≤ (hosts_now x.index).generation = (w.hosts_later x.index).generation in
           let stays : (hosts x.index).generation ≡ (hosts_now x.index).generation = omega (arith, stored.since, up, same) in
           let was : x.generation ≡ (hosts x.index).generation = omega (arith, stored.since, up, same) in
-          stands-later (held_at hosts x.index m) (held_at hosts_now x.index m) s e len closed
-          ((w.hosts_later x.index).held stays m) (stored.stands was)
+          stands-later ((w.hosts_later x.index).held stays m) (stored.stands was)
 
   -- each message, by what it says
   pub fine-later : (from to : Addr) (says : Body) → In (record { from = from; to = to; body = says }) sent →
@@ -160,16 +157,13 @@ module _ (sent : List Message) (masters : ServerId → Master) (hosts : ℕ → 
   fine-later (Server m) Outside (body.Place s e digest entries closed) at fine = absurd fine
   fine-later AtCoordinator to (body.Place s e digest entries closed) at fine = absurd fine
   fine-later Outside to (body.Place s e digest entries closed) at fine = absurd fine
-  fine-later (Server m) to (body.Append s offset entries) at fine =
-      append-grown sent sent_now m (masters m).log (masters_now m).log s offset entries (w.grown m) fine
+  fine-later (Server m) to (body.Append s offset entries) at fine = append-grown (w.grown m) fine
   fine-later AtCoordinator to (body.Append s offset entries) at fine = absurd fine
   fine-later Outside to (body.Append s offset entries) at fine = absurd fine
-  fine-later (Server m) to (body.Close s len) at fine =
-      close-grown sent sent_now m (masters m).log (masters_now m).log s len (w.grown m) fine
+  fine-later (Server m) to (body.Close s len) at fine = close-grown (w.grown m) fine
   fine-later AtCoordinator to (body.Close s len) at fine = absurd fine
   fine-later Outside to (body.Close s len) at fine = absurd fine
-  fine-later (Server m) to (body.WriteOk s o term table key version) at fine =
-      write_ok-grown sent sent_now m (masters m).log (masters_now m).log s o term table key version (w.grown m) fine
+  fine-later (Server m) to (body.WriteOk s o term table key version) at fine = write_ok-grown (w.grown m) fine
   fine-later AtCoordinator to (body.WriteOk s o term table key version) at fine = absurd fine
   fine-later Outside to (body.WriteOk s o term table key version) at fine = absurd fine
   fine-later (Server x) (Server m) (body.Stored s e len closed) at fine = stored-later x m s e len closed at fine
@@ -177,7 +171,7 @@ module _ (sent : List Message) (masters : ServerId → Master) (hosts : ℕ → 
   fine-later (Server x) Outside (body.Stored s e len closed) at fine = absurd fine
   fine-later AtCoordinator to (body.Stored s e len closed) at fine = absurd fine
   fine-later Outside to (body.Stored s e len closed) at fine = absurd fine
-  fine-later (Server y) to (body.Replicas number rows) at fine = answer-later y number rows fine
+  fine-later (Server y) to (body.Replicas number rows) at fine = answer-later fine
   fine-later AtCoordinator to (body.Replicas number rows) at fine = absurd fine
   fine-later Outside to (body.Replicas number rows) at fine = absurd fine
   fine-later AtCoordinator (Server m) (body.CommitOk s e) at fine =
@@ -186,22 +180,21 @@ module _ (sent : List Message) (masters : ServerId → Master) (hosts : ℕ → 
   fine-later AtCoordinator Outside (body.CommitOk s e) at fine = absurd fine
   fine-later (Server m) to (body.CommitOk s e) at fine = absurd fine
   fine-later Outside to (body.CommitOk s e) at fine = absurd fine
-  fine-later from to (body.Gather number master) at fine = of-later c c_now number master w.c_later fine
-  fine-later from to (body.Plan head number master rows parts) at fine = plan-later c c_now number master head rows w.c_later fine
+  fine-later from to (body.Gather number master) at fine = of-later w.c_later fine
+  fine-later from to (body.Plan head number master rows parts) at fine = plan-later w.c_later fine
   fine-later from to (body.List version rows) at fine = fine
   fine-later from to _ at fine = tt
 
   -- what a host keeps of a master, where it tells nothing new
-  pub held-later : (m : ServerId) (index generation : ℕ) (held : Held) → NoneNewUpTo sent sent_now m index generation →
+  pub held-later : {m : ServerId} {index generation : ℕ} {held : Held} → NoneNewUpTo sent sent_now m index generation →
       GoodHeld sent m (masters m).log index generation held →
       GoodHeld sent_now m (masters_now m).log index generation held
-  held-later m index generation held none p =
+  held-later {m} {index} {generation} none p =
       record { ascending = p.ascending; each = λ s replica at. each s replica (p.each s replica at) }
     where
       each : (s : ℕ) (replica : Replica) → GoodReplica sent m (masters m).log index generation s replica →
           GoodReplica sent_now m (masters_now m).log index generation s replica
       each s replica q = record {
-        begins = begins-trans replica.entries _ _ q.begins (grows-log sent_now m (masters m).log (masters_now m).log (w.grown m).later s);
-        copy = copy-later sent sent_now m (masters m).log (masters_now m).log index generation s replica.epoch
-            replica.closed (length replica.entries) replica.digest (lives m index generation none) q.copy;
+        begins = begins-trans replica.entries q.begins (grows-log (w.grown m).later s);
+        copy = copy-later (lives none) q.copy;
       }

@@ -41,11 +41,11 @@ module _ (c : Coordinator) (H : Addr → Body → Type 0) where
   told-same : (after : Coordinator × List Message) → Same after → Told after
   told-same after is m = inl (ap (λ (table : ServerId → Pair). table m) is)
 
-  told-commits : (id : ServerId) (pair : Pair) → H (Server id) (Commit pair.seg pair.epoch) → Told (
+  told-commits : {id : ServerId} {pair : Pair} → H (Server id) (Commit pair.seg pair.epoch) → Told (
     record c { least = put_id c.least id (greater_pair (c.least id) pair) },
     from_coordinator id (CommitOk pair.seg pair.epoch) ∷ [],
   )
-  told-commits id pair h m =
+  told-commits {id} {pair} h m =
       either (WasTold messages m) (same_id id m) (greater_pair (c.least id) pair) (c.least m)
       (λ is. subst (λ (k : ServerId). WasTold messages k (greater_pair (c.least id) pair)) (same_id-true id m is)
       (either (WasTold messages id) (is_below (c.least id) pair) pair (c.least id) (λ _. inr (h, inl refl)) (λ _. inl refl)))
@@ -63,7 +63,7 @@ module _ (c : Coordinator) (H : Addr → Body → Type 0) where
     done = λ new messages is. told-same (new, messages) is;
     begins = λ new messages master is crashed. told-same ((begins_attempt new master).0, messages ++ (begins_attempt new master).1) is;
     readies = λ id m. inl refl;
-    commits = λ id pair h is. told-commits id pair h;
+    commits = λ id pair h is. told-commits h;
     answers = λ from number rows attempt h is undecided m. inl refl;
     decides = λ master attempt plan id ids is undecided picked m. inl refl;
     grants = λ id number term part is has m. inl refl;
@@ -71,9 +71,9 @@ module _ (c : Coordinator) (H : Addr → Body → Type 0) where
     splits = λ table at tablet is holds inside unmarked room m. inl refl;
   }
 
-  pub told-step : (work : NodeWork) → ((message : Message) → work ≡ Deliver message → H message.from message.body) →
+  pub told-step : {work : NodeWork} → ((message : Message) → work ≡ Deliver message → H message.from message.body) →
       Told (coordinator_step c work)
-  told-step work h = walked-step c H Same Told (any-stays c H Told (λ messages m. inl refl)) told-moves work h
+  told-step {work} h = walked-step c H Same Told (any-stays c H Told (λ messages m. inl refl)) told-moves work h
 
 -- A world: each least pair is the first one, or was told
 
@@ -82,24 +82,21 @@ LeastTold world = (m : ServerId) → (world.coordinator.least m ≡ record { seg
     ⊎ In (from_coordinator m (CommitOk (world.coordinator.least m).seg (world.coordinator.least m).epoch)) world.sent
 
 -- more was sent, and the pair is the one before, or was told just now
-told-more : (sent messages : List Message) (m : ServerId) (old new : Pair) → (old ≡ record { seg = 0; epoch = 0 }) ⊎
+told-more : (sent messages : List Message) (m : ServerId) {old new : Pair} → (old ≡ record { seg = 0; epoch = 0 }) ⊎
     In (from_coordinator m (CommitOk old.seg old.epoch)) sent →
     (new ≡ old) ⊎ (Unit {0} × In (from_coordinator m (CommitOk new.seg new.epoch)) messages) →
     (new ≡ record { seg = 0; epoch = 0 }) ⊎ In (from_coordinator m (CommitOk new.seg new.epoch)) (sent ++ messages)
-told-more sent messages m old new was (inr (_, now)) = inr (In-right (from_coordinator m (CommitOk new.seg new.epoch)) sent messages now)
-told-more sent messages m old new (inl none) (inl same) = inl (same ∙ none)
-told-more sent messages m old new (inr there) (inl same) =
+told-more sent messages m {new} was (inr (_, now)) = inr (In-right (from_coordinator m (CommitOk new.seg new.epoch)) sent messages now)
+told-more sent messages m (inl none) (inl same) = inl (same ∙ none)
+told-more sent messages m {new} (inr there) (inl same) =
     inr (In-left (from_coordinator m (CommitOk new.seg new.epoch)) sent messages
     (subst (λ (pair : Pair). In (from_coordinator m (CommitOk pair.seg pair.epoch)) sent) (sym same) there))
 
 told-node : (world : World) (one : Event) (node : NodeName) (work : NodeWork) → LeastTold world → LeastTold (node_done world one node work)
 told-node world one TheCoordinator work p m =
-    told-more world.sent (coordinator_step world.coordinator work).1 m (world.coordinator.least m)
-    ((coordinator_step world.coordinator work).0.least m) (p m) (told-step world.coordinator (λ _ _. Unit {0}) work (λ _ _. tt) m)
-told-node world one TheOutside work p m =
-    told-more world.sent (outside_sends work) m (world.coordinator.least m) (world.coordinator.least m) (p m) (inl refl)
-told-node world one (TheHost i) work p m = told-more world.sent (host_step (world.hosts i) work).1 m
-    (world.coordinator.least m) (world.coordinator.least m) (p m) (inl refl)
+    told-more world.sent (coordinator_step world.coordinator work).1 m (p m) (told-step world.coordinator (λ _ _. Unit {0}) (λ _ _. tt) m)
+told-node world one TheOutside work p m = told-more world.sent (outside_sends work) m (p m) (inl refl)
+told-node world one (TheHost i) work p m = told-more world.sent (host_step (world.hosts i) work).1 m (p m) (inl refl)
 
 told-job : (world : World) (one : Event) (found : Option Job) → LeastTold world → LeastTold (job_done world one found)
 told-job world one None p = p
@@ -119,8 +116,8 @@ none-below : (pair : Pair) → is_below pair (record { seg = 0; epoch = 0 }) ≡
 none-below pair = grind (arith, nat_tests)
 
 -- of two pairs neither of which is below the other both are one
-neither-below : (a b : Pair) → is_below a b ≡ false → is_below b a ≡ false → a ≡ b
-neither-below a b p q = joined a b (segs a b p q) (epochs a b p q)
+neither-below : {a b : Pair} → is_below a b ≡ false → is_below b a ≡ false → a ≡ b
+neither-below {a} {b} p q = joined a b (segs a b p q) (epochs a b p q)
   where
     joined : (x y : Pair) → x.seg ≡ y.seg → x.epoch ≡ y.epoch → x ≡ y
     joined x y s e j = record { seg = s j; epoch = e j }
@@ -154,8 +151,7 @@ all-below : (sent : List Message) (m : ServerId) (bound : Pair) →
     ((message : Message) → In message sent → is_server m message.to ≡ true →
     is_below bound (pair_in message.body) ≡ false) → is_below bound (least_pair sent m) ≡ false
 all-below [] m bound each = none-below bound
-all-below (first ∷ sent) m bound each =
-    either (λ (pair : Pair). is_below bound pair ≡ false) (is_server m first.to)
+all-below (first ∷ sent) m bound each = either (λ (pair : Pair). is_below bound pair ≡ false) (is_server m first.to)
     (greater_pair (pair_in first.body) (least_pair sent m)) (least_pair sent m)
     (λ to. either (λ (pair : Pair). is_below bound pair ≡ false) (is_below (pair_in first.body) (least_pair sent m))
     (least_pair sent m) (pair_in first.body)
@@ -176,8 +172,7 @@ told-fine c (Server id) to s e m fine is = absurd fine
 told-fine c Outside to s e m fine is = absurd fine
 
 pub least-is-the-greatest-commit : LeastIsTheGreatestCommit
-least-is-the-greatest-commit setup events m =
-    neither-below ((replay setup events).coordinator.least m) (least_pair (replay setup events).sent m)
+least-is-the-greatest-commit setup events m = neither-below
     (all-below (replay setup events).sent m ((replay setup events).coordinator.least m) each)
     (by (told-from (opening setup) events (λ k. inl refl) m))
   where

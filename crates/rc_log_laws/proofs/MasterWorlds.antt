@@ -22,16 +22,16 @@ use Rattle.rc_model.proofs.Tests.{true_false, either}
 use Rattle.rc_model.proofs.Tables.{put_each, put_id-same}
 
 -- the test fails for ids that differ
-no-match : (a b : ServerId) → (a ≡ b → ⊥) → same_id a b ≡ false
-no-match a b differs = by (same_id a b) refl
+no-match : {a b : ServerId} → (a ≡ b → ⊥) → same_id a b ≡ false
+no-match {a} {b} differs = by (same_id a b) refl
   where
     by : (t : Bool) → same_id a b ≡ t → same_id a b ≡ false
     by true e = absurd (differs (same_id-true a b e))
     by false e = e
 
-pub put_id-other : {V : Type 0} (table : ServerId → V) (key other : ServerId) (value : V) → (key ≡ other → ⊥) →
+pub put_id-other : {V : Type 0} (table : ServerId → V) {key other : ServerId} (value : V) → (key ≡ other → ⊥) →
     put_id table key value other ≡ table other
-put_id-other table key other value differs = ap (λ b. cond b value (table other)) (no-match key other differs)
+put_id-other table {other} value differs = ap (λ b. cond b value (table other)) (no-match differs)
 
 -- what is at each id of a table after a put, where that of the others may ask that they differ
 pub put_id-cases : {V : Type 0} (P : ServerId → V → Type 0) (table : ServerId → V) (key : ServerId) (value : V) →
@@ -121,12 +121,11 @@ module _ (sent : List Message) (masters : ServerId → Master) (hosts : ℕ → 
   onward = record {
     more = more;
     grown = λ m. put_id-cases (λ k (new : Master). Grown sent (sent ++ messages) k (masters k).log new.log) masters z after grown_own
-        (λ k differs. unmoved-grown sent (sent ++ messages) k (masters k) (good.masters_are k) more (back k differs)) m;
+        (λ k differs. unmoved-grown (good.masters_are k) more (back k differs)) m;
     masters_are = λ m. put_id-cases (λ k (new : Master). GoodMaster (sent ++ messages) k new) masters z after moved.good
-        (λ k differs. unmoved-good sent (sent ++ messages) k (masters k) (good.masters_are k) more (back k differs)) m;
+        (λ k differs. unmoved-good (good.masters_are k) more (back k differs)) m;
     own = λ m. put_id-cases (λ k (new : Master). OwnFine (sent ++ messages) k new.log) masters z after moved.fine
-        (λ k differs. unmoved-own sent (sent ++ messages) k (masters k) (good.masters_are k)
-        (own-fine sent masters hosts c good k) more (back k differs)
+        (λ k differs. unmoved-own (good.masters_are k) (own-fine good) more (back k differs)
         (λ x s e len closed at. inl (told-back x k s e len closed at))) m;
     hosts_later = hosts_later;
     c_later = coordinator_later-refl c;
@@ -140,11 +139,9 @@ module _ (sent : List Message) (masters : ServerId → Master) (hosts : ℕ → 
     index = was.index;
     own = was.own;
     runs = λ master e. (let is : after ≡ master = cc in ap (put_id masters z after) server ∙ (put_id-same masters z after ∙ is));
-    unstarted = λ g above. put_id-other masters z (record { index = i; generation = g }) after
-        (λ same. not_now g above same) ∙ was.unstarted g above;
+    unstarted = λ g above. put_id-other masters after (λ same. not_now g above same) ∙ was.unstarted g above;
     held = λ m. held-later sent masters hosts c (sent ++ messages) (put_id masters z after)
-        (put hosts i (record (hosts i) { master = Some after })) c good onward m i (hosts i).generation
-        ((hosts i).backup.held m)
+        (put hosts i (record (hosts i) { master = Some after })) c good onward
         (λ x s e len closed on at. inl (told-back x m s e len closed at)) (was.held m);
   }
     where
@@ -159,34 +156,27 @@ module _ (sent : List Message) (masters : ServerId → Master) (hosts : ℕ → 
 
   -- another host
   other : (j : ℕ) → (i ≡ j → ⊥) → GoodHost (sent ++ messages) (put_id masters z after) j (hosts j)
-  other j differs =
-      host-still sent masters hosts c (sent ++ messages) (put_id masters z after)
-      (put hosts i (record (hosts i) { master = Some after })) c good onward j
-      (λ g. put_id-other masters z (record { index = j; generation = g }) after
+  other j differs = host-still good onward (λ g. put_id-other masters after
       (λ same. differs (ap (λ (id : ServerId). id.index) (sym z_is ∙ same))))
       (λ m x s e len closed on at. told-back x m s e len closed at)
 
   pub good-master : Led sent masters hosts c (sent ++ messages) (put_id masters z after)
       (put hosts i (record (hosts i) { master = Some after })) c
-  good-master =
-      good-onward sent masters hosts c (sent ++ messages) (put_id masters z after)
-      (put hosts i (record (hosts i) { master = Some after })) c good onward
+  good-master = good-onward good onward
       (λ j. put-cases (λ k host. GoodHost (sent ++ messages) (put_id masters z after) k host) hosts i
       (record (hosts i) { master = Some after }) mine other j)
       (record {
-        attempts = λ number attempt numbered. attempt-kept sent messages c c number attempt (kept-refl c)
+        attempts = λ number attempt numbered. attempt-kept messages (kept-refl)
             (good.coordinator.attempts number attempt numbered);
         servers = good.coordinator.servers;
         current_numbered = good.coordinator.current_numbered;
         current_master = good.coordinator.current_master;
-      })
-      (λ message at. by message (In-append message sent messages at))
+      }) (λ message at. by message (In-append message sent messages at))
     where
       fine : (message : Message) → MasterSays sent (sent ++ messages) z (masters z).log after.log message →
           Fine (sent ++ messages) (put_id masters z after) (put hosts i (record (hosts i) { master = Some after })) c
           message
-      fine message said =
-          subst (λ (from : Addr). body_fine (sent ++ messages) (put_id masters z after)
+      fine message said = subst (λ (from : Addr). body_fine (sent ++ messages) (put_id masters z after)
           (put hosts i (record (hosts i) { master = Some after })) c from message.to message.body) (sym said.from)
           (said-fine sent (sent ++ messages) z (masters z).log (put_id masters z after)
           (put hosts i (record (hosts i) { master = Some after })) c message.to message.body

@@ -44,9 +44,9 @@ to-coordinator-is AtCoordinator e = refl
 to-coordinator-is Outside e = cc
 
 -- what the coordinator takes was sent to it
-pub taken-at : (sent : List Message) (work : NodeWork) → IsGiven sent TheCoordinator work → (message : Message) → work ≡ Deliver message →
+pub taken-at : (sent : List Message) {work : NodeWork} → IsGiven sent TheCoordinator work → (message : Message) → work ≡ Deliver message →
     In (record { from = message.from; to = AtCoordinator; body = message.body }) sent
-taken-at sent work given message is =
+taken-at sent given message is =
     let taken : IsGiven sent TheCoordinator (Deliver message) = subst (IsGiven sent TheCoordinator) is given in
     subst (λ (to : Addr). In (record { from = message.from; to = to; body = message.body }) sent)
     (to-coordinator-is message.to taken.1) taken.0
@@ -54,10 +54,9 @@ taken-at sent work given message is =
 -- so it moves
 pub coordinator-moved : (world : World) (work : NodeWork) → GoodWorld world → IsGiven world.sent TheCoordinator work →
     CoordinatorMoved world.sent world.coordinator (coordinator_step world.coordinator work)
-coordinator-moved world work good given =
-    moved-step world.sent world.coordinator good.coordinator work
+coordinator-moved world work good given = moved-step world.sent world.coordinator good.coordinator
     (λ message is. may-hear world.sent world.masters world.hosts world.coordinator good message.from message.body
-    (taken-at world.sent work given message is))
+    (taken-at world.sent given message is))
 
 -- Steps of a host
 
@@ -90,8 +89,8 @@ pub record HostSays (world : World) (i : ℕ) (P : List Message → Type 0) : Ty
       MasterMoved world.sent (server_of (world.hosts i)) master after → P after.1
   pub starts : P (to_coordinator (next_server (world.hosts i)) body.Enlist ∷ [])
 
-host-says : (world : World) (i : ℕ) (P : List Message → Type 0) → HostSays world i P → HostWalked world i (λ after. P after.1)
-host-says world i P says = record {
+host-says : {world : World} {i : ℕ} (P : List Message → Type 0) → HostSays world i P → HostWalked world i (λ after. P after.1)
+host-says {world} {i} P says = record {
   still = says.none;
   backs = λ master e from heard at moved. says.backs (backup_takes (world.hosts i).backup from heard) moved;
   takes = λ master e from heard at moved. says.moves master (master_takes master from heard) moved;
@@ -102,14 +101,13 @@ host-says world i P says = record {
 
 module _ (world : World) (one : Event) (i : ℕ) (good : GoodWorld world) where
   -- the master of a host, with what is known of it
-  pub is-good : (master : Master) → (world.hosts i).master ≡ Some master → GoodMaster world.sent (server_of (world.hosts i)) master
-  is-good master e = subst (GoodMaster world.sent (server_of (world.hosts i))) ((good.hosts_are i).runs master e)
+  pub is-good : {master : Master} → (world.hosts i).master ≡ Some master → GoodMaster world.sent (server_of (world.hosts i)) master
+  is-good {master} e = subst (GoodMaster world.sent (server_of (world.hosts i))) ((good.hosts_are i).runs master e)
       (good.masters_are (server_of (world.hosts i)))
 
-  pub is-fine : (master : Master) → (world.hosts i).master ≡ Some master → OwnFine world.sent (server_of (world.hosts i)) master.log
-  is-fine master e = subst (λ (one : Master). OwnFine world.sent (server_of (world.hosts i)) one.log)
-      ((good.hosts_are i).runs master e) (own-fine world.sent world.masters world.hosts world.coordinator good
-      (server_of (world.hosts i)))
+  pub is-fine : {master : Master} → (world.hosts i).master ≡ Some master → OwnFine world.sent (server_of (world.hosts i)) master.log
+  is-fine {master} e = subst (λ (one : Master). OwnFine world.sent (server_of (world.hosts i)) one.log)
+      ((good.hosts_are i).runs master e) (own-fine good)
 
   -- what a master hears was sent to it
   pub hears : (from : Addr) (says : Body) →
@@ -134,10 +132,10 @@ module _ (world : World) (one : Event) (i : ℕ) (good : GoodWorld world) where
   hears from _ at = tt
 
   -- the test of an address
-  pub is_server-true : (id : ServerId) (to : Addr) → is_server id to ≡ true → to ≡ Server id
-  is_server-true id (Server other) e = ap Server (sym (same_id-true id other e))
-  is_server-true id AtCoordinator e = true_false (sym e)
-  is_server-true id Outside e = true_false (sym e)
+  pub is_server-true : {id : ServerId} (to : Addr) → is_server id to ≡ true → to ≡ Server id
+  is_server-true {id} (Server other) e = ap Server (sym (same_id-true id other e))
+  is_server-true AtCoordinator e = true_false (sym e)
+  is_server-true Outside e = true_false (sym e)
 
   module _ (D : HostNode × List Message → Type 0) (w : HostWalked world i D) where
     walked-server : (master : Master) → (world.hosts i).master ≡ Some master → (message : Message) →
@@ -154,24 +152,22 @@ module _ (world : World) (one : Event) (i : ℕ) (good : GoodWorld world) where
         (ap now (good.hosts_are i).index ∙ put-same world.hosts i (record (world.hosts i)
         { backup = (backup_takes (world.hosts i).backup message.from message.body).0 }))))
         (λ _. w.takes master e message.from message.body at
-        (master_takes_keeps world.sent (server_of (world.hosts i)) master message.from message.body (is-good master e)
-        (is-fine master e) (hears message.from message.body at)))
+        (master_takes_keeps world.sent (server_of (world.hosts i)) master message.from message.body (is-good e)
+        (is-fine e) (hears message.from message.body at)))
 
     walked-delivery : (found : Option Master) → (world.hosts i).master ≡ found → (message : Message) → In message world.sent →
         D (takes_if_running (world.hosts i) found message)
     walked-delivery None e message at = w.still
     walked-delivery (Some master) e message at =
         either D (is_server (server_of (world.hosts i)) message.to) (server_takes (world.hosts i) master message)
-        (world.hosts i, [])
-        (λ is. walked-server master e message
+        (world.hosts i, []) (λ is. walked-server master e message
         (subst (λ (to : Addr). In (record { from = message.from; to = to; body = message.body }) world.sent)
-        (is_server-true (server_of (world.hosts i)) message.to is) at))
-        (λ _. w.still)
+        (is_server-true message.to is) at)) (λ _. w.still)
 
     walked-timer : (found : Option Master) → (world.hosts i).master ≡ found → D (ticks_if_running (world.hosts i) found)
     walked-timer None e = w.still
     walked-timer (Some master) e = w.ticks master e
-        (master_ticks_keeps world.sent (server_of (world.hosts i)) master (is-good master e) (is-fine master e))
+        (master_ticks_keeps world.sent (server_of (world.hosts i)) master (is-good e) (is-fine e))
 
     pub walked-host : (work : NodeWork) → IsGiven world.sent (TheHost i) work → D (host_step (world.hosts i) work)
     walked-host (Deliver message) given = walked-delivery (world.hosts i).master refl message given.0
@@ -182,4 +178,4 @@ module _ (world : World) (one : Event) (i : ℕ) (good : GoodWorld world) where
 
   pub said-host : (P : List Message → Type 0) → HostSays world i P → (work : NodeWork) → IsGiven world.sent (TheHost i) work →
       P (host_step (world.hosts i) work).1
-  said-host P says work given = walked-host (λ after. P after.1) (host-says world i P says) work given
+  said-host P says work given = walked-host (λ after. P after.1) (host-says P says) work given

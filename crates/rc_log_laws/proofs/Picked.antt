@@ -17,8 +17,7 @@ use Rattle.rc_model.proofs.Tests.{either}
 fold_better-in : (before : HeldRow → HeldRow → Bool) (best : HeldRow) (rows : List HeldRow) →
     In (fold (better before) best rows) (best ∷ rows)
 fold_better-in before best [] = inl refl
-fold_better-in before best (row ∷ rows) =
-    either (λ next. (next ≡ best) ⊎ (next ≡ row) →
+fold_better-in before best (row ∷ rows) = either (λ next. (next ≡ best) ⊎ (next ≡ row) →
     In (fold (better before) next rows) (best ∷ row ∷ rows)) (before row best) row best
     (λ _ which. by row which (fold_better-in before row rows)) (λ _ which. by best which (fold_better-in before best rows)) which
   where
@@ -31,9 +30,9 @@ fold_better-in before best (row ∷ rows) =
     which : (cond (before row best) row best ≡ best) ⊎ (cond (before row best) row best ≡ row)
     which = either (λ next. (next ≡ best) ⊎ (next ≡ row)) (before row best) row best (λ _. inr refl) (λ _. inl refl)
 
-first_by-in : (before : HeldRow → HeldRow → Bool) (rows : List HeldRow) (row : HeldRow) → first_by before rows ≡ Some row → In row rows
-first_by-in before [] row e = cc
-first_by-in before (best ∷ rows) row e =
+first_by-in : (before : HeldRow → HeldRow → Bool) (rows : List HeldRow) {row : HeldRow} → first_by before rows ≡ Some row → In row rows
+first_by-in before [] e = cc
+first_by-in before (best ∷ rows) {row} e =
     let same : fold (better before) best rows ≡ row = cc in subst (λ one. In one (best ∷ rows)) same (fold_better-in before best rows)
 
 -- A held row is one of an answer
@@ -79,32 +78,32 @@ pub record IsHead (min : Pair) (replies : List (ServerId × List Row)) (head : H
   pub unclosed : head.row.closed ≡ false
   pub valid : is_valid min head.row ≡ true
 
-head-is : (min : Pair) (replies : List (ServerId × List Row)) (head : HeldRow) → head_row min replies ≡ Some head → IsHead min replies head
-head-is min replies head e =
+head-is : {min : Pair} {replies : List (ServerId × List Row)} {head : HeldRow} → head_row min replies ≡ Some head → IsHead min replies head
+head-is {min} {replies} {head} e =
     let at : In head (filter (is_open_valid min) (held_rows replies)) =
-    first_by-in head_first (filter (is_open_valid min) (held_rows replies)) head e in
+    first_by-in head_first (filter (is_open_valid min) (held_rows replies)) e in
     let both : In head (held_rows replies) × (is_open_valid min head ≡ true) = In-filter (is_open_valid min) head (held_rows replies) at in
     let parts : (not head.row.closed ≡ true) × (is_valid min head.row ≡ true) =
     and_parts (not head.row.closed) (is_valid min head.row) both.1 in
     record { answered = held_rows-in replies head both.0; unclosed = not-true head.row.closed parts.0; valid = parts.1 }
 
-row_of-is : (min : Pair) (replies : List (ServerId × List Row)) (seg : ℕ) (held : HeldRow) → row_of min replies seg ≡ Some held →
+row_of-is : {min : Pair} {replies : List (ServerId × List Row)} {seg : ℕ} {held : HeldRow} → row_of min replies seg ≡ Some held →
     IsTaken min replies (plan_row held) × (held.row.seg ≡ seg)
-row_of-is min replies seg held e =
+row_of-is {min} {replies} {seg} {held} e =
     let at : In held (filter (is_valid_of min seg) (held_rows replies)) =
-    first_by-in closed_first (filter (is_valid_of min seg) (held_rows replies)) held e in
+    first_by-in closed_first (filter (is_valid_of min seg) (held_rows replies)) e in
     let both : In held (held_rows replies) × (is_valid_of min seg held ≡ true) =
     In-filter (is_valid_of min seg) held (held_rows replies) at in
     let parts : (nat_eq held.row.seg seg ≡ true) × (is_valid min held.row ≡ true) =
     and_parts (nat_eq held.row.seg seg) (is_valid min held.row) both.1 in
     (record { held = held; answered = held_rows-in replies held both.0; valid = parts.1; row_is = refl }, eqb-true held.row.seg seg parts.0)
 
-taken_row-is : (min : Pair) (replies : List (ServerId × List Row)) (head : HeldRow) → IsHead min replies head → (seg : ℕ) (held : HeldRow) →
+taken_row-is : {min : Pair} {replies : List (ServerId × List Row)} {head : HeldRow} → IsHead min replies head → {seg : ℕ} {held : HeldRow} →
     taken_row min replies head seg ≡ Some held → IsTaken min replies (plan_row held) × (held.row.seg ≡ seg)
-taken_row-is min replies head is_head seg held e =
+taken_row-is {min} {replies} {head} is_head {seg} {held} e =
     either (λ found. found ≡ Some held → IsTaken min replies (plan_row held) × (held.row.seg ≡ seg))
     (nat_eq seg head.row.seg) (Some head) (row_of min replies seg)
-    (λ same it. of_head (eqb-true seg head.row.seg same) it) (λ _ it. row_of-is min replies seg held it) e
+    (λ same it. of_head (eqb-true seg head.row.seg same) it) (λ _ it. row_of-is it) e
   where
     of_head : seg ≡ head.row.seg → Some head ≡ Some held → IsTaken min replies (plan_row held) × (held.row.seg ≡ seg)
     of_head same it =
@@ -118,27 +117,27 @@ pub record AreAllTaken (min : Pair) (replies : List (ServerId × List Row)) (seg
   pub within : (row : PlanRow) → In row rows → In row.seg segs
   pub all : (seg : ℕ) → In seg segs → (row : PlanRow) × (In row rows) × (row.seg ≡ seg)
 
-taken_rows-are : (min : Pair) (replies : List (ServerId × List Row)) (head : HeldRow) → IsHead min replies head →
+taken_rows-are : {min : Pair} {replies : List (ServerId × List Row)} {head : HeldRow} → IsHead min replies head →
     (segs : List ℕ) (rows : List PlanRow) →
     taken_rows min replies head segs ≡ Ok rows → AreAllTaken min replies segs rows
-taken_rows-are min replies head is_head [] rows e =
+taken_rows-are is_head [] rows e =
     let none : [] ≡ rows = cc in
     record {
       each = λ row at. absurd (subst (λ (rs : List PlanRow). In row rs) (sym none) at);
       within = λ row at. absurd (subst (λ (rs : List PlanRow). In row rs) (sym none) at);
       all = λ seg at. absurd at;
     }
-taken_rows-are min replies head is_head (seg ∷ segs) rows e =
-    by (taken_row min replies head seg) (taken_rows min replies head segs) refl (taken_rows-are min replies head is_head segs) e
+taken_rows-are {min} {replies} {head} is_head (seg ∷ segs) rows e =
+    by (taken_row min replies head seg) (taken_rows min replies head segs) refl (taken_rows-are is_head segs) e
   where
     done : (held : HeldRow) → taken_row min replies head seg ≡ Some held → (others : List PlanRow) → AreAllTaken min replies segs others →
         AreAllTaken min replies (seg ∷ segs) (plan_row held ∷ others)
     done held here others rest =
-        let one : IsTaken min replies (plan_row held) × (held.row.seg ≡ seg) = taken_row-is min replies head is_head seg held here in
+        let one : IsTaken min replies (plan_row held) × (held.row.seg ≡ seg) = taken_row-is is_head here in
         record { each = each; within = within; all = all }
       where
         one : IsTaken min replies (plan_row held) × (held.row.seg ≡ seg)
-        one = taken_row-is min replies head is_head seg held here
+        one = taken_row-is is_head here
 
         each : (row : PlanRow) → In row (plan_row held ∷ others) → IsTaken min replies row
         each row (inl same) = subst (IsTaken min replies) (sym same) one.0
@@ -170,8 +169,8 @@ pub record IsPicked (min : Pair) (replies : List (ServerId × List Row)) (plan :
   pub within : (row : PlanRow) → In row plan.rows → In row.seg head.row.digest
   pub all : (seg : ℕ) → In seg head.row.digest → (row : PlanRow) × (In row plan.rows) × (row.seg ≡ seg)
 
-pub picked-is : (min : Pair) (replies : List (ServerId × List Row)) (plan : Plan) → pick min replies ≡ Ok plan → IsPicked min replies plan
-picked-is min replies plan e = by (head_row min replies) refl e
+pub picked-is : {min : Pair} {replies : List (ServerId × List Row)} {plan : Plan} → pick min replies ≡ Ok plan → IsPicked min replies plan
+picked-is {min} {replies} {plan} e = by (head_row min replies) refl e
   where
     with_rows : (head : HeldRow) → head_row min replies ≡ Some head → (found : Result (List PlanRow) Fault) →
         taken_rows min replies head (ascending head.row.digest) ≡ found → plan_of head.row.seg found ≡ Ok plan → IsPicked min replies plan
@@ -179,13 +178,13 @@ picked-is min replies plan e = by (head_row min replies) refl e
         let same : record { head = head.row.seg; rows = rows } ≡ plan = cc in
         let rows_are : rows ≡ plan.rows = ap (λ (one : Plan). one.rows) same in
         let are : AreAllTaken min replies (ascending head.row.digest) rows =
-        taken_rows-are min replies head (head-is min replies head here) (ascending head.row.digest) rows taken in
+        taken_rows-are (head-is here) (ascending head.row.digest) rows taken in
         let are_now : AreAllTaken min replies (ascending head.row.digest) plan.rows =
         subst (AreAllTaken min replies (ascending head.row.digest)) rows_are are in
         record {
           head = head;
           head_is = sym (ap (λ (one : Plan). one.head) same);
-          is_head = head-is min replies head here;
+          is_head = head-is here;
           each = are_now.each;
           within = λ row at. In-from_ascending row.seg head.row.digest (are_now.within row at);
           all = λ seg at. are_now.all seg (In-ascending seg head.row.digest at);

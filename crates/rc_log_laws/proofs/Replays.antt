@@ -43,13 +43,13 @@ GoodStep world after = Led world.sent world.masters world.hosts world.coordinato
 -- The outside
 
 -- what a client asks places nothing and tells nothing, and nothing is claimed of it
-good-asked : (sent : List Message) (masters : ServerId → Master) (hosts : ℕ → HostNode) (c : Coordinator)
+good-asked : {sent : List Message} {masters : ServerId → Master} {hosts : ℕ → HostNode} {c : Coordinator}
     (to : ServerId) (asked : Body) → Good sent masters hosts c → is_for_clients asked ≡ true →
     Led sent masters hosts c (sent ++ record { from = Outside; to = Server to; body = asked } ∷ []) masters hosts c
-good-asked sent masters hosts c to asked good clients =
+good-asked {sent} {masters} {hosts} {c} to asked good clients =
     good-quiet sent (record { from = Outside; to = Server to; body = asked } ∷ []) masters hosts c c good quiet
     (coordinator_later-refl c) no_grant
-    (coordinator-still sent (record { from = Outside; to = Server to; body = asked } ∷ []) c good.coordinator)
+    (coordinator-still (record { from = Outside; to = Server to; body = asked } ∷ []) good.coordinator)
     (λ message at. fine message at)
   where
     no_grant : GrantsUp c (record { from = Outside; to = Server to; body = asked } ∷ [])
@@ -92,98 +92,83 @@ good-asked sent masters hosts c to asked good clients =
     fine message (inr never) = absurd never
 
 -- nothing is sent
-good-none : (sent : List Message) (masters : ServerId → Master) (hosts : ℕ → HostNode) (c : Coordinator) →
+good-none : {sent : List Message} {masters : ServerId → Master} {hosts : ℕ → HostNode} {c : Coordinator} →
     Good sent masters hosts c → Led sent masters hosts c (sent ++ []) masters hosts c
-good-none sent masters hosts c good = good-quiet sent [] masters hosts c c good quiet-none (coordinator_later-refl c)
-    (λ m s e at. absurd at) (coordinator-still sent [] c good.coordinator) (λ message at. absurd at)
+good-none {sent} {masters} {hosts} {c} good = good-quiet sent [] masters hosts c c good quiet-none (coordinator_later-refl c)
+    (λ m s e at. absurd at) (coordinator-still [] good.coordinator) (λ message at. absurd at)
 
 good-outside : (world : World) (one : Event) (work : NodeWork) → GoodWorld world → outside_can work ≡ true →
     GoodStep world (node_done world one TheOutside work)
-good-outside world one (Ask to asked) good can = good-asked world.sent world.masters world.hosts world.coordinator to
-    asked good (and_parts (is_for_clients asked) _ can).0
-good-outside world one (Deliver message) good can = good-none world.sent world.masters world.hosts world.coordinator good
+good-outside world one (Ask to asked) good can = good-asked to asked good (and_parts (is_for_clients asked) _ can).0
+good-outside world one (Deliver message) good can = good-none good
 good-outside world one _ good can = true_false (sym can)
 
 -- The coordinator
 
 good-coordinator-node : (world : World) (one : Event) (work : NodeWork) → GoodWorld world →
     IsGiven world.sent TheCoordinator work → GoodStep world (node_done world one TheCoordinator work)
-good-coordinator-node world one work good given =
-    good-coordinator world.sent world.masters world.hosts world.coordinator (coordinator_step world.coordinator work) good
+good-coordinator-node world one work good given = good-coordinator good
     (coordinator-moved world work good given) (grants-step world.coordinator work)
 
 -- Hosts
 
 -- the same world, said otherwise
-good-same : (world : World) (sent : List Message) (masters masters_now : ServerId → Master) (hosts hosts_now : ℕ →
-    HostNode) (c : Coordinator) → masters_now ≡ masters → hosts_now ≡ hosts →
+good-same : (world : World) {sent : List Message} {masters masters_now : ServerId → Master} {hosts hosts_now : ℕ →
+    HostNode} {c : Coordinator} → masters_now ≡ masters → hosts_now ≡ hosts →
     Led world.sent world.masters world.hosts world.coordinator sent masters hosts c →
     Led world.sent world.masters world.hosts world.coordinator sent masters_now hosts_now c
-good-same world sent masters masters_now hosts hosts_now c same_masters same_hosts led =
+good-same world {sent} {masters} {hosts} {hosts_now} {c} same_masters same_hosts led =
     subst (λ (ms : ServerId → Master). Led world.sent world.masters world.hosts world.coordinator sent ms hosts_now c) (sym same_masters)
     (subst (λ (hs : ℕ → HostNode). Led world.sent world.masters world.hosts world.coordinator sent masters hs c) (sym same_hosts) led)
 
-put-found : (hosts : ℕ → HostNode) (i : ℕ) → put hosts i (hosts i) ≡ hosts
-put-found hosts i = fun_ext (λ j. either (λ (host : HostNode). host ≡ hosts j) (nat_eq i j) (hosts i) (hosts j)
+put-found : {hosts : ℕ → HostNode} (i : ℕ) → put hosts i (hosts i) ≡ hosts
+put-found {hosts} i = fun_ext (λ j. either (λ (host : HostNode). host ≡ hosts j) (nat_eq i j) (hosts i) (hosts j)
     (λ e. ap hosts (eqb-true i j e)) (λ _. refl))
 
-pub put_id-found : (masters : ServerId → Master) (key : ServerId) (master : Master) → masters key ≡ master →
+pub put_id-found : {masters : ServerId → Master} (key : ServerId) {master : Master} → masters key ≡ master →
     put_id masters key master ≡ masters
-put_id-found masters key master is =
+put_id-found {masters} key {master} is =
     fun_ext (λ other. either (λ (one : Master). one ≡ masters other) (same_id key other) master (masters other)
     (λ e. sym is ∙ ap masters (same_id-true key other e)) (λ _. refl))
 
 -- the last view of a running master is the one that the world keeps
-last-view : (sent : List Message) (masters : ServerId → Master) (hosts : ℕ → HostNode) (c : Coordinator) →
-    Good sent masters hosts c → (i : ℕ) (found : Option Master) → (hosts i).master ≡ found →
+last-view : {sent : List Message} {masters : ServerId → Master} {hosts : ℕ → HostNode} {c : Coordinator} →
+    Good sent masters hosts c → {i : ℕ} (found : Option Master) → (hosts i).master ≡ found →
     with_last_view masters found ≡ masters
-last-view sent masters hosts c good i None e = refl
-last-view sent masters hosts c good i (Some master) e =
+last-view good None e = refl
+last-view {masters} {hosts} good {i} (Some master) e =
     let is : masters (server_of (hosts i)) ≡ master = (good.hosts_are i).runs master e in
     let own : master.log.own ≡ server_of (hosts i) =
     ap (λ (one : Master). one.log.own) (sym is) ∙ (good.masters_are (server_of (hosts i))).own in
-    put_id-found masters master.log.own master (ap masters own ∙ is)
+    put_id-found master.log.own (ap masters own ∙ is)
 
 module _ (world : World) (one : Event) (i : ℕ) (good : GoodWorld world) where
   -- nothing happens
   good-still : GoodStep world (host_done world one i (world.hosts i, []))
-  good-still =
-      good-same world (world.sent ++ []) world.masters (with_last_view world.masters (world.hosts i).master) world.hosts
-      (put world.hosts i (world.hosts i)) world.coordinator
-      (last-view world.sent world.masters world.hosts world.coordinator good i (world.hosts i).master refl) (put-found world.hosts i)
-      (good-none world.sent world.masters world.hosts world.coordinator good)
+  good-still = good-same world (last-view good (world.hosts i).master refl) (put-found i) (good-none good)
 
   -- the master moves
-  good-moved : (master : Master) → (world.hosts i).master ≡ Some master → (after : Master × List Message) →
+  good-moved : {master : Master} → (world.hosts i).master ≡ Some master → {after : Master × List Message} →
       MasterMoved world.sent (server_of (world.hosts i)) master after →
       GoodStep world (host_done world one i (with_master (world.hosts i) after))
-  good-moved master e after moved =
-      good-same world (world.sent ++ after.1) (put_id world.masters (server_of (world.hosts i)) after.0)
-      (put_id world.masters after.0.log.own after.0)
-      (put world.hosts i (record (world.hosts i) { master = Some after.0 }))
-      (put world.hosts i (record (world.hosts i) { master = Some after.0 })) world.coordinator
+  good-moved {master} e {after} moved = good-same world
       (ap (λ (key : ServerId). put_id world.masters key after.0) moved.good.own) refl
       (good-master world.sent world.masters world.hosts world.coordinator good i (server_of (world.hosts i))
-      (server-is world.sent world.masters i (world.hosts i) (good.hosts_are i)) after.0 after.1
+      (server-is (good.hosts_are i)) after.0 after.1
       (subst (λ (old : Master). MasterMoved world.sent (server_of (world.hosts i)) old after)
       (sym ((good.hosts_are i).runs master e)) moved))
 
   -- its backup moves
-  good-backs : (after : Backup × List Message) →
+  good-backs : {after : Backup × List Message} →
       BackupMoved world.sent world.masters (put world.hosts i (record (world.hosts i) { backup = after.0 }))
       world.coordinator (world.hosts i) after →
       GoodStep world (host_done world one i (with_backup (world.hosts i) after))
-  good-backs after moved =
-      good-same world (world.sent ++ after.1) world.masters (with_last_view world.masters (world.hosts i).master)
-      (put world.hosts i (record (world.hosts i) { backup = after.0 }))
-      (put world.hosts i (record (world.hosts i) { backup = after.0 })) world.coordinator
-      (last-view world.sent world.masters world.hosts world.coordinator good i (world.hosts i).master refl) refl
+  good-backs {after} moved = good-same world (last-view good (world.hosts i).master refl) refl
       (good-backup world.sent world.masters world.hosts world.coordinator good i after.0 after.1 moved)
 
   -- a stop
   good-stops : GoodStep world (host_done world one i (record (world.hosts i) { master = None }, []))
-  good-stops =
-      good-host world.sent [] world.masters world.hosts world.coordinator good i
+  good-stops = good-host world.sent [] world.masters world.hosts world.coordinator good i
       (record (world.hosts i) { master = None }) quiet-none (λ m s e at. absurd at)
       (record { generation = (host_later-refl (world.hosts i)).generation; held = (host_later-refl (world.hosts i)).held }) (record {
         index = was.index;
@@ -197,7 +182,7 @@ module _ (world : World) (one : Event) (i : ℕ) (good : GoodWorld world) where
       was = good.hosts_are i
 
       same_held : GoodHost (world.sent ++ []) world.masters i (world.hosts i)
-      same_held = (good-none world.sent world.masters world.hosts world.coordinator good).good.hosts_are i
+      same_held = (good-none good).good.hosts_are i
 
       none_some : (master : Master) → None ≡ Some master → ⊥
       none_some master never = cc
@@ -205,14 +190,7 @@ module _ (world : World) (one : Event) (i : ℕ) (good : GoodWorld world) where
   -- a start
   good-starts : (kept : List (ServerId × ℕ)) →
       GoodStep world (host_done world one i (starts_host (world.hosts i) (next_server (world.hosts i)) kept))
-  good-starts kept =
-      good-same world (world.sent ++ to_coordinator (next_server (world.hosts i)) body.Enlist ∷ []) world.masters
-      (put_id world.masters (next_server (world.hosts i))
-      (new_master (next_server (world.hosts i)) (world.hosts i).setup))
-      (put world.hosts i (starts_host (world.hosts i) (next_server (world.hosts i)) kept).0)
-      (put world.hosts i (starts_host (world.hosts i) (next_server (world.hosts i)) kept).0) world.coordinator
-      (put_id-found world.masters (next_server (world.hosts i))
-      (new_master (next_server (world.hosts i)) (world.hosts i).setup) started) refl
+  good-starts kept = good-same world (put_id-found (next_server (world.hosts i)) started) refl
       (good-host world.sent (to_coordinator (next_server (world.hosts i)) body.Enlist ∷ []) world.masters world.hosts
       world.coordinator good i (starts_host (world.hosts i) (next_server (world.hosts i)) kept).0 quiet no_grant
       (record { generation = omega arith; held = λ same m. absurd (omega arith) }) (record {
@@ -220,9 +198,7 @@ module _ (world : World) (one : Event) (i : ℕ) (good : GoodWorld world) where
         own = refl;
         runs = λ master e. (let is : new_master (next_server (world.hosts i)) (world.hosts i).setup ≡ master = cc in started ∙ is);
         unstarted = λ g above. was.unstarted g (omega arith);
-        held = λ m. moved-restart world.sent (to_coordinator (next_server (world.hosts i)) body.Enlist ∷ [])
-            world.masters m i (world.hosts i).generation ((world.hosts i).generation + 1) kept
-            ((world.hosts i).backup.held m) quiet (omega arith) (was.held m);
+        held = λ m. moved-restart world.masters kept quiet (omega arith) (was.held m);
       }) (λ message at. fine message at))
     where
       was : GoodHost world.sent world.masters i (world.hosts i)
@@ -231,8 +207,7 @@ module _ (world : World) (one : Event) (i : ℕ) (good : GoodWorld world) where
       started : world.masters (next_server (world.hosts i)) ≡ new_master (next_server (world.hosts i)) (world.hosts i).setup
       started = subst (λ n. world.masters (record { index = n; generation = (world.hosts i).generation + 1 }) ≡
           new_master (record { index = n; generation = (world.hosts i).generation + 1 }) (world.hosts i).setup)
-          (sym was.index)
-          (was.unstarted ((world.hosts i).generation + 1) (omega arith))
+          (sym was.index) (was.unstarted ((world.hosts i).generation + 1) (omega arith))
 
       no_grant : GrantsUp world.coordinator (to_coordinator (next_server (world.hosts i)) body.Enlist ∷ [])
       no_grant m s e (inl same) = (let bodies : body.CommitOk s e ≡ body.Enlist = ap (λ (one : Message). one.body) same in cc)
@@ -251,8 +226,7 @@ module _ (world : World) (one : Event) (i : ℕ) (good : GoodWorld world) where
               closed ≡ body.Enlist = ap (λ (message : Message). message.body) same in cc
           places m x s e digest entries closed (inr never) = never
 
-          told : (x m : ServerId) (s e len : ℕ) (closed : Bool) →
-              In (between x m (body.Stored s e len closed))
+          told : (x m : ServerId) (s e len : ℕ) (closed : Bool) → In (between x m (body.Stored s e len closed))
               (to_coordinator (next_server (world.hosts i)) body.Enlist ∷ []) → ⊥
           told x m s e len closed (inl same) = let bodies : body.Stored s e len closed ≡ body.Enlist =
               ap (λ (message : Message). message.body) same in cc
@@ -271,9 +245,9 @@ module _ (world : World) (one : Event) (i : ℕ) (good : GoodWorld world) where
   good-host-node : (work : NodeWork) → IsGiven world.sent (TheHost i) work → GoodStep world (node_done world one (TheHost i) work)
   good-host-node work given = walked-host world one i good (λ after. GoodStep world (host_done world one i after)) (record {
     still = good-still;
-    backs = λ master e from says at moved. good-backs (backup_takes (world.hosts i).backup from says) moved;
-    takes = λ master e from says at moved. good-moved master e (master_takes master from says) moved;
-    ticks = λ master e moved. good-moved master e (master_ticks master) moved;
+    backs = λ master e from says at moved. good-backs moved;
+    takes = λ master e from says at moved. good-moved e moved;
+    ticks = λ master e moved. good-moved e moved;
     stops = good-stops;
     starts = good-starts;
   }) work given
@@ -286,10 +260,9 @@ led-still world good = record {
   good = good;
   onward = record {
     more = λ message at. at;
-    grown = λ m. unmoved-grown world.sent world.sent m (world.masters m) (good.masters_are m) (λ message at. at)
-        (λ x s e digest entries closed at. at);
+    grown = λ m. unmoved-grown (good.masters_are m) (λ message at. at) (λ x s e digest entries closed at. at);
     masters_are = good.masters_are;
-    own = λ m. own-fine world.sent world.masters world.hosts world.coordinator good m;
+    own = λ m. own-fine good;
     hosts_later = λ i. host_later-refl (world.hosts i);
     c_later = coordinator_later-refl world.coordinator;
     stored = λ x m s e len closed at. inl at;
@@ -298,21 +271,21 @@ led-still world good = record {
 }
 
 -- a delivered message was sent
-delivery-given : (sent : List Message) (found : Option Message) (job : Job) →
+delivery-given : (sent : List Message) (found : Option Message) {job : Job} →
     ((message : Message) → found ≡ Some message → In message sent) → delivery found ≡ Some job →
     IsGiven sent job.node job.work
-delivery-given sent None job was e = cc
-delivery-given sent (Some message) job was e =
+delivery-given sent None was e = cc
+delivery-given sent (Some message) {job} was e =
     let same : record { node = node_of message.to; work = Deliver message } ≡ job = cc in
     subst (λ (some : Job). IsGiven sent some.node some.work) same (was message refl, refl)
 
-of-job : (sent : List Message) (this job : Job) → IsGiven sent this.node this.work → Some this ≡ Some job → IsGiven sent job.node job.work
-of-job sent this job given e = let same : this ≡ job = cc in subst (λ (some : Job). IsGiven sent some.node some.work) same given
+of-job : (sent : List Message) {this job : Job} → IsGiven sent this.node this.work → Some this ≡ Some job → IsGiven sent job.node job.work
+of-job sent {this} {job} given e = let same : this ≡ job = cc in subst (λ (some : Job). IsGiven sent some.node some.work) same given
 
-pub job_of-given : (sent : List Message) (one : Event) (job : Job) → job_of sent one ≡ Some job → IsGiven sent job.node job.work
-job_of-given sent (event.Deliver number) job e =
-    delivery-given sent (slice_get sent number) job (λ message at. In-get sent number message at) e
-job_of-given sent _ job e = of-job sent _ job tt e
+pub job_of-given : (sent : List Message) (one : Event) {job : Job} → job_of sent one ≡ Some job → IsGiven sent job.node job.work
+job_of-given sent (event.Deliver number) e =
+    delivery-given sent (slice_get sent number) (λ message at. In-get sent number message at) e
+job_of-given sent _ e = of-job sent tt e
 
 good-node : (world : World) (one : Event) (node : NodeName) (work : NodeWork) → GoodWorld world →
     IsGiven world.sent node work → node_can world node work ≡ true → GoodStep world (node_done world one node work)
@@ -323,7 +296,7 @@ good-node world one (TheHost i) work good given can = good-host-node world one i
 good-job : (world : World) (one : Event) (found : Option Job) → job_of world.sent one ≡ found → GoodWorld world →
     is_possible_job world found ≡ true → GoodStep world (job_done world one found)
 good-job world one None is good can = led-still world good
-good-job world one (Some job) is good can = good-node world one job.node job.work good (job_of-given world.sent one job is) can
+good-job world one (Some job) is good can = good-node world one job.node job.work good (job_of-given world.sent one is) can
 
 -- each step keeps all facts, and only adds
 pub led-step : (world : World) (one : Event) → GoodWorld world → GoodStep world (step world one)

@@ -16,9 +16,7 @@ pub stored-is-safe : StoredIsSafe
 stored-is-safe setup events m s o stored =
     let world : World = replay setup events in
     let good : GoodWorld (replay setup events) = good-world setup events in
-    stored-safe (replay setup events).sent m ((replay setup events).masters m) s o (good.masters_are m)
-    (own-fine (replay setup events).sent (replay setup events).masters (replay setup events).hosts
-    (replay setup events).coordinator good m) stored
+    stored-safe (good.masters_are m) (own-fine good) stored
 
 pub safe-stays-safe : SafeStaysSafe
 safe-stays-safe setup events more m s o safe = record {
@@ -30,16 +28,16 @@ safe-stays-safe setup events more m s o safe = record {
 }
   where
     later : Since m (replay setup events) (replay setup (events ++ more))
-    later = since-more setup events more m
+    later = since-more setup events more
 
     at : (entry : Entry) × (slice_get (log_in ((replay setup events).masters m).log s) o ≡ Some entry)
     at = get-below (log_in ((replay setup events).masters m).log s) o safe.logged
 
 -- a durable place is safe now
-durable-safe : (setup : Setup) (events : List Event) (m : ServerId) (s o n : ℕ) →
+durable-safe : (setup : Setup) (events : List Event) {m : ServerId} {s o : ℕ} (n : ℕ) →
     IsSafe (replay setup (take n events)).sent m ((replay setup (take n events)).masters m).log s o →
     IsSafe (replay setup events).sent m ((replay setup events).masters m).log s o
-durable-safe setup events m s o n safe = (since-take setup events n m).safe s o safe
+durable-safe setup events {s} {o} n safe = (since-take setup events n).safe s o safe
 
 -- a safe place with its entry is as if it were acknowledged
 safe-write : (setup : Setup) (events : List Event) (m : ServerId) (s o : ℕ) (entry : Entry) →
@@ -53,28 +51,25 @@ pub durable-is-recovered : DurableIsRecovered
 durable-is-recovered setup events m s o durable = record {
   entry = at.0;
   stands = at.1;
-  there = λ plan accepted same.
-      safe-there (replay setup events).sent (replay setup events).masters (replay setup events).hosts
-      (replay setup events).coordinator (good-world setup events) plan accepted (as_ack s o at.0)
+  there = λ plan accepted same. safe-there (good-world setup events) accepted
       (subst (λ (n : ServerId). IsWriteOk (replay setup events).sent n ((replay setup events).masters n).log s o
       at.0.term at.0.table at.0.key at.0.version) (sym same) (safe-write setup events m s o at.0 safe at.1));
 }
   where
     safe : IsSafe (replay setup events).sent m ((replay setup events).masters m).log s o
-    safe = durable-safe setup events m s o durable.moment (stored-is-safe setup (take durable.moment events) m s o durable.stored)
+    safe = durable-safe setup events durable.moment (stored-is-safe setup (take durable.moment events) m s o durable.stored)
 
     at : (entry : Entry) × (slice_get (log_in ((replay setup events).masters m).log s) o ≡ Some entry)
     at = get-below (log_in ((replay setup events).masters m).log s) o safe.logged
 
 -- Acknowledgements
 
-write : (setup : Setup) (events : List Event) (m : ServerId) (ack : Ack) → HasAcknowledged (replay setup events).sent m ack →
+write : (setup : Setup) (events : List Event) {m : ServerId} {ack : Ack} → HasAcknowledged (replay setup events).sent m ack →
     IsWriteOk (replay setup events).sent m ((replay setup events).masters m).log ack.seg ack.offset ack.term ack.table ack.key ack.version
-write setup events m ack acked = acknowledged-is (replay setup events).sent (replay setup events).masters
-    (replay setup events).hosts (replay setup events).coordinator (good-world setup events) m ack acked
+write setup events acked = acknowledged-is (good-world setup events) acked
 
 pub acknowledged-is-durable : AcknowledgedIsSafe
-acknowledged-is-durable setup events m ack acked = (write setup events m ack acked).safe
+acknowledged-is-durable setup events m ack acked = (write setup events acked).safe
 
 pub acknowledged-is-recorded : AcknowledgedIsRecorded
 acknowledged-is-recorded setup events m ack acked = record {
@@ -86,4 +81,4 @@ acknowledged-is-recorded setup events m ack acked = record {
   where
     one : IsWriteOk (replay setup events).sent m ((replay setup events).masters m).log ack.seg ack.offset ack.term
         ack.table ack.key ack.version
-    one = write setup events m ack acked
+    one = write setup events acked

@@ -65,8 +65,7 @@ module _ (world : World) (one : Event) (good : GoodWorld world) (P : World → M
   of_outside given can = nothing (node_done world one TheOutside given) refl
 
   of_coordinator : (work : NodeWork) → IsGiven world.sent TheCoordinator work → Since (node_done world one TheCoordinator work)
-  of_coordinator work given message at =
-      each.coordinator (node_done world one TheCoordinator work) work message given
+  of_coordinator work given message at = each.coordinator (node_done world one TheCoordinator work) work message given
       (new world.sent (coordinator_step world.coordinator work).1 message at)
 
   module _ (i : ℕ) where
@@ -92,10 +91,9 @@ module _ (world : World) (one : Event) (good : GoodWorld world) (P : World → M
             (subst (λ (after : Backup × List Message). In message after.1) (sym e) (new world.sent messages message is))
 
     -- the view of the master that moved
-    moved-view : (after : Master) → after.log.own ≡ server_of (world.hosts i) →
+    moved-view : {after : Master} → after.log.own ≡ server_of (world.hosts i) →
         put_id world.masters after.log.own after (server_of (world.hosts i)) ≡ after
-    moved-view after own =
-        ap (λ (key : ServerId). put_id world.masters key after (server_of (world.hosts i))) own ∙
+    moved-view {after} own = ap (λ (key : ServerId). put_id world.masters key after (server_of (world.hosts i))) own ∙
         put_id-same world.masters (server_of (world.hosts i)) after
 
     of_takes : (master : Master) → (world.hosts i).master ≡ Some master → (given : Message) → In given world.sent →
@@ -108,7 +106,7 @@ module _ (world : World) (one : Event) (good : GoodWorld world) (P : World → M
             (master_takes master given.from given.body).0.log.own ≡ server_of (world.hosts i) → Done (with_master (world.hosts i) after)
         by (now, messages) is own message there =
             each.takes (host_done world one i (with_master (world.hosts i) (now, messages))) i master given message e at to
-            (moved-view now (sym (ap (λ (after : Master × List Message). after.0.log.own) is) ∙ own) ∙
+            (moved-view (sym (ap (λ (after : Master × List Message). after.0.log.own) is) ∙ own) ∙
             ap (λ (after : Master × List Message). after.0) (sym is))
             (subst (λ (after : Master × List Message). In message after.1) (sym is) (new world.sent messages message there))
 
@@ -121,7 +119,7 @@ module _ (world : World) (one : Event) (good : GoodWorld world) (P : World → M
             (master_ticks master).0.log.own ≡ server_of (world.hosts i) → Done (with_master (world.hosts i) after)
         by (now, messages) is own message there =
             each.ticks (host_done world one i (with_master (world.hosts i) (now, messages))) i master message e
-            (moved-view now (sym (ap (λ (after : Master × List Message). after.0.log.own) is) ∙ own) ∙
+            (moved-view (sym (ap (λ (after : Master × List Message). after.0.log.own) is) ∙ own) ∙
             ap (λ (after : Master × List Message). after.0) (sym is))
             (subst (λ (after : Master × List Message). In message after.1) (sym is) (new world.sent messages message there))
 
@@ -156,10 +154,9 @@ module _ (world : World) (one : Event) (good : GoodWorld world) (P : World → M
   of_job : (found : Option Job) → job_of world.sent one ≡ found → is_possible_job world found ≡ true →
       Since (job_done world one found)
   of_job None is can = none world refl
-  of_job (Some job) is can = of_node job.node job.work (job_of-given world.sent one job is) can
+  of_job (Some job) is can = of_node job.node job.work (job_of-given world.sent one is) can
 
   -- each message of an event
   pub each-sent : (message : Message) → In message (drop (length world.sent) (step world one).sent) → P (step world one) message
-  each-sent =
-      either Since (is_possible world one) (job_done world one (job_of world.sent one)) world
+  each-sent = either Since (is_possible world one) (job_done world one (job_of world.sent one)) world
       (λ can. of_job (job_of world.sent one) refl (possible-job world one can)) (λ _. none world refl)

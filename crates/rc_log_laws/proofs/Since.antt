@@ -14,25 +14,24 @@ pub record Since (m : ServerId) (old new : World) : Type 0 where
   pub later : LogLater new.sent m (old.masters m).log (new.masters m).log
   pub safe : (s o : ℕ) → IsSafe old.sent m (old.masters m).log s o → IsSafe new.sent m (new.masters m).log s o
 
-since-step : (m : ServerId) (old middle new : World) → GoodStep old middle → Since m middle new → Since m old new
-since-step m old middle new led rest = record {
+since-step : {m : ServerId} {old middle new : World} → GoodStep old middle → Since m middle new → Since m old new
+since-step {m} led rest = record {
   good = rest.good;
   more = λ message at. rest.more message (led.onward.more message at);
-  later = log_later-trans middle.sent new.sent m (old.masters m).log (middle.masters m).log (new.masters m).log
-      rest.more (led.onward.grown m).later rest.later;
-  safe = λ s o p. rest.safe s o (safe-grown old.sent middle.sent m (old.masters m).log (middle.masters m).log s o (led.onward.grown m) p);
+  later = log_later-trans rest.more (led.onward.grown m).later rest.later;
+  safe = λ s o p. rest.safe s o (safe-grown (led.onward.grown m) p);
 }
 
-pub since : (m : ServerId) (world : World) (events : List Event) → GoodWorld world → Since m world (replay_from world events)
-since m world [] good = record {
+pub since : {m : ServerId} {world : World} (events : List Event) → GoodWorld world → Since m world (replay_from world events)
+since {m} {world} [] good = record {
   good = good;
   more = λ message at. at;
-  later = log_later-refl world.sent m (world.masters m).log;
+  later = log_later-refl {sent = world.sent} {m = m} {log = (world.masters m).log};
   safe = λ s o p. p;
 }
-since m world (one ∷ events) good =
-    since-step m world (step world one) (replay_from (step world one) events) (led-step world one good)
-    (since m (step world one) events (led-step world one good).good)
+since {m} {world} (one ∷ events) good =
+    since-step {m = m} {old = world} {middle = (step world one)} {new = (replay_from (step world one) events)} (led-step world one good)
+    (since {m = m} {world = (step world one)} events (led-step world one good).good)
 
 -- the events one after another
 pub replay_from-append : (world : World) (events more : List Event) →
@@ -40,13 +39,13 @@ pub replay_from-append : (world : World) (events more : List Event) →
 replay_from-append world [] more = refl
 replay_from-append world (one ∷ events) more = replay_from-append (step world one) events more
 
-pub since-more : (setup : Setup) (events more : List Event) (m : ServerId) → Since m (replay setup events) (replay setup (events ++ more))
-since-more setup events more m =
+pub since-more : (setup : Setup) (events more : List Event) {m : ServerId} → Since m (replay setup events) (replay setup (events ++ more))
+since-more setup events more {m} =
     subst (Since m (replay setup events)) (sym (replay_from-append (opening setup) events more))
-    (since m (replay setup events) more (good-world setup events))
+    (since more (good-world setup events))
 
 -- a beginning of the events
-pub since-take : (setup : Setup) (events : List Event) (n : ℕ) (m : ServerId) → Since m (replay setup (take n events)) (replay setup events)
-since-take setup events n m =
+pub since-take : (setup : Setup) (events : List Event) (n : ℕ) {m : ServerId} → Since m (replay setup (take n events)) (replay setup events)
+since-take setup events n {m} =
     subst (λ (all : List Event). Since m (replay setup (take n events)) (replay setup all)) (take-append-drop n events)
-    (since-more setup (take n events) (drop n events) m)
+    (since-more setup (take n events) (drop n events))

@@ -18,19 +18,18 @@ pub record StaysFenced (old new : HostNode) : Type 0 where
   pub generation : old.generation ≤ new.generation
   pub kept : new.generation ≡ old.generation → AllFencedStay old.backup new.backup
 
-stays-same : (old new : HostNode) → new.generation ≡ old.generation → new.backup ≡ old.backup → StaysFenced old new
-stays-same old new generation backup =
+stays-same : {old new : HostNode} → new.generation ≡ old.generation → new.backup ≡ old.backup → StaysFenced old new
+stays-same {old} generation backup =
     record {
       generation = omega (arith, generation);
-      kept = λ _. subst (λ (one : Backup). AllFencedStay old.backup one)
-          (sym backup) (λ m fenced. (fenced, refl));
+      kept = λ _. subst (λ (one : Backup). AllFencedStay old.backup one) (sym backup) (λ m fenced. (fenced, refl));
     }
 
-stays-still : (host : HostNode) → StaysFenced host host
-stays-still host = stays-same host host refl refl
+stays-still : {host : HostNode} → StaysFenced host host
+stays-still = stays-same refl refl
 
-stays-then : (old middle new : HostNode) → StaysFenced old middle → StaysFenced middle new → StaysFenced old new
-stays-then old middle new p q = record {
+stays-then : {old middle new : HostNode} → StaysFenced old middle → StaysFenced middle new → StaysFenced old new
+stays-then {old} {middle} {new} p q = record {
   generation = omega (arith, p.generation, q.generation);
   kept = λ same m fenced.
       let first : middle.generation ≡ old.generation = omega (arith, p.generation, q.generation, same) in
@@ -46,67 +45,63 @@ stays-then old middle new p q = record {
 
 -- A host's step
 
-stays-backup : (host : HostNode) (after : Backup × List Message) → AllFencedStay host.backup after.0 →
+stays-backup : {host : HostNode} (after : Backup × List Message) → AllFencedStay host.backup after.0 →
     StaysFenced host (with_backup host after).0
-stays-backup host (backup, messages) p = record { generation = omega arith; kept = λ _. p }
+stays-backup (backup, messages) p = record { generation = omega arith; kept = λ _. p }
 
-stays-master : (host : HostNode) (after : Master × List Message) → StaysFenced host (with_master host after).0
-stays-master host (master, messages) = stays-same host (record host { master = Some master }) refl refl
+stays-master : {host : HostNode} (after : Master × List Message) → StaysFenced host (with_master host after).0
+stays-master (master, messages) = stays-same refl refl
 
-stays-takes : (host : HostNode) (found : Option Master) (message : Message) → StaysFenced host (takes_if_running host found message).0
-stays-takes host None message = stays-still host
-stays-takes host (Some master) message =
+stays-takes : {host : HostNode} (found : Option Master) (message : Message) → StaysFenced host (takes_if_running host found message).0
+stays-takes None message = stays-still
+stays-takes {host} (Some master) message =
     either (λ (after : HostNode × List Message). StaysFenced host after.0) (is_server (server_of host) message.to)
     (server_takes host master message) (host, [])
     (λ _. either (λ (after : HostNode × List Message). StaysFenced host after.0) (is_for_backup message.body)
     (with_backup host (backup_takes host.backup message.from message.body))
     (with_master host (master_takes master message.from message.body))
-    (λ _. stays-backup host (backup_takes host.backup message.from message.body) (fenced-stay host.backup message.from message.body))
-    (λ _. stays-master host (master_takes master message.from message.body)))
-    (λ _. stays-still host)
+    (λ _. stays-backup (backup_takes host.backup message.from message.body) (fenced-stay host.backup message.from message.body))
+    (λ _. stays-master (master_takes master message.from message.body))) (λ _. stays-still)
 
-stays-ticks : (host : HostNode) (found : Option Master) → StaysFenced host (ticks_if_running host found).0
-stays-ticks host None = stays-still host
-stays-ticks host (Some master) = stays-master host (master_ticks master)
+stays-ticks : {host : HostNode} (found : Option Master) → StaysFenced host (ticks_if_running host found).0
+stays-ticks None = stays-still
+stays-ticks (Some master) = stays-master (master_ticks master)
 
-stays-host : (host : HostNode) (work : NodeWork) → StaysFenced host (host_step host work).0
-stays-host host (Deliver message) = stays-takes host host.master message
-stays-host host Tick = stays-ticks host host.master
-stays-host host Stop = stays-same host (record host { master = None }) refl refl
-stays-host host (Start kept) = record { generation = omega arith; kept = λ same. absurd (omega (arith, same)) }
-stays-host host _ = stays-still host
+stays-host : {host : HostNode} (work : NodeWork) → StaysFenced host (host_step host work).0
+stays-host {host} (Deliver message) = stays-takes host.master message
+stays-host {host} Tick = stays-ticks host.master
+stays-host Stop = stays-same refl refl
+stays-host (Start kept) = record { generation = omega arith; kept = λ same. absurd (omega (arith, same)) }
+stays-host _ = stays-still
 
 -- A world
 
-stays-node : (world : World) (one : Event) (node : NodeName) (work : NodeWork) (i : ℕ) →
+stays-node : (world : World) (one : Event) (node : NodeName) (work : NodeWork) {i : ℕ} →
     StaysFenced (world.hosts i) ((node_done world one node work).hosts i)
-stays-node world one TheOutside work i = stays-still (world.hosts i)
-stays-node world one TheCoordinator work i = stays-still (world.hosts i)
-stays-node world one (TheHost index) work i =
+stays-node world one TheOutside work = stays-still
+stays-node world one TheCoordinator work = stays-still
+stays-node world one (TheHost index) work {i} =
     put_each (λ k (host : HostNode). StaysFenced (world.hosts k) host) world.hosts index
-    (host_step (world.hosts index) work).0 (stays-host (world.hosts index) work) (λ k. stays-still (world.hosts k))
+    (host_step (world.hosts index) work).0 (stays-host work) (λ k. stays-still)
     i
 
-stays-job : (world : World) (one : Event) (found : Option Job) (i : ℕ) → StaysFenced (world.hosts i) ((job_done world one found).hosts i)
-stays-job world one None i = stays-still (world.hosts i)
-stays-job world one (Some job) i = stays-node world one job.node job.work i
+stays-job : (world : World) (one : Event) (found : Option Job) {i : ℕ} → StaysFenced (world.hosts i) ((job_done world one found).hosts i)
+stays-job world one None = stays-still
+stays-job world one (Some job) = stays-node world one job.node job.work
 
-pub stays-step : (world : World) (one : Event) (i : ℕ) → StaysFenced (world.hosts i) ((step world one).hosts i)
-stays-step world one i =
+pub stays-step : (world : World) (one : Event) {i : ℕ} → StaysFenced (world.hosts i) ((step world one).hosts i)
+stays-step world one {i} =
     either (λ (after : World). StaysFenced (world.hosts i) (after.hosts i)) (is_possible world one)
     (job_done world one (job_of world.sent one)) world
-    (λ _. stays-job world one (job_of world.sent one) i) (λ _. stays-still (world.hosts i))
+    (λ _. stays-job world one (job_of world.sent one)) (λ _. stays-still)
 
-stays-from : (world : World) (events : List Event) (i : ℕ) → StaysFenced (world.hosts i) ((replay_from world events).hosts i)
-stays-from world [] i = stays-still (world.hosts i)
-stays-from world (one ∷ events) i =
-    stays-then (world.hosts i) ((step world one).hosts i) ((replay_from world (one ∷ events)).hosts i)
-    (stays-step world one i) (stays-from (step world one) events i)
+stays-from : (world : World) (events : List Event) {i : ℕ} → StaysFenced (world.hosts i) ((replay_from world events).hosts i)
+stays-from world [] = stays-still
+stays-from world (one ∷ events) = stays-then (stays-step world one) (stays-from (step world one) events)
 
 -- what it keeps of a master stays once it has answered
 pub fenced-replicas-stay : AnsweredReplicasStay
-fenced-replicas-stay setup events more y m number rows asked at same =
-    subst (λ (world : World).
+fenced-replicas-stay setup events more y m number rows asked at same = subst (λ (world : World).
     ((world.hosts y.index).backup.held m).replicas ≡ (((replay setup events).hosts y.index).backup.held m).replicas)
     (sym (replay_from-append (opening setup) events more))
     (later.kept (omega (arith, now, known.0, later.generation)) m (known.1 (omega (arith, now, known.0, later.generation)))).1
@@ -117,7 +112,7 @@ fenced-replicas-stay setup events more y m number rows asked at same =
     known = answer-about (replay setup events) y m number rows (good-world setup events) asked at
 
     later : StaysFenced ((replay setup events).hosts y.index) ((replay_from (replay setup events) more).hosts y.index)
-    later = stays-from (replay setup events) more y.index
+    later = stays-from (replay setup events) more
 
     now : y.generation ≡ ((replay_from (replay setup events) more).hosts y.index).generation
     now = subst (λ (world : World). y.generation ≡ (world.hosts y.index).generation) (replay_from-append (opening setup) events more) same

@@ -16,8 +16,8 @@ use Rattle.rc_model.proofs.Tests.{true_false, either}
 use Rattle.rc_model.proofs.Tables.{put_each}
 
 -- fewer segments were freed
-pub fewer : (more freed : List ℕ) (log : Log) → ((s : ℕ) → In s freed → In s more) → GoodFrees more log → GoodFrees freed log
-fewer more freed log within good = record {
+pub fewer : {more freed : List ℕ} {log : Log} → ((s : ℕ) → In s freed → In s more) → GoodFrees more log → GoodFrees freed log
+fewer within good = record {
   left_out = λ s at. good.left_out s (within s at);
   old_shut = good.old_shut;
   writing_shut = good.writing_shut;
@@ -28,11 +28,11 @@ fewer more freed log within good = record {
 abbrev pub Stays : Log → Log → Type 0
 Stays old new = (freed : List ℕ) → GoodFrees freed old → GoodFrees freed new
 
-pub stays-refl : (log : Log) → Stays log log
-stays-refl log freed good = good
+pub stays-refl : {log : Log} → Stays log log
+stays-refl freed good = good
 
-pub stays-trans : (a b c : Log) → Stays a b → Stays b c → Stays a c
-stays-trans a b c p q freed good = q freed (p freed good)
+pub stays-trans : {a b c : Log} → Stays a b → Stays b c → Stays a c
+stays-trans p q freed good = q freed (p freed good)
 
 -- Segments
 
@@ -43,8 +43,8 @@ record IsAlike (old new : Log) : Type 0 where
   shut : (k : ℕ) → (old.segments k).shut ≡ true → (new.segments k).shut ≡ true
   writing : new.phase ≡ Writing → (old.phase ≡ Writing) ⊎ (old.head ≡ 1)
 
-stays-alike : (old new : Log) → IsAlike old new → Stays old new
-stays-alike old new same freed good = record {
+stays-alike : {old new : Log} → IsAlike old new → Stays old new
+stays-alike {old} {new} same freed good = record {
   left_out = λ s at. left s (good.left_out s at);
   old_shut = λ s above below. same.shut s (good.old_shut s above (subst (λ n. s + 1 < n) same.head below));
   writing_shut = λ writing s above below. writes s above (subst (λ n. s < n) same.head below) (same.writing writing);
@@ -64,57 +64,55 @@ stays-alike old new same freed good = record {
     writes s above below (inl writing) = same.shut s (good.writing_shut writing s above below)
     writes s above below (inr first) = absurd (omega (arith, above, below, first))
 
-pub stays-put : (log : Log) (seg : ℕ) (segment : Segment) → segment.digest ≡ (log.segments seg).digest →
+pub stays-put : {log : Log} (seg : ℕ) (segment : Segment) → segment.digest ≡ (log.segments seg).digest →
     ((log.segments seg).shut ≡ true → segment.shut ≡ true) → Stays log (with_segment seg segment log)
-stays-put log seg segment digest shut = stays-alike log (with_segment seg segment log) (record {
+stays-put {log} seg segment digest shut = stays-alike (record {
   head = refl;
   digest = put_each (λ k (one : Segment). one.digest ≡ (log.segments k).digest) log.segments seg segment digest (λ k. refl);
   shut = put_each (λ k (one : Segment). (log.segments k).shut ≡ true → one.shut ≡ true) log.segments seg segment shut (λ k e. e);
   writing = λ e. inl e;
 })
 
-stays-config : (log : Log) (seg : ℕ) (config : Config) → Stays log (with_config seg config log)
-stays-config log seg config = stays-put log seg (record (log.segments seg) { config = config }) refl (λ e. e)
+stays-config : {log : Log} (seg : ℕ) (config : Config) → Stays log (with_config seg config log)
+stays-config {log} seg config = stays-put seg (record (log.segments seg) { config = config }) refl (λ e. e)
 
-pub stays-stored : (seg : ℕ) (from : ServerId) (epoch len : ℕ) (closed : Bool) (log : Log) →
+pub stays-stored : (seg : ℕ) (from : ServerId) (epoch len : ℕ) (closed : Bool) {log : Log} →
     Stays log (stored seg from epoch len closed log)
-stays-stored seg from epoch len closed log =
+stays-stored seg from epoch len closed {log} =
     either (Stays log) (has_segment log seg) (with_config seg (noted from epoch len closed (log.segments seg).config) log) log
-    (λ _. stays-config log seg (noted from epoch len closed (log.segments seg).config)) (λ _. stays-refl log)
+    (λ _. stays-config seg (noted from epoch len closed (log.segments seg).config)) (λ _. stays-refl)
 
-pub stays-commit_noted : (seg epoch : ℕ) (log : Log) → Stays log (commit_noted seg epoch log)
-stays-commit_noted seg epoch log =
+pub stays-commit_noted : (seg epoch : ℕ) {log : Log} → Stays log (commit_noted seg epoch log)
+stays-commit_noted seg epoch {log} =
     either (Stays log) (has_segment log seg) (with_config seg (committed_at epoch (log.segments seg).config) log) log
-    (λ _. stays-config log seg (committed_at epoch (log.segments seg).config)) (λ _. stays-refl log)
+    (λ _. stays-config seg (committed_at epoch (log.segments seg).config)) (λ _. stays-refl)
 
-stays-change : (seg : ℕ) (log : Log) (answer : Config × Result Bool Fault) → Stays log (opens_change seg log answer).0
-stays-change seg log (config, Ok true) = stays-put log seg (under_new_epoch config (log.segments seg)) refl (λ e. e)
-stays-change seg log (config, Ok false) = stays-config log seg config
-stays-change seg log (config, Err fault) = stays-config log seg config
+stays-change : (seg : ℕ) {log : Log} (answer : Config × Result Bool Fault) → Stays log (opens_change seg log answer).0
+stays-change seg {log} (config, Ok true) = stays-put seg (under_new_epoch config (log.segments seg)) refl (λ e. e)
+stays-change seg (config, Ok false) = stays-config seg config
+stays-change seg (config, Err fault) = stays-config seg config
 
-pub stays-loses : (servers : ServerList) (seg : ℕ) (log : Log) → Stays log (loses servers seg log).0
-stays-loses servers seg log =
+pub stays-loses : (servers : ServerList) (seg : ℕ) {log : Log} → Stays log (loses servers seg log).0
+stays-loses servers seg {log} =
     either (λ (after : Log × Result (List ServerId) Fault). Stays log after.0) (log.segments seg).shut
     (refills seg log (refill log.own servers (log.segments seg).config))
     (opens_change seg log (lose log.own servers (log.segments seg).config))
-    (λ _. stays-config log seg (refill log.own servers (log.segments seg).config).0)
-    (λ _. stays-change seg log (lose log.own servers (log.segments seg).config))
+    (λ _. stays-config seg (refill log.own servers (log.segments seg).config).0)
+    (λ _. stays-change seg (lose log.own servers (log.segments seg).config))
 
 -- Phases
 
-pub stays-starts : (log : Log) → may_start log ≡ true → Stays log (starts log)
-stays-starts log may = stays-alike log (starts log) (record {
+pub stays-starts : {log : Log} → may_start log ≡ true → Stays log (starts log)
+stays-starts {log} may = stays-alike (record {
   head = refl;
   digest = λ k. refl;
   shut = λ k e. e;
-  writing = λ _. inr (eqb-true log.head 1
-      (and_parts (nat_eq log.head 1) (is_ready (head_of log))
+  writing = λ _. inr (eqb-true log.head 1 (and_parts (nat_eq log.head 1) (is_ready (head_of log))
       (and_parts (is_opening log.phase) (nat_eq log.head 1 && is_ready (head_of log)) may).1).0);
 })
 
-pub stays-closes : (log : Log) → Stays log (closes_old log)
-stays-closes log = stays-alike log (closes_old log)
-    (record { head = refl; digest = λ k. refl; shut = λ k e. e; writing = λ e. not-closing e })
+pub stays-closes : {log : Log} → Stays log (closes_old log)
+stays-closes = stays-alike (record { head = refl; digest = λ k. refl; shut = λ k e. e; writing = λ e. not-closing e })
   where
     not-closing : {P : Type 0} → Closing ≡ Writing → P
     not-closing e = cc
@@ -122,9 +120,9 @@ stays-closes log = stays-alike log (closes_old log)
 -- New heads
 
 -- a head is opened where all before the old one are shut, with a digest that has but those of the old one, and itself
-stays-opens : (log : Log) (digest : List ℕ) (ids : List ServerId) → (log.phase ≡ Writing) ⊎ (log.head ≡ 0) →
+stays-opens : {log : Log} (digest : List ℕ) (ids : List ServerId) → (log.phase ≡ Writing) ⊎ (log.head ≡ 0) →
     ((t : ℕ) → In t digest → (t ≡ log.head + 1) ⊎ In t (head_of log).digest) → Stays log (opens_head log digest ids)
-stays-opens log digest ids may within freed good = record {
+stays-opens {log} digest ids may within freed good = record {
   left_out = λ s at. left s (good.left_out s at);
   old_shut = λ s above below. elsewhere s (omega (arith, below)) (shut s above (omega (arith, below)) may);
   writing_shut = λ e. not-opening e;
@@ -180,18 +178,18 @@ stays-opens log digest ids may within freed good = record {
                 out.upto in let below : s < out.head = out.below in omega (arith, upto, below, same)
             new (inr old) = out.lacks log.head out.upto (omega arith) old
 
-pub stays-first_opened : (log : Log) (chosen : Option (List ServerId)) → log.head ≡ 0 → Stays log (opened_on log (1 ∷ []) chosen).0
-stays-first_opened log None none = stays-refl log
-stays-first_opened log (Some ids) none = stays-opens log (1 ∷ []) ids (inr none) (λ t at. inl (first t at))
+pub stays-first_opened : {log : Log} (chosen : Option (List ServerId)) → log.head ≡ 0 → Stays log (opened_on log (1 ∷ []) chosen).0
+stays-first_opened None none = stays-refl
+stays-first_opened {log} (Some ids) none = stays-opens (1 ∷ []) ids (inr none) (λ t at. inl (first t at))
   where
     first : (t : ℕ) → (t ≡ 1) ⊎ ⊥ → t ≡ log.head + 1
     first t (inl same) = omega (arith, same, none)
     first t (inr never) = absurd never
 
-pub stays-next_opened : (log : Log) (dead : List ℕ) (chosen : Option (List ServerId)) → log.phase ≡ Writing →
+pub stays-next_opened : {log : Log} (dead : List ℕ) (chosen : Option (List ServerId)) → log.phase ≡ Writing →
     Stays log (opened_on log (next_digest log dead) chosen).0
-stays-next_opened log dead None writing = stays-refl log
-stays-next_opened log dead (Some ids) writing = stays-opens log (next_digest log dead) ids (inl writing) within
+stays-next_opened dead None writing = stays-refl
+stays-next_opened {log} dead (Some ids) writing = stays-opens (next_digest log dead) ids (inl writing) within
   where
     within : (t : ℕ) → In t (next_digest log dead) → (t ≡ log.head + 1) ⊎ In t (head_of log).digest
     within t at = by (In-append t (filter (λ seg. nat_eq seg log.head || not (list_any (nat_eq seg) dead))
@@ -205,13 +203,10 @@ stays-next_opened log dead (Some ids) writing = stays-opens log (next_digest log
 
 -- Writing on
 
-stays-freed : (segs : List ℕ) (log : Log) → Stays log (with_freed segs log)
-stays-freed [] log = stays-refl log
-stays-freed (seg ∷ segs) log =
-    stays-trans log (with_segment seg (record (log.segments seg) { freed = true }) log)
-    (with_freed segs (with_segment seg (record (log.segments seg) { freed = true }) log))
-    (stays-put log seg (record (log.segments seg) { freed = true }) refl (λ e. e))
-    (stays-freed segs (with_segment seg (record (log.segments seg) { freed = true }) log))
+stays-freed : (segs : List ℕ) {log : Log} → Stays log (with_freed segs log)
+stays-freed [] = stays-refl
+stays-freed (seg ∷ segs) {log} = stays-trans (stays-put seg (record (log.segments seg) { freed = true }) refl (λ e. e))
+    (stays-freed segs)
 
 -- what a list has passes for it
 any-in : (s : ℕ) (digest : List ℕ) → In s digest → list_any (nat_eq s) digest ≡ true
@@ -224,9 +219,9 @@ any-in s (t ∷ digest) (inr rest) = or_true (nat_eq s t) (any-in s digest rest)
     or_true false e = e
 
 -- where the new head writes, what its digest leaves out may be freed: all before it are shut
-pub writes-leave_out : (freed : List ℕ) (log : Log) → may_write log ≡ true → GoodFrees freed log →
+pub writes-leave_out : {freed : List ℕ} {log : Log} → may_write log ≡ true → GoodFrees freed log →
     GoodFrees (freed ++ left_out log) (writes_on log)
-writes-leave_out freed log may good = stays-freed (left_out log) (record log { phase = Writing }) (freed ++ left_out log) writing
+writes-leave_out {freed} {log} may good = stays-freed (left_out log) (freed ++ left_out log) writing
   where
     has_old : 1 < log.head
     has_old = ltb-true 1 log.head (and_parts (has_old_head log) ((old_head_of log).shut && is_ready (head_of log))
@@ -259,8 +254,7 @@ writes-leave_out freed log may good = stays-freed (left_out log) (record log { p
           upto = omega arith;
           below = omega (arith, upto, has_old);
           shut = all_shut;
-          lacks = λ k from k_upto there.
-              (let same : k ≡ log.head = omega (arith, from, k_upto) in
+          lacks = λ k from k_upto there. (let same : k ≡ log.head = omega (arith, from, k_upto) in
               lacking s (list_any (nat_eq s) (head_of log).digest)
               (any-in s (head_of log).digest (subst (λ j. In s (log.segments j).digest) same there)) was.1);
         }

@@ -13,10 +13,10 @@ use Rattle.rc_step_laws.proofs.MasterSteps.{view-of}
 use Rattle.rc_model.proofs.Tests.{either}
 
 -- each of these segments is shut
-pub all_shut-each : (segments : ℕ → Segment) (n t : ℕ) → all_shut_to segments n ≡ true → 0 < t → t ≤ n → (segments t).shut ≡ true
-all_shut-each segments zero t e above upto = absurd (omega arith)
-all_shut-each segments (suc n) t e above upto =
-    by (or_last t n upto) (λ less. all_shut-each segments n t (and_parts (segments (suc n)).shut (all_shut_to segments n) e).1 above less)
+pub all_shut-each : (segments : ℕ → Segment) (n : ℕ) {t : ℕ} → all_shut_to segments n ≡ true → 0 < t → t ≤ n → (segments t).shut ≡ true
+all_shut-each segments zero e above upto = absurd (omega arith)
+all_shut-each segments (suc n) {t} e above upto =
+    by (or_last t n upto) (λ less. all_shut-each segments n (and_parts (segments (suc n)).shut (all_shut_to segments n) e).1 above less)
   where
     or_last : (t n : ℕ) → t ≤ suc n → (t ≡ suc n) ⊎ (t ≤ n)
     or_last t n p = grind arith
@@ -26,31 +26,30 @@ all_shut-each segments (suc n) t e above upto =
     by (inr less) rec = rec less
 
 -- below the durable length there is a member
-some-member : (o : ℕ) (members : List Member) → o < least_told members → (member : Member) × In member members
-some-member o [] less = absurd (omega arith)
-some-member o (member ∷ members) less = (member, inl refl)
+some-member : {o : ℕ} (members : List Member) → o < least_told members → (member : Member) × In member members
+some-member [] less = absurd (omega arith)
+some-member (member ∷ members) less = (member, inl refl)
 
-durable_len-least : (o : ℕ) (config : Config) → o < durable_len config → o < least_told config.members
-durable_len-least o config less =
+durable_len-least : {o : ℕ} (config : Config) → o < durable_len config → o < least_told config.members
+durable_len-least {o} config less =
     either (λ len. o < len → o < least_told config.members) (config.committed && not (any_lost config.members))
-    (least_told config.members) 0
-    (λ e below. below) (λ e below. absurd (omega arith)) less
+    (least_told config.members) 0 (λ e below. below) (λ e below. absurd (omega arith)) less
 
 -- below the durable length a member has told more
-pub stored-told : (sent : List Message) (m : ServerId) (master : Master) (s o : ℕ) → GoodMaster sent m master →
+pub stored-told : {sent : List Message} {m : ServerId} {master : Master} {s o : ℕ} → GoodMaster sent m master →
     o < durable_len (master.log.segments s).config →
     (x : ServerId) × HasTold sent x m s (master.log.segments s).config.epoch o
-stored-told sent m master s o good less =
-    (found.0.id, good.noted s found.0 found.1 o ((durable_len-tells o (master.log.segments s).config less).1 found.0 found.1))
+stored-told {master} {s} {o} good less =
+    (found.0.id, good.noted s found.0 found.1 o ((durable_len-tells (master.log.segments s).config less).1 found.0 found.1))
   where
     found : (member : Member) × In member (master.log.segments s).config.members
-    found = some-member o (master.log.segments s).config.members (durable_len-least o (master.log.segments s).config less)
+    found = some-member (master.log.segments s).config.members (durable_len-least (master.log.segments s).config less)
 
 -- so it is within the segment
-stored-within : (sent : List Message) (m : ServerId) (master : Master) (s o : ℕ) → GoodMaster sent m master →
+stored-within : {sent : List Message} {m : ServerId} {master : Master} (s : ℕ) {o : ℕ} → GoodMaster sent m master →
     OwnFine sent m master.log → o < durable_len (master.log.segments s).config →
     o < length (log_in master.log s)
-stored-within sent m master s o good fine less = by (stored-told sent m master s o good less)
+stored-within {sent} {m} {master} s {o} good fine less = by (stored-told good less)
   where
     by : (x : ServerId) × HasTold sent x m s (master.log.segments s).config.epoch o → o < length (log_in master.log s)
     by (x, one) =
@@ -59,12 +58,11 @@ stored-within sent m master s o good fine less = by (stored-told sent m master s
         let above : o < one.len = one.above in
         omega arith
 
-pub stored-safe : (sent : List Message) (m : ServerId) (master : Master) (s o : ℕ) → GoodMaster sent m master →
+pub stored-safe : {sent : List Message} {m : ServerId} {master : Master} {s o : ℕ} → GoodMaster sent m master →
     OwnFine sent m master.log → is_stored_on_all master.log s o ≡ true → IsSafe sent m master.log s o
-stored-safe sent m master s o good fine e =
-    covered-safe sent m master.log place (view-of sent m master good fine).log fine
+stored-safe {master} {s} {o} good fine e = covered-safe (view-of good fine).log fine
     (record { above = opened.above; upto = opened.below; holds = at.1 })
-    (record { reason = inr below_both; below = λ t above less. all_shut-each master.log.segments (s - 1) t parts.1 above (omega arith) })
+    (record { reason = inr below_both; below = λ t above less. all_shut-each master.log.segments (s - 1) parts.1 above (omega arith) })
   where
     first : (has_segment master.log s ≡ true) ×
         ((nat_lt o (durable_len (master.log.segments s).config) && all_shut_to master.log.segments (s - 1)) ≡ true)
@@ -75,14 +73,14 @@ stored-safe sent m master s o good fine e =
     parts = and_parts (nat_lt o (durable_len (master.log.segments s).config)) (all_shut_to master.log.segments (s - 1)) first.1
 
     opened : IsOpened master.log s
-    opened = has-opened master.log s first.0
+    opened = has-opened first.0
 
     less : o < durable_len (master.log.segments s).config
     less = ltb-true o (durable_len (master.log.segments s).config) parts.0
 
     within : o < length (master.log.segments s).entries
     within =
-        let logged : o < length (log_in master.log s) = stored-within sent m master s o good fine less in
+        let logged : o < length (log_in master.log s) = stored-within s good fine less in
         let same : length (log_in master.log s) ≡ length (master.log.segments s).entries =
         length-map (master.log.segments s).entries (λ (one : Entry × Bool). one.0) in
         omega arith

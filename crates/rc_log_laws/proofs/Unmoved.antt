@@ -15,18 +15,18 @@ abbrev pub NewlyToldFits : List Message → List Message → ServerId → Log �
 NewlyToldFits sent sent_now m log = (x : ServerId) (s e len : ℕ) (closed : Bool) → In (between x m (Stored s e len closed)) sent_now →
     In (between x m (Stored s e len closed)) sent ⊎ IsTold sent_now m log x s e len closed
 
-pub unmoved-grown : (sent sent_now : List Message) (m : ServerId) (master : Master) → GoodMaster sent m master →
+pub unmoved-grown : {sent sent_now : List Message} {m : ServerId} {master : Master} → GoodMaster sent m master →
     More sent sent_now → NoNewPlaceOf sent sent_now m → Grown sent sent_now m master.log master.log
-unmoved-grown sent sent_now m master good more back = record {
+unmoved-grown good more back = record {
   more = more;
-  later = log_later-refl sent_now m master.log;
+  later = log_later-refl;
   places = λ x s e digest entries closed at. inl (back x s e digest entries closed at);
   below = good.shut_below;
 }
 
-pub unmoved-good : (sent sent_now : List Message) (m : ServerId) (master : Master) → GoodMaster sent m master →
+pub unmoved-good : {sent sent_now : List Message} {m : ServerId} {master : Master} → GoodMaster sent m master →
     More sent sent_now → NoNewPlaceOf sent sent_now m → GoodMaster sent_now m master
-unmoved-good sent sent_now m master good more back = record {
+unmoved-good {sent} {sent_now} {m} good more back = record {
   own = good.own;
   none_below = good.none_below;
   none_above = good.none_above;
@@ -36,18 +36,14 @@ unmoved-good sent sent_now m master good more back = record {
   empty = good.empty;
   shut_below = good.shut_below;
   shut_committed = good.shut_committed;
-  complete = λ s x opened open_so at. member-more sent sent_now more m s (master.log.segments s).config.epoch x
-      (good.complete s x opened open_so at);
+  complete = λ s x opened open_so at. member-more more (good.complete s x opened open_so at);
   apart = good.apart;
   one_a_host = λ s e x y p q on. good.one_a_host s e x y (member x s e p) (member y s e q) on;
-  noted = λ s one at o below. told-more sent sent_now more one.id m s (master.log.segments s).config.epoch o (good.noted s one at o below);
-  noted_closed = λ s one at shut_so. told_closed-more sent sent_now more one.id m s (master.log.segments s).config.epoch
-      (good.noted_closed s one at shut_so);
-  committed = λ s is. committed-more sent sent_now m s (master.log.segments s).config.epoch more (good.committed s is);
-  counted = λ k place below at. safe-grown sent sent_now m master.log master.log place.seg place.offset
-      (unmoved-grown sent sent_now m master good more back) (good.counted k place below at);
-  digests = λ s opened. digest-grown sent sent_now m master.log master.log s (master.log.segments s).digest
-      (unmoved-grown sent sent_now m master good more back) (good.digests s opened);
+  noted = λ s one at o below. told-more more (good.noted s one at o below);
+  noted_closed = λ s one at shut_so. told_closed-more more (good.noted_closed s one at shut_so);
+  committed = λ s is. committed-more sent sent_now m s more (good.committed s is);
+  counted = λ k place below at. safe-grown (unmoved-grown good more back) (good.counted k place below at);
+  digests = λ s opened. digest-grown (unmoved-grown good more back) (good.digests s opened);
   known = good.known;
   durable_within = good.durable_within;
 }
@@ -55,18 +51,16 @@ unmoved-good sent sent_now m master good more back = record {
     member : (x : ServerId) (s e : ℕ) → IsMember sent_now m s e x → IsMember sent m s e x
     member x s e p = record { digest = p.digest; entries = p.entries; placed = back x s e p.digest p.entries false p.placed }
 
-pub unmoved-own : (sent sent_now : List Message) (m : ServerId) (master : Master) → GoodMaster sent m master →
+pub unmoved-own : {sent sent_now : List Message} {m : ServerId} {master : Master} → GoodMaster sent m master →
     OwnFine sent m master.log → More sent sent_now → NoNewPlaceOf sent sent_now m →
     NewlyToldFits sent sent_now m master.log → OwnFine sent_now m master.log
-unmoved-own sent sent_now m master good fine more back fits = record {
-  places = λ x s e digest entries closed at. place-grown sent sent_now m master.log master.log x s e digest entries
-      closed (unmoved-grown sent sent_now m master good more back)
+unmoved-own {sent} {sent_now} {m} {master} good fine more back fits = record {
+  places = λ x s e digest entries closed at. place-grown (unmoved-grown good more back)
       (fine.places x s e digest entries closed (back x s e digest entries closed at));
   told = λ x s e len closed at. told x s e len closed (fits x s e len closed at);
 }
   where
     told : (x : ServerId) (s e len : ℕ) (closed : Bool) → In (between x m (Stored s e len closed)) sent ⊎
         IsTold sent_now m master.log x s e len closed → IsTold sent_now m master.log x s e len closed
-    told x s e len closed (inl there) = told-grown sent sent_now m master.log master.log x s e len closed
-        (unmoved-grown sent sent_now m master good more back) (fine.told x s e len closed there)
+    told x s e len closed (inl there) = told-grown (unmoved-grown good more back) (fine.told x s e len closed there)
     told x s e len closed (inr is) = is

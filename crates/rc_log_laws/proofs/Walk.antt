@@ -20,10 +20,9 @@ use Rattle.rc_step_laws.proofs.Rolling.{writing-is}
 pub record Moves (old : Master) (after : Master × List Message) : Type 0 where
   pub keeps : (freed : List ℕ) → GoodFrees freed old.log → GoodFrees (freed ++ freed_in after.1) after.0.log
 
-quiet : (old new : Master) (messages : List Message) → Stays old.log new.log → Silent messages → Moves old (new, messages)
-quiet old new messages stays silent = record {
-  keeps = λ freed good.
-      subst (λ (more : List ℕ). GoodFrees (freed ++ more) new.log) (sym silent)
+quiet : {old new : Master} {messages : List Message} → Stays old.log new.log → Silent messages → Moves old (new, messages)
+quiet {new} stays silent = record {
+  keeps = λ freed good. subst (λ (more : List ℕ). GoodFrees (freed ++ more) new.log) (sym silent)
       (subst (λ (all : List ℕ). GoodFrees all new.log) (sym (append-nil freed)) (stays freed good));
 }
 
@@ -37,59 +36,52 @@ both a b first after p q = record {
 }
 
 moves-joined : Joined Moves
-moves-joined = record { still = λ master. quiet master master [] (stays-refl master.log) silent-none; both = both }
+moves-joined = record { still = λ master. quiet (stays-refl) silent-none; both = both }
 
 -- the log is as it was, and this is said
-says : (old new : Master) (message : Message) → Stays old.log new.log → freed_by message.body ≡ [] → Moves old (new, message ∷ [])
-says old new message stays is = quiet old new (message ∷ []) stays (ap (λ (some : List ℕ). some ++ []) is)
+says : {old new : Master} {message : Message} → Stays old.log new.log → freed_by message.body ≡ [] → Moves old (new, message ∷ [])
+says stays is = quiet stays (ap (λ (some : List ℕ). some ++ []) is)
 
-moves-head : (master : Master) (log : Log) → Stays master.log log → Moves master (with_log master log, places_head log)
-moves-head master log stays = quiet master (with_log master log) (places_head log) stays
+moves-head : {master : Master} {log : Log} → Stays master.log log → Moves master (with_log master log, places_head log)
+moves-head {log} stays = quiet stays
     (silent-ids log.own (ids_of (head_of log).config.members) (place_of log log.head false) refl)
 
 moves-rolls : (master : Master) → Rolls Moves master
-moves-rolls master ids writing room chosen =
-    moves-head master (opens_head master.log (next_digest master.log (dead_segments master)) ids)
-    (stays-next_opened master.log (dead_segments master) (Some ids) (writing-is master.log.phase writing))
+moves-rolls master ids writing room chosen = moves-head
+    (stays-next_opened (dead_segments master) (Some ids) (writing-is master.log.phase writing))
 
 moves-listed : Listed Moves
 moves-listed = record {
-  replaces = λ master seg ids isn't. quiet master (with_log master (loses master.known seg master.log).0) _
-      (stays-loses master.known seg master.log) (silent-ids _ ids _ refl);
-  opens = λ master ids none chosen. moves-head master (opens_head master.log (1 ∷ []) ids)
-      (stays-first_opened master.log (Some ids) none);
+  replaces = λ master seg ids isn't. quiet (stays-loses master.known seg) (silent-ids _ ids _ refl);
+  opens = λ master ids none chosen. moves-head (stays-first_opened (Some ids) none);
 }
 
-moves-appends : (old master : Master) (entry : Entry) (client : Bool) → old.log ≡ master.log → Moves old (appends_entry master entry client)
-moves-appends old master entry client same =
-    quiet old (with_log master (appends entry client master.log)) (appends_entry master entry client).1
-    (subst (λ log. Stays log (appends entry client master.log)) (sym same)
-    (stays-put master.log master.log.head (with_entry entry client (head_of master.log)) refl (λ e. e)))
+moves-appends : {old master : Master} (entry : Entry) (client : Bool) → old.log ≡ master.log → Moves old (appends_entry master entry client)
+moves-appends {master} entry client same = quiet (subst (λ log. Stays log (appends entry client master.log)) (sym same)
+    (stays-put master.log.head (with_entry entry client (head_of master.log)) refl (λ e. e)))
     (silent-ids master.log.own (ids_of (not_lost (head_of master.log).config.members))
     (Append master.log.head (length (head_of master.log).entries) (entry ∷ [])) refl)
 
-moves-taken : (master : Master) (from : Addr) (body : Body) → Taken Moves master from body
-moves-taken master from body = record {
-  refuses = λ one fault. says one one _ (stays-refl one.log) refl;
+moves-taken : {master : Master} {from : Addr} {body : Body} → Taken Moves master from body
+moves-taken {master} = record {
+  refuses = λ one fault. says (stays-refl) refl;
   rolls = moves-rolls master;
-  writes = λ term table key value is owned writing room. moves-appends master master _ true refl;
-  reads = λ term table key is owned. says master master _ (stays-refl master.log) refl;
-  lists = λ version rows is newer. quiet master _ [] (stays-refl master.log) silent-none;
-  stores = λ teller seg epoch len closed is told. quiet master (with_log master (stored seg teller epoch len closed master.log)) []
-      (stays-stored seg teller epoch len closed master.log) silent-none;
-  commits = λ seg epoch is. quiet master (with_log master (commit_noted seg epoch master.log)) []
-      (stays-commit_noted seg epoch master.log) silent-none;
-  deposes = quiet master (record master { deposed = true }) [] (stays-refl master.log) silent-none;
-  begins = λ one attempt crashed head rows parts part is at new. quiet one _ _ (stays-refl one.log)
+  writes = λ term table key value is owned writing room. moves-appends _ true refl;
+  reads = λ term table key is owned. says (stays-refl) refl;
+  lists = λ version rows is newer. quiet (stays-refl) silent-none;
+  stores = λ teller seg epoch len closed is told. quiet (stays-stored seg teller epoch len closed) silent-none;
+  commits = λ seg epoch is. quiet (stays-commit_noted seg epoch) silent-none;
+  deposes = quiet (stays-refl) silent-none;
+  begins = λ one attempt crashed head rows parts part is at new. quiet (stays-refl)
       (silent-all _ (each-map Frees _ rows (λ row _. refl)));
-  comes = λ holder attempt seg term entries is says. quiet master _ [] (stays-refl master.log) silent-none;
-  owns = λ range term previous attempt is. quiet master _ [] (stays-refl master.log) silent-none;
+  comes = λ holder attempt seg term entries is says. quiet (stays-refl) silent-none;
+  owns = λ range term previous attempt is. quiet (stays-refl) silent-none;
 }
 
 moves-ticked : Ticked Moves
 moves-ticked = record {
-  enlists = λ master. says master master _ (stays-refl master.log) refl;
-  reminds = λ before master. quiet master master (reminds before master).1 (stays-refl master.log)
+  enlists = λ master. says (stays-refl) refl;
+  reminds = λ before master. quiet (stays-refl)
       (silent-all _ (each-reminds Frees before master (record {
         place = λ member seg closed at shut among. refl;
         append = λ member seg len at. refl;
@@ -105,10 +97,9 @@ moves-ticked = record {
 moves-shuts : (master : Master) → may_write master.log ≡ true →
     Moves master (with_log master (writes_on master.log), frees_segments master.log (left_out master.log))
 moves-shuts master may = record {
-  keeps = λ freed good.
-      fewer (freed ++ left_out master.log) (freed ++ freed_in (frees_segments master.log (left_out master.log))) (writes_on master.log)
+  keeps = λ freed good. fewer
       (λ s at. by s freed (In-append s freed (freed_in (frees_segments master.log (left_out master.log))) at))
-      (writes-leave_out freed master.log may good);
+      (writes-leave_out may good);
 }
   where
     by : (s : ℕ) (freed : List ℕ) → In s freed ⊎ In s (freed_in (frees_segments master.log (left_out master.log))) →
@@ -116,8 +107,8 @@ moves-shuts master may = record {
     by s freed (inl was) = In-left s freed (left_out master.log) was
     by s freed (inr is) = In-right s freed (left_out master.log) (freed-segments master.log (left_out master.log) s is)
 
-moves-counts : (log : Log) → Stays log (record log { durable = durable_now log })
-moves-counts log freed good = record {
+moves-counts : {log : Log} → Stays log (record log { durable = durable_now log })
+moves-counts {log} freed good = record {
   left_out = λ s at. out s (good.left_out s at);
   old_shut = good.old_shut;
   writing_shut = good.writing_shut;
@@ -129,31 +120,30 @@ moves-counts log freed good = record {
 
 moves-followed : Followed Moves
 moves-followed = record {
-  marks = λ master is. quiet master _ []
-      (stays-put master.log (master.log.head - 1) (record (old_head_of master.log) { shut = true }) refl (λ _. refl)) silent-none;
-  starts = λ master may. says master (with_log master (starts master.log)) _ (stays-starts master.log may) refl;
-  places = λ master may. quiet master (with_log master (closes_old master.log)) [] (stays-closes master.log) silent-none;
-  closes = λ master due. quiet master (with_log master (close_marked master.log)) _
-      (stays-put master.log (master.log.head - 1) (with_closes_sent (old_head_of master.log)) refl (λ e. e))
+  marks = λ master is. quiet
+      (stays-put (master.log.head - 1) (record (old_head_of master.log) { shut = true }) refl (λ _. refl)) silent-none;
+  starts = λ master may. says (stays-starts may) refl;
+  places = λ master may. quiet (stays-closes) silent-none;
+  closes = λ master due. quiet
+      (stays-put (master.log.head - 1) (with_closes_sent (old_head_of master.log)) refl (λ e. e))
       (silent-ids master.log.own
       (ids_of (filter (is_unclosed (old_head_of master.log)) (old_head_of master.log).config.members))
       (Close (master.log.head - 1) (length (old_head_of master.log).entries)) refl);
   shuts = moves-shuts;
-  commits = λ master seg open_one wants. says master (commits master seg).0 _
-      (stays-put master.log seg (record (master.log.segments seg) { commit_sent = true }) refl (λ e. e)) refl;
-  counts = λ master more. quiet master (with_log master (record master.log { durable = durable_now master.log }))
-      (write_oks master.log.own (new_durable master.log)) (moves-counts master.log)
+  commits = λ master seg open_one wants. says
+      (stays-put seg (record (master.log.segments seg) { commit_sent = true }) refl (λ e. e)) refl;
+  counts = λ master more. quiet (moves-counts)
       (silent-all _ (each-write_oks Frees master.log.own (new_durable master.log) (λ place _ _. refl)));
   rolls = moves-rolls;
-  replays = λ master entry entries is writing room. moves-appends master _ entry false refl;
-  answers = λ master term is. says master _ _ (stays-refl master.log) refl;
+  replays = λ master entry entries is writing room. moves-appends entry false refl;
+  answers = λ master term is. says (stays-refl) refl;
 }
 
 -- Whole steps
 
-pub takes-moves : (master : Master) (from : Addr) (body : Body) → Moves master (master_takes master from body)
-takes-moves master from body =
-    kept-takes Moves moves-joined moves-listed moves-followed master from body (moves-taken master from body)
+pub takes-moves : {master : Master} (from : Addr) (body : Body) → Moves master (master_takes master from body)
+takes-moves {master} from body =
+    kept-takes Moves moves-joined moves-listed moves-followed master from body (moves-taken)
 
 pub ticks-moves : (master : Master) → Moves master (master_ticks master)
 ticks-moves = kept-ticks Moves moves-joined moves-listed moves-followed moves-ticked

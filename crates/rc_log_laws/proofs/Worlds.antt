@@ -24,13 +24,13 @@ pub record Led (sent : List Message) (masters : ServerId → Master) (hosts : �
   pub good : Good sent_now masters_now hosts_now c_now
   pub onward : Onward sent masters hosts c sent_now masters_now hosts_now c_now
 
-pub good-onward : (sent : List Message) (masters : ServerId → Master) (hosts : ℕ → HostNode) (c : Coordinator)
-    (sent_now : List Message) (masters_now : ServerId → Master) (hosts_now : ℕ → HostNode) (c_now : Coordinator) →
+pub good-onward : {sent : List Message} {masters : ServerId → Master} {hosts : ℕ → HostNode} {c : Coordinator}
+    {sent_now : List Message} {masters_now : ServerId → Master} {hosts_now : ℕ → HostNode} {c_now : Coordinator} →
     Good sent masters hosts c → Onward sent masters hosts c sent_now masters_now hosts_now c_now →
     ((i : ℕ) → GoodHost sent_now masters_now i (hosts_now i)) → GoodCoordinator sent_now c_now →
     ((message : Message) → In message sent_now → In message sent ⊎ Fine sent_now masters_now hosts_now c_now message) →
     Led sent masters hosts c sent_now masters_now hosts_now c_now
-good-onward sent masters hosts c sent_now masters_now hosts_now c_now good w hosts_are coordinator new = record {
+good-onward {sent} {masters} {hosts} {c} {sent_now} {masters_now} {hosts_now} {c_now} good w hosts_are coordinator new = record {
   good = record {
     messages = λ message at. by message (new message at);
     masters_are = w.masters_are;
@@ -48,31 +48,30 @@ good-onward sent masters hosts c sent_now masters_now hosts_now c_now good w hos
 
 -- what nothing changes
 pub host_later-refl : (host : HostNode) → HostLater host host
-host_later-refl host = record { generation = omega arith; held = λ same m. held_later-refl (host.backup.held m) }
+host_later-refl host = record { generation = omega arith; held = λ same m. held_later-refl }
 
 pub coordinator_later-refl : (c : Coordinator) → CoordinatorLater c c
 coordinator_later-refl c = record {
-  attempts = λ number attempt numbered. attempt_later-refl c.attempts number attempt numbered;
-  crashed = (kept-refl c).crashed;
-  least = (kept-refl c).least;
-  least_stays = (kept-refl c).least_stays;
+  attempts = λ number attempt numbered. attempt_later-refl numbered;
+  crashed = (kept-refl {c = c}).crashed;
+  least = (kept-refl {c = c}).least;
+  least_stays = (kept-refl {c = c}).least_stays;
 }
 
 -- a host that doesn't move, of which nothing new is told
-pub host-still : (sent : List Message) (masters : ServerId → Master) (hosts : ℕ → HostNode) (c : Coordinator)
-    (sent_now : List Message) (masters_now : ServerId → Master) (hosts_now : ℕ → HostNode) (c_now : Coordinator) →
-    Good sent masters hosts c → Onward sent masters hosts c sent_now masters_now hosts_now c_now → (i : ℕ) →
+pub host-still : {sent : List Message} {masters : ServerId → Master} {hosts : ℕ → HostNode} {c : Coordinator}
+    {sent_now : List Message} {masters_now : ServerId → Master} {hosts_now : ℕ → HostNode} {c_now : Coordinator} →
+    Good sent masters hosts c → Onward sent masters hosts c sent_now masters_now hosts_now c_now → {i : ℕ} →
     ((g : ℕ) → masters_now (record { index = i; generation = g }) ≡ masters (record { index = i; generation = g })) →
     ((m x : ServerId) (s e len : ℕ) (closed : Bool) → x.index ≡ i →
     In (between x m (body.Stored s e len closed)) sent_now → In (between x m (body.Stored s e len closed)) sent) →
     GoodHost sent_now masters_now i (hosts i)
-host-still sent masters hosts c sent_now masters_now hosts_now c_now good w i same nothing = record {
+host-still {sent} {masters} {hosts} {c} {sent_now} {masters_now} {hosts_now} {c_now} good w {i} same nothing = record {
   index = was.index;
   own = was.own;
   runs = λ master e. at_server ∙ was.runs master e;
   unstarted = λ g above. same g ∙ was.unstarted g above;
-  held = λ m. held-later sent masters hosts c sent_now masters_now hosts_now c_now good w m i (hosts i).generation
-      ((hosts i).backup.held m) (λ x s e len closed on at. inl (nothing m x s e len closed on at)) (was.held m);
+  held = λ m. held-later sent masters hosts c sent_now masters_now hosts_now c_now good w (λ x s e len closed on at. inl (nothing m x s e len closed on at)) (was.held m);
 }
   where
     was : GoodHost sent masters i (hosts i)
@@ -106,14 +105,13 @@ module _ (sent messages : List Message) (masters : ServerId → Master) (hosts :
   granted-quiet m s e at = In-either (from_coordinator m (body.CommitOk s e)) sent messages at (λ there. inl there)
       (λ new. inr (grants m s e new))
 
-  pub onward-quiet : (hosts_now : ℕ → HostNode) → ((i : ℕ) → HostLater (hosts i) (hosts_now i)) →
+  pub onward-quiet : {hosts_now : ℕ → HostNode} → ((i : ℕ) → HostLater (hosts i) (hosts_now i)) →
       Onward sent masters hosts c (sent ++ messages) masters hosts_now c_now
-  onward-quiet hosts_now up = record {
+  onward-quiet up = record {
     more = more-quiet;
-    grown = λ m. unmoved-grown sent (sent ++ messages) m (masters m) (good.masters_are m) more-quiet (back-quiet m);
-    masters_are = λ m. unmoved-good sent (sent ++ messages) m (masters m) (good.masters_are m) more-quiet (back-quiet m);
-    own = λ m. unmoved-own sent (sent ++ messages) m (masters m) (good.masters_are m)
-        (own-fine sent masters hosts c good m) more-quiet (back-quiet m)
+    grown = λ m. unmoved-grown (good.masters_are m) more-quiet (back-quiet m);
+    masters_are = λ m. unmoved-good (good.masters_are m) more-quiet (back-quiet m);
+    own = λ m. unmoved-own (good.masters_are m) (own-fine good) more-quiet (back-quiet m)
         (λ x s e len closed at. inl (told-quiet x m s e len closed at));
     hosts_later = up;
     c_later = later;
@@ -124,14 +122,12 @@ module _ (sent messages : List Message) (masters : ServerId → Master) (hosts :
   pub good-quiet : GoodCoordinator (sent ++ messages) c_now →
       ((message : Message) → In message messages → Fine (sent ++ messages) masters hosts c_now message) →
       Led sent masters hosts c (sent ++ messages) masters hosts c_now
-  good-quiet coordinator fine =
-      good-onward sent masters hosts c (sent ++ messages) masters hosts c_now good onward
-      (λ i. host-still sent masters hosts c (sent ++ messages) masters hosts c_now good onward i (λ g. refl)
+  good-quiet coordinator fine = good-onward good onward (λ i. host-still good onward (λ g. refl)
       (λ m x s e len closed on at. told-quiet x m s e len closed at))
       coordinator (λ message at. by message (In-append message sent messages at))
     where
       onward : Onward sent masters hosts c (sent ++ messages) masters hosts c_now
-      onward = onward-quiet hosts (λ i. host_later-refl (hosts i))
+      onward = onward-quiet (λ i. host_later-refl (hosts i))
 
       by : (message : Message) → In message sent ⊎ In message messages →
           In message sent ⊎ Fine (sent ++ messages) masters hosts c_now message
@@ -140,11 +136,11 @@ module _ (sent messages : List Message) (masters : ServerId → Master) (hosts :
 
 -- The coordinator moves
 
-pub good-coordinator : (sent : List Message) (masters : ServerId → Master) (hosts : ℕ → HostNode) (c : Coordinator)
-    (after : Coordinator × List Message) → Good sent masters hosts c → CoordinatorMoved sent c after →
+pub good-coordinator : {sent : List Message} {masters : ServerId → Master} {hosts : ℕ → HostNode} {c : Coordinator}
+    {after : Coordinator × List Message} → Good sent masters hosts c → CoordinatorMoved sent c after →
     GrantsUp c after.1 →
     Led sent masters hosts c (sent ++ after.1) masters hosts after.0
-good-coordinator sent masters hosts c after good moved grants =
+good-coordinator {sent} {masters} {hosts} {c} {after} good moved grants =
     good-quiet sent after.1 masters hosts c after.0 good quiet moved.later grants moved.good
     (λ message at. fine message.from message.to message.body (moved.from message at) (moved.says message at))
   where

@@ -51,8 +51,7 @@ answered-copy setup events m y rows row was at = record {
 
     of_m : answer.master ≡ m
     of_m =
-        let same : answer.attempt.attempt ≡ is_of.attempt = numbered-same (replay setup events).coordinator.attempts was.number
-        answer.attempt.attempt is_of.attempt answer.attempt.numbered is_of.numbered in
+        let same : answer.attempt.attempt ≡ is_of.attempt = numbered-same answer.attempt.numbered is_of.numbered in
         sym answer.attempt.master_is ∙ (ap (λ (one : Attempt). one.master) same ∙ is_of.master_is)
 
 -- a replica is a copy

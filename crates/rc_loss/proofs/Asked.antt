@@ -97,9 +97,8 @@ AllNow world = (y m : ServerId) (number : ℕ) (rows : List Row) → IsOf world.
     rows ≡ rows_of_replicas (held_at world.hosts y.index m).replicas
 
 -- one attempt has one master
-one-master : (attempts : List Attempt) (number : ℕ) (a b : ServerId) → IsOf attempts number a → IsOf attempts number b → a ≡ b
-one-master attempts number a b p q =
-    sym p.master_is ∙ (ap (λ (one : Attempt). one.master) (numbered-same attempts number p.attempt q.attempt p.numbered q.numbered) ∙
+one-master : {attempts : List Attempt} {number : ℕ} {a b : ServerId} → IsOf attempts number a → IsOf attempts number b → a ≡ b
+one-master p q = sym p.master_is ∙ (ap (λ (one : Attempt). one.master) (numbered-same p.numbered q.numbered) ∙
     q.master_is)
 
 -- what a backup has just answered
@@ -108,9 +107,9 @@ record Answered (attempts : List Attempt) (number : ℕ) (rows : List Row) (back
   of : IsOf attempts number master
   rows_are : rows ≡ rows_of_replicas (backup.held master).replicas
 
-answer-said : (world : World) → GoodWorld world → (y : ServerId) (number : ℕ) (rows : List Row) →
+answer-said : {world : World} → GoodWorld world → {y : ServerId} {number : ℕ} {rows : List Row} →
     IsSaid world y AtCoordinator (Replicas number rows) (Answered world.coordinator.attempts number rows)
-answer-said world good y number rows = record {
+answer-said {world} good {y} {number} {rows} = record {
   not_enlist = λ never. differs never;
   no_master = λ sent sent_now n old log said. said;
   by_backup = λ i from heard given at. by i from heard given (answers-are (world.hosts i).backup y number rows from heard at);
@@ -121,19 +120,16 @@ answer-said world good y number rows = record {
 
     by : (i : ℕ) (from : Addr) (heard : Body) → In (record {
       from = from;
-      to = Server (server_of
-          (world.hosts i));
+      to = Server (server_of (world.hosts i));
       body = heard;
-    }) world.sent →
-        Answers y number rows heard (backup_takes (world.hosts i).backup from heard).0 →
+    }) world.sent → Answers y number rows heard (backup_takes (world.hosts i).backup from heard).0 →
         Answered world.coordinator.attempts number rows (backup_takes (world.hosts i).backup from heard).0
     by i from heard given a = record {
       master = a.master;
       of = good.messages (record { from = from; to = Server (server_of (world.hosts i)); body = Gather number a.master })
           (subst (λ (body : Body). In (record {
             from = from;
-            to = Server (server_of
-                (world.hosts i));
+            to = Server (server_of (world.hosts i));
             body = body;
           }) world.sent) a.asked given);
       rows_are = a.rows_are;
@@ -142,7 +138,7 @@ answer-said world good y number rows = record {
 now-step : (world : World) (one : Event) → GoodWorld world → AllNow world → AllNow (step world one)
 now-step world one good p y m number rows is_of at same =
     by (said-stands world one good y AtCoordinator (Replicas number rows) (Answered world.coordinator.attempts number rows)
-    (answer-said world good y number rows) at)
+    (answer-said good) at)
   where
     led : GoodStep world (step world one)
     led = led-step world one good
@@ -151,8 +147,7 @@ now-step world one good p y m number rows is_of at same =
     later : (n : ServerId) → IsOf world.coordinator.attempts number n → n ≡ m
     later n q = let up : AttemptLater (step world one).coordinator.attempts number q.attempt =
         led.onward.c_later.attempts number q.attempt q.numbered in
-        one-master (step world one).coordinator.attempts number n m
-        (record { attempt = up.now; numbered = up.numbered; master_is = up.master ∙ q.master_is }) is_of
+        one-master (record { attempt = up.now; numbered = up.numbered; master_is = up.master ∙ q.master_is }) is_of
 
     old : In (to_coordinator y (Replicas number rows)) world.sent → rows ≡ rows_of_replicas (held_at
         (step world one).hosts y.index m).replicas
@@ -168,7 +163,7 @@ now-step world one good p y m number rows is_of at same =
             let since = answer.since in
             let was : y.generation ≡ (world.hosts y.index).generation = omega (arith, up, since, same) in
             let still : ((step world one).hosts y.index).generation ≡ (world.hosts y.index).generation = sym same ∙ was in
-            let stays : StaysFenced (world.hosts y.index) ((step world one).hosts y.index) = stays-step world one y.index in
+            let stays : StaysFenced (world.hosts y.index) ((step world one).hosts y.index) = stays-step world one in
             let kept = stays.kept still answer.master (answer.fenced was) in
             subst (λ (n : ServerId). rows ≡ rows_of_replicas (held_at (step world one).hosts y.index n).replicas)
             (later answer.master answer.attempt)

@@ -29,14 +29,14 @@ use Rattle.rc_loss.proofs.Refusals.{refusals-mean-loss}
 -- Rows
 
 -- a replica that is found has its row
-row-in : (replicas : List (ℕ × Replica)) (s : ℕ) (replica : Replica) → replica_of s replicas ≡ Some replica →
+row-in : (replicas : List (ℕ × Replica)) (s : ℕ) {replica : Replica} → replica_of s replicas ≡ Some replica →
     In (row_of_replica (s, replica)) (rows_of_replicas replicas)
-row-in [] s replica e = cc
-row-in (one ∷ others) s replica e =
+row-in [] s e = cc
+row-in (one ∷ others) s {replica} e =
     either (λ (found : Option Replica). found ≡ Some replica → In (row_of_replica (s, replica)) (rows_of_replicas (one ∷ others)))
     (nat_eq s one.0) (Some one.1) (replica_of s others)
     (λ same here. inl (ap row_of_replica (pair s replica one (eqb-true s one.0 same) (inner one.1 here))))
-    (λ _ there. inr (row-in others s replica there)) e
+    (λ _ there. inr (row-in others s there)) e
   where
     inner : (other : Replica) → Some other ≡ Some replica → other ≡ replica
     inner other same = cc
@@ -66,8 +66,7 @@ held_rows-has (reply ∷ replies) y rows row (inr rest) among =
 -- who has answered has an answer there
 answer-of : (y : ServerId) (replies : List (ServerId × List Row)) → has_answered y replies ≡ true → (rows : List Row) × In (y, rows) replies
 answer-of y [] e = true_false (sym e)
-answer-of y (reply ∷ replies) e =
-    by (same_id y reply.0) refl (λ rest. answer-of y replies rest) e
+answer-of y (reply ∷ replies) e = by (same_id y reply.0) refl (λ rest. answer-of y replies rest) e
   where
     by : (b : Bool) → same_id y reply.0 ≡ b → (has_answered y replies ≡ true → (rows : List Row) × In (y, rows) replies) →
         (b || has_answered y replies) ≡ true → (rows : List Row) × In (y, rows) (reply ∷ replies)
@@ -95,25 +94,25 @@ plans-not fault number master decision (id ∷ ids) at =
     by parts (inr rest) rec = rec rest
 
 -- where a row is missing, no other refusal is meant
-other-fault : (fault other : Fault) → IsMissing fault → (code_of HeadMissing ≡ code_of other → ⊥) →
+other-fault : {fault : Fault} (other : Fault) → IsMissing fault → (code_of HeadMissing ≡ code_of other → ⊥) →
     ((t : ℕ) → code_of (SegmentMissing t) ≡ code_of other → ⊥) → In (coordinator_refuses fault) (coordinator_refuses other ∷ []) → ⊥
-other-fault fault other (inl is) head segment (inr never) = never
-other-fault fault other (inr is) head segment (inr never) = never
-other-fault fault other (inl is) head segment (inl same) =
+other-fault other (inl is) head segment (inr never) = never
+other-fault other (inr is) head segment (inr never) = never
+other-fault {fault} other (inl is) head segment (inl same) =
     head (ap code_of (sym is) ∙ refused (ap (λ (message : Message). message.body) same))
   where
     refused : Rattle.rc_types.specs.declared.messages.Body.TheVariants.Refused (code_of fault) ≡
         Rattle.rc_types.specs.declared.messages.Body.TheVariants.Refused (code_of other) → code_of fault ≡ code_of other
     refused e = cc
-other-fault fault other (inr (t, is)) head segment (inl same) =
+other-fault {fault} other (inr (t, is)) head segment (inl same) =
     segment t (ap code_of (sym is) ∙ refused (ap (λ (message : Message). message.body) same))
   where
     refused : Rattle.rc_types.specs.declared.messages.Body.TheVariants.Refused (code_of fault) ≡
         Rattle.rc_types.specs.declared.messages.Body.TheVariants.Refused (code_of other) → code_of fault ≡ code_of other
     refused e = cc
 
-not-ready : (fault : Fault) → IsMissing fault → In (coordinator_refuses fault) (coordinator_refuses NotReady ∷ []) → ⊥
-not-ready fault is = other-fault fault NotReady is (λ e. head e) (λ t e. segment t e)
+not-ready : {fault : Fault} → IsMissing fault → In (coordinator_refuses fault) (coordinator_refuses NotReady ∷ []) → ⊥
+not-ready is = other-fault NotReady is (λ e. head e) (λ t e. segment t e)
   where
     head : code_of HeadMissing ≡ code_of NotReady → ⊥
     head e = cc
@@ -121,8 +120,8 @@ not-ready fault is = other-fault fault NotReady is (λ e. head e) (λ t e. segme
     segment : (t : ℕ) → code_of (SegmentMissing t) ≡ code_of NotReady → ⊥
     segment t e = cc
 
-stale : (fault : Fault) → IsMissing fault → In (coordinator_refuses fault) (coordinator_refuses StaleAttempt ∷ []) → ⊥
-stale fault is = other-fault fault StaleAttempt is (λ e. head e) (λ t e. segment t e)
+stale : {fault : Fault} → IsMissing fault → In (coordinator_refuses fault) (coordinator_refuses StaleAttempt ∷ []) → ⊥
+stale is = other-fault StaleAttempt is (λ e. head e) (λ t e. segment t e)
   where
     head : code_of HeadMissing ≡ code_of StaleAttempt → ⊥
     head e = cc
@@ -134,7 +133,7 @@ stale fault is = other-fault fault StaleAttempt is (λ e. head e) (λ t e. segme
 with-refused : (c : Coordinator) (number : ℕ) (attempt : Attempt) (found : Result Plan Fault) (ids : List ServerId) (fault : Fault) →
     IsMissing fault → In (coordinator_refuses fault) (decides_with c number attempt found ids).1 → (other : Fault) × (found ≡ Err other)
 with-refused c number attempt (Err other) ids fault is at = (other, refl)
-with-refused c number attempt (Ok plan) [] fault is at = absurd (not-ready fault is at)
+with-refused c number attempt (Ok plan) [] fault is at = absurd (not-ready is at)
 with-refused c number attempt (Ok plan) (id ∷ ids) fault is at = absurd (plans-not fault number attempt.master _ (id ∷ ids) at)
 
 pick-refused : (c : Coordinator) (m : ServerId) (attempt : Attempt) (fault : Fault) → IsMissing fault →
@@ -149,13 +148,13 @@ pick-refused c m attempt fault is current at =
         (other : Fault) × (pick (c.least m) attempt.replies ≡ Err other)) (is_gathering attempt)
         (decides_with c (c.current m) attempt (pick (c.least m) attempt.replies) (ready_ids c)) (c, coordinator_refuses StaleAttempt ∷ [])
         (λ _ refused. with-refused c (c.current m) attempt (pick (c.least m) attempt.replies) (ready_ids c) fault is refused)
-        (λ _ never. absurd (stale fault is never)) there
+        (λ _ never. absurd (stale is never)) there
 
 -- All of it
 
 module _ (setup : Setup) (events : List Event) (m : ServerId) (all : AllHaveAnswered setup events m) where
   numbered : IsNumbered (replay setup events).coordinator.attempts ((replay setup events).coordinator.current m) all.attempt
-  numbered = numbered-at (replay setup events).coordinator ((replay setup events).coordinator.current m) all.attempt all.current
+  numbered = numbered-at (replay setup events).coordinator all.attempt all.current
 
   of_m : IsOf (replay setup events).coordinator.attempts ((replay setup events).coordinator.current m) m
   of_m = record {
@@ -195,12 +194,12 @@ module _ (setup : Setup) (events : List Event) (m : ServerId) (all : AllHaveAnsw
           held_rows-has all.attempt.replies (server_of ((replay setup events).hosts i)) rows (row_of_replica (s, replica)) at
           (subst (λ (list : List Row). In (row_of_replica (s, replica)) list)
           (sym (now ∙ ap (λ k. rows_of_replicas (held_after setup events k m).replicas) index))
-          (row-in (held_after setup events i m).replicas s replica kept))
+          (row-in (held_after setup events i m).replicas s kept))
 
   -- where the choice is refused
-  refused-gone : (fault : Fault) → WasReady (sent_after setup events) m →
+  refused-gone : {fault : Fault} → WasReady (sent_after setup events) m →
       pick ((replay setup events).coordinator.least m) all.attempt.replies ≡ Err fault → (s : ℕ) × IsGone setup events m s
-  refused-gone fault ready refused = refusals-mean-loss setup events m all.attempt.replies fault ready answers rows refused
+  refused-gone {fault} ready refused = refusals-mean-loss setup events m all.attempt.replies fault ready answers rows refused
 
   -- and where it isn't
   planned : WasReady (sent_after setup events) m → is_gathering all.attempt ≡ true →
@@ -213,8 +212,7 @@ module _ (setup : Setup) (events : List Event) (m : ServerId) (all : AllHaveAnsw
           pick ((replay setup events).coordinator.least m) all.attempt.replies ≡ found → ready_ids (replay setup events).coordinator ≡ ids →
           decides (replay setup events).coordinator m ≡
           decides_with (replay setup events).coordinator ((replay setup events).coordinator.current m) all.attempt found ids
-      decided found ids picked up =
-          ap (decides_attempt (replay setup events).coordinator m) all.current ∙
+      decided found ids picked up = ap (decides_attempt (replay setup events).coordinator m) all.current ∙
           (ap (λ (b : Bool). cond b (decides_with (replay setup events).coordinator
           ((replay setup events).coordinator.current m) all.attempt
           (pick ((replay setup events).coordinator.least m) all.attempt.replies) (ready_ids (replay setup events).coordinator))
@@ -227,7 +225,7 @@ module _ (setup : Setup) (events : List Event) (m : ServerId) (all : AllHaveAnsw
           (ids : List ServerId) → ready_ids (replay setup events).coordinator ≡ ids →
           IsPlanned (replay setup events).coordinator m all.attempt ⊎
           (IsNobodyReady (replay setup events).coordinator m ⊎ ((s : ℕ) × IsGone setup events m s))
-      by (Err fault) picked ids up = inr (inr (refused-gone fault ready picked))
+      by (Err fault) picked ids up = inr (inr (refused-gone ready picked))
       by (Ok plan) picked [] up = inr (inl (record { nobody = up; refused = decided (Ok plan) [] picked up }))
       by (Ok plan) picked (id ∷ ids) up = inl (record {
         plan = plan;
@@ -243,8 +241,7 @@ module _ (setup : Setup) (events : List Event) (m : ServerId) (all : AllHaveAnsw
       })
 
 pub refused-decides-mean-loss : RefusedDecidesMeanLoss
-refused-decides-mean-loss setup events m ready all decided =
-    refused-gone setup events m all refused.0 ready refused.1
+refused-decides-mean-loss setup events m ready all decided = refused-gone setup events m all ready refused.1
   where
     refused : (other : Fault) × (pick ((replay setup events).coordinator.least m) all.attempt.replies ≡ Err other)
     refused = pick-refused (replay setup events).coordinator m all.attempt decided.fault decided.missing all.current decided.refused

@@ -27,17 +27,17 @@ master-of None e = true_false (sym e)
 master-of (Some master) e = (master, refl)
 
 -- as long as it holds
-long-enough : (len n : ℕ) → len ≡ n → nat_le len n ≡ true
-long-enough len n same = le-leb len n (omega (arith, same))
+long-enough : {len n : ℕ} → len ≡ n → nat_le len n ≡ true
+long-enough {len} {n} same = le-leb len n (omega (arith, same))
 
 -- who runs, has fenced the master, and has a replica that is long enough, answers
-answers : (host : HostNode) (asker m holder : ServerId) (number seg len : ℕ) (part : Part) (replica : Replica) (master : Master) →
+answers : (host : HostNode) {asker m holder : ServerId} {number seg : ℕ} (len : ℕ) (part : Part) {replica : Replica} {master : Master} →
     host.master ≡ Some master → is_server (server_of host) (Server holder) ≡ true → host.backup.own ≡ holder →
     (host.backup.held m).fenced ≡ true → replica_of seg (host.backup.held m).replicas ≡ Some replica →
     nat_le len (length replica.entries) ≡ true →
     (host_step host (Deliver (between asker holder (Fetch number m seg len part)))).1 ≡
     between holder asker (Data number seg part.term (filter (is_in_part part) (take len replica.entries))) ∷ []
-answers host asker m holder number seg len part replica master running here own fenced kept enough =
+answers host {asker} {m} {holder} {number} {seg} len part {replica} {master} running here own fenced kept enough =
     ap (λ (found : Option Master). (takes_if_running host found (between asker holder (Fetch number m seg len part))).1) running
     ∙ (ap (λ (b : Bool). (cond b (server_takes host master (between asker holder (Fetch number m seg len part))) (host, [])).1) here
     ∙ (ap (λ (found : Option Replica). answers_fetch host.backup asker m (data_of number seg len part found)) kept
@@ -64,8 +64,7 @@ module _ (setup : Setup) (events : List Event) (number : ℕ) (m : ServerId) (ro
 
   -- its row is one of an answer
   picked : IsPicked ((replay setup events).coordinator.least plan.attempt.master) plan.attempt.replies plan.decision.plan
-  picked = picked-is ((replay setup events).coordinator.least plan.attempt.master) plan.attempt.replies plan.decision.plan
-      ((good.coordinator.attempts number plan.attempt plan.numbered).picked plan.decision plan.decided)
+  picked = picked-is ((good.coordinator.attempts number plan.attempt plan.numbered).picked plan.decision plan.decided)
 
   taken : IsTaken ((replay setup events).coordinator.least plan.attempt.master) plan.attempt.replies row
   taken = picked.each row (subst (λ (one : Plan). In row one.rows) (sym plan.plan_is) p.among)
@@ -86,8 +85,8 @@ module _ (setup : Setup) (events : List Event) (number : ℕ) (m : ServerId) (ro
   last : server_of host ≡ row.holder
   last = same_id-true (server_of host) row.holder parts.1
 
-  same : (id : ServerId) → row.holder ≡ id → id.generation ≡ ((replay setup events).hosts id.index).generation
-  same id is = subst (λ (one : ServerId). one.generation ≡ ((replay setup events).hosts one.index).generation) is
+  same : {id : ServerId} → row.holder ≡ id → id.generation ≡ ((replay setup events).hosts id.index).generation
+  same is = subst (λ (one : ServerId). one.generation ≡ ((replay setup events).hosts one.index).generation) is
       (sym (ap (λ (one : ServerId). one.generation) last))
 
   -- what it has answered it still has
@@ -97,19 +96,18 @@ module _ (setup : Setup) (events : List Event) (number : ℕ) (m : ServerId) (ro
 
   its_master : answer.master ≡ m
   its_master =
-      let one : answer.attempt.attempt ≡ of_m.attempt = numbered-same (replay setup events).coordinator.attempts number
-      answer.attempt.attempt of_m.attempt answer.attempt.numbered of_m.numbered in
+      let one : answer.attempt.attempt ≡ of_m.attempt = numbered-same answer.attempt.numbered of_m.numbered in
       sym answer.attempt.master_is ∙ (ap (λ (some : Attempt). some.master) one ∙ of_m.master_is)
 
   fenced : (host.backup.held m).fenced ≡ true
   fenced = subst (λ (n : ServerId). (host.backup.held n).fenced ≡ true) its_master
       (subst (λ (id : ServerId). (held_at (replay setup events).hosts id.index answer.master).fenced ≡ true) (sym holder)
-      (answer.fenced (same taken.held.holder holder)))
+      (answer.fenced (same holder)))
 
   now : taken.answered.rows ≡ rows_of_replicas (host.backup.held m).replicas
   now = subst (λ (id : ServerId). taken.answered.rows ≡ rows_of_replicas (held_at (replay setup events).hosts id.index m).replicas)
       (sym holder)
-      (answers-are-now setup events taken.held.holder m number taken.answered.rows of_m sent (same taken.held.holder holder))
+      (answers-are-now setup events taken.held.holder m number taken.answered.rows of_m sent (same holder))
 
   found : (replica : Replica) × (replica_of taken.held.row.seg (host.backup.held m).replicas ≡ Some replica) ×
       (taken.held.row ≡ row_of_replica (taken.held.row.seg, replica))
@@ -122,16 +120,16 @@ module _ (setup : Setup) (events : List Event) (number : ℕ) (m : ServerId) (ro
   len : row.len ≡ length found.0.entries
   len = ap (λ (one : PlanRow). one.len) taken.row_is ∙ ap (λ (one : Row). one.len) found.2
 
-  its-data : (asker : ServerId) (part : Part) → HasItsData host asker number m row part
-  its-data asker part =
+  its-data : {asker : ServerId} {part : Part} → HasItsData host asker number m row part
+  its-data {part} =
       let one : (master : Master) × (host.master ≡ Some master) = master-of host.master parts.0 in
       record {
         replica = found.0;
         kept = kept;
         whole = len;
-        answer = answers host asker m row.holder number row.seg row.len part found.0 one.0 one.1 parts.1
-            ((good.hosts_are row.holder.index).own ∙ last) fenced kept (long-enough row.len (length found.0.entries) len);
+        answer = answers host row.len part one.1 parts.1
+            ((good.hosts_are row.holder.index).own ∙ last) fenced kept (long-enough len);
       }
 
 pub fetches-are-answered : FetchesAreAnswered
-fetches-are-answered setup events number m row p running asker part = its-data setup events number m row p running asker part
+fetches-are-answered setup events number m row p running asker part = its-data setup events number m row p running

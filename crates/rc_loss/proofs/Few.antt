@@ -32,8 +32,7 @@ one-less n (k ∷ ks) at =
 
 others-stay : (n j : ℕ) (ks : List ℕ) → (n ≡ j → ⊥) → In j ks → In j (without n ks)
 others-stay n j [] differs at = absurd at
-others-stay n j (k ∷ ks) differs at =
-    either (λ (all : List ℕ). In j all) (nat_eq n k) ks (k ∷ without n ks)
+others-stay n j (k ∷ ks) differs at = either (λ (all : List ℕ). In j all) (nat_eq n k) ks (k ∷ without n ks)
     (λ is. by (eqb-true n k is) at) (λ _. further (others-stay n j ks differs) at)
   where
     by : n ≡ k → (j ≡ k) ⊎ In j ks → In j ks
@@ -84,7 +83,7 @@ not-gone setup events m s hosts few on gone =
     was-not : (before : List Event) → Begins before events → ((log_of setup before m).segments s).shut ≡ true → ⊥
     was-not before (rest, same) is =
         true_false (sym (subst (λ (all : List Event). ((log_of setup all m).segments s).shut ≡ true) same
-        ((since-more setup before rest m).later.shut s is).0) ∙ gone.unshut)
+        ((since-more setup before rest).later.shut s is).0) ∙ gone.unshut)
 
     unshut : ((log_of setup gone.placed.before m).segments s).shut ≡ false
     unshut = split ((log_of setup gone.placed.before m).segments s).shut
@@ -100,7 +99,7 @@ few-drops-are-no-loss setup events m replies fault ready answers all_rows hosts 
 
 pub few-missing-are-no-loss : FewMissingAreNoLoss
 few-missing-are-no-loss setup events m replies fault ready answers hosts few rows on refused =
-    by (refused-gone setup events m hosts replies answers rows fault ready refused)
+    by (refused-gone setup events m hosts replies answers rows ready refused)
   where
     by : Refusal setup events m hosts replies answers rows fault → ⊥
     by (inl (s, gone)) = not-gone setup events m s (hosts s) (few s) (λ x e. on x s e) gone

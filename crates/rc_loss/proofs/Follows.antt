@@ -46,18 +46,18 @@ old_above : (log : Log) → has_old_head log ≡ true → 1 < log.head
 old_above log e = ltb-true 1 log.head e
 
 -- what a closing message of the master claims
-closed-claims : (next : ℕ → Type 0) (ready : Type 0) (placed : ℕ → ℕ → Type 0) (body : Body) (s : ℕ) → closed_by body ≡ Some s →
+closed-claims : (next : ℕ → Type 0) (ready : Type 0) (placed : ℕ → ℕ → Type 0) (body : Body) {s : ℕ} → closed_by body ≡ Some s →
     Claims next ready placed body → next s
-closed-claims next ready placed (body.Place t e digest entries true) s is claim =
+closed-claims next ready placed (body.Place t e digest entries true) {s} is claim =
     let same : t ≡ s = cc in subst next same (claim refl)
-closed-claims next ready placed (body.Place t e digest entries false) s is claim = cc
-closed-claims next ready placed (body.Close t len) s is claim = let same : t ≡ s = cc in subst next same claim
-closed-claims next ready placed _ s is claim = cc
+closed-claims next ready placed (body.Place t e digest entries false) is claim = cc
+closed-claims next ready placed (body.Close t len) {s} is claim = let same : t ≡ s = cc in subst next same claim
+closed-claims next ready placed _ is claim = cc
 
-pub closed-next : (f : ℕ) (W : ℕ → ℕ → Type 0) (sent : List Message) (m : ServerId) (log : Log) (s : ℕ) →
+pub closed-next : {f : ℕ} (W : ℕ → ℕ → Type 0) {sent : List Message} {m : ServerId} {log : Log} {s : ℕ} →
     Placings f W sent m log → HasClosed sent m s → IsNext f log.head log.phase s
-closed-next f W sent m log s p c =
-    closed-claims (IsNext f log.head log.phase) (Some_placed W 1) W c.message.body s c.says (p.said c.message c.among c.from)
+closed-next {f} W {log} p c =
+    closed-claims (IsNext f log.head log.phase) (Some_placed W 1) W c.message.body c.says (p.said c.message c.among c.from)
 
 -- some member of a list that isn't none
 pub some-member : (members : List Member) → 0 < length members → (member : Member) × In member members
@@ -82,40 +82,37 @@ module _ (f : ℕ) (W : ℕ → ℕ → Type 0) (m : ServerId) where
         (q.leads (sent ++ first) now (p.leads sent (λ s e placed. now s e (q.keeps s e placed)) good));
   }
 
-  follows-by : (old new : Master) (messages : List Message) → ((s e : ℕ) → PlacedNow old.log s e → PlacedNow new.log s e) →
+  follows-by : {old new : Master} {messages : List Message} → ((s e : ℕ) → PlacedNow old.log s e → PlacedNow new.log s e) →
       ((sent : List Message) → NowIn new.log → Placings f W sent m old.log → Placings f W sent m new.log) →
       ((sent : List Message) → NowIn new.log → Placings f W sent m old.log → Placings f W sent m new.log →
       AllClaim f W new.log messages) → Follows old (new, messages)
-  follows-by old new messages keeps change claim = record {
+  follows-by {messages} keeps change claim = record {
     keeps = keeps;
-    leads = λ sent now good. placings-say f W sent messages m new.log (claim sent now good (change sent now good)) (change sent now good);
+    leads = λ sent now good. placings-say W messages (claim sent now good (change sent now good)) (change sent now good);
   }
 
-  follows-same : (old new : Master) (messages : List Message) → new.log ≡ old.log → ((log : Log) → AllClaim f W log messages) →
+  follows-same : {old new : Master} {messages : List Message} → new.log ≡ old.log → ((log : Log) → AllClaim f W log messages) →
       Follows old (new, messages)
-  follows-same old new messages same quiet =
-      follows-by old new messages (λ s e placed. subst (λ (log : Log). PlacedNow log s e) (sym same) placed)
+  follows-same {new} same quiet = follows-by (λ s e placed. subst (λ (log : Log). PlacedNow log s e) (sym same) placed)
       (λ sent now good. subst (Placings f W sent m) (sym same) good) (λ sent now good _. quiet new.log)
 
   pub follows-joined : Joined Follows
-  follows-joined = record { still = λ master. follows-same master master [] refl (λ log message none. absurd none); both = follows-both }
+  follows-joined = record { still = λ master. follows-same refl (λ log message none. absurd none); both = follows-both }
 
   -- a segment is marked
-  follows-alike : (old : Master) (seg : ℕ) (segment : Segment) (messages : List Message) →
+  follows-alike : {old : Master} (seg : ℕ) (segment : Segment) {messages : List Message} →
       segment.config ≡ (old.log.segments seg).config → segment.shut ≡ (old.log.segments seg).shut →
       segment.commit_sent ≡ (old.log.segments seg).commit_sent →
       ((sent : List Message) → Placings f W sent m old.log → AllClaim f W (with_segment seg segment old.log) messages) →
       Follows old (with_log old (with_segment seg segment old.log), messages)
-  follows-alike old seg segment messages config shut marked claim =
-      follows-by old (with_log old (with_segment seg segment old.log)) messages (kept-put old.log seg segment config)
-      (λ sent now good. alike-put f W sent m old.log seg segment good config shut marked) (λ sent now good _. claim sent good)
+  follows-alike seg segment config shut marked claim = follows-by (kept-put seg segment config)
+      (λ sent now good. alike-put f W sent m segment good config shut marked) (λ sent now good _. claim sent good)
 
   -- the old head is shut: a member of it has told closed, so the new head was placed
   follows-marks : (master : Master) → shuts master.log ≡ true →
       Follows master (with_log master (with_segment (master.log.head - 1) (record (old_head_of master.log) { shut = true }) master.log), [])
-  follows-marks master e =
-      follows-by master (with_log master (with_segment (log.head - 1) (record old { shut = true }) log)) []
-      (kept-put log (log.head - 1) (record old { shut = true }) refl) change (λ sent now good _ message none. absurd none)
+  follows-marks master e = follows-by
+      (kept-put (log.head - 1) (record old { shut = true }) refl) change (λ sent now good _ message none. absurd none)
     where
       log : Log
       log = master.log
@@ -135,7 +132,7 @@ module _ (f : ℕ) (W : ℕ → ℕ → Type 0) (m : ServerId) where
 
       change : (sent : List Message) → NowIn (with_segment (log.head - 1) (record old { shut = true }) log) →
           Placings f W sent m log → Placings f W sent m (with_segment (log.head - 1) (record old { shut = true }) log)
-      change sent now good = placings-put f W sent m log (log.head - 1) (record old { shut = true }) good (record {
+      change sent now good = placings-put W good (record {
         many = (good.each (log.head - 1)).many;
         known = (good.each (log.head - 1)).known;
         next = λ _. by (positive f);
@@ -154,7 +151,7 @@ module _ (f : ℕ) (W : ℕ → ℕ → Type 0) (m : ServerId) where
 
           next_of : (member : Member) × In member old.config.members → IsNext f log.head log.phase (log.head - 1)
           next_of (member, at) =
-              closed-next f W sent m log (log.head - 1) good (((good.each (log.head - 1)).known member at).closed (told_so member at))
+              closed-next W good (((good.each (log.head - 1)).known member at).closed (told_so member at))
 
           positive : (n : ℕ) → (n ≡ 0) ⊎ (0 < n)
           positive n = grind arith
@@ -165,10 +162,8 @@ module _ (f : ℕ) (W : ℕ → ℕ → Type 0) (m : ServerId) where
 
   follows-starts : (master : Master) → may_start master.log ≡ true →
       Follows master (with_log master (starts master.log), to_coordinator master.log.own Ready ∷ [])
-  follows-starts master e =
-      follows-by master (with_log master (starts master.log)) (to_coordinator master.log.own Ready ∷ [])
-      (placed-kept master.log (starts master.log) (omega arith) (λ s _. refl))
-      (λ sent now good. phase-put f W sent m master.log Writing writing-opening (omega (arith, first), (epoch, placed now)) good)
+  follows-starts master e = follows-by (placed-kept (omega arith) (λ s _. refl))
+      (λ sent now good. phase-put f W sent m writing-opening (omega (arith, first), (epoch, placed now)) good)
       (λ sent now good _. each-one _ _ (epoch, subst (λ n. W n epoch) first (placed now)))
     where
       both : (is_opening master.log.phase ≡ true) × ((nat_eq master.log.head 1 && is_ready (head_of master.log)) ≡ true)
@@ -189,10 +184,8 @@ module _ (f : ℕ) (W : ℕ → ℕ → Type 0) (m : ServerId) where
       })
 
   follows-places : (master : Master) → may_close master.log ≡ true → Follows master (with_log master (closes_old master.log), [])
-  follows-places master e =
-      follows-by master (with_log master (closes_old master.log)) []
-      (placed-kept master.log (closes_old master.log) (omega arith) (λ s _. refl))
-      (λ sent now good. phase-put f W sent m master.log Closing closing-opening (omega (arith, has_old), (epoch, placed now)) good)
+  follows-places master e = follows-by (placed-kept (omega arith) (λ s _. refl))
+      (λ sent now good. phase-put f W sent m closing-opening (omega (arith, has_old), (epoch, placed now)) good)
       (λ sent now good _ message none. absurd none)
     where
       both : (has_old_head master.log ≡ true) × (all_placed (head_of master.log).config ≡ true)
@@ -218,7 +211,7 @@ module _ (f : ℕ) (W : ℕ → ℕ → Type 0) (m : ServerId) where
     to_ids master.log.own (unclosed master.log) (Close (master.log.head - 1) (length (old_head_of master.log).entries)),
   )
   follows-closes master e =
-      follows-alike master (master.log.head - 1) (with_closes_sent (old_head_of master.log)) _ refl refl refl
+      follows-alike (master.log.head - 1) (with_closes_sent (old_head_of master.log)) refl refl refl
       (λ sent good. each-to_ids _ master.log.own (unclosed master.log)
       (Close (master.log.head - 1) (length (old_head_of master.log).entries))
       (λ id _. inr (omega (arith, has_old), λ some. closing-is master.log.phase both.0)))
@@ -232,24 +225,21 @@ module _ (f : ℕ) (W : ℕ → ℕ → Type 0) (m : ServerId) where
       has_old = old_above master.log (and_parts (has_old_head master.log)
           ((old_head_of master.log).config.committed && has_unclosed (old_head_of master.log)) both.1).0
 
-  freed-put : (segs : List ℕ) (sent : List Message) (log : Log) → Placings f W sent m log → Placings f W sent m (with_freed segs log)
-  freed-put [] sent log p = p
-  freed-put (seg ∷ segs) sent log p = freed-put segs sent (with_segment seg (record (log.segments seg) { freed = true }) log)
-      (alike-put f W sent m log seg (record (log.segments seg) { freed = true }) p refl refl refl)
+  freed-put : (segs : List ℕ) {sent : List Message} {log : Log} → Placings f W sent m log → Placings f W sent m (with_freed segs log)
+  freed-put [] p = p
+  freed-put (seg ∷ segs) {sent} {log} p = freed-put segs
+      (alike-put f W sent m (record (log.segments seg) { freed = true }) p refl refl refl)
 
-  freed-kept : (segs : List ℕ) (log : Log) (s e : ℕ) → PlacedNow log s e → PlacedNow (with_freed segs log) s e
-  freed-kept [] log s e p = p
-  freed-kept (seg ∷ segs) log s e p = freed-kept segs (with_segment seg (record (log.segments seg) { freed = true }) log) s e
-      (kept-put log seg (record (log.segments seg) { freed = true }) refl s e p)
+  freed-kept : (segs : List ℕ) {log : Log} {s e : ℕ} → PlacedNow log s e → PlacedNow (with_freed segs log) s e
+  freed-kept [] p = p
+  freed-kept (seg ∷ segs) {log} {s} {e} p = freed-kept segs
+      (kept-put seg (record (log.segments seg) { freed = true }) refl s e p)
 
   follows-shuts : (master : Master) → may_write master.log ≡ true →
       Follows master (with_log master (writes_on master.log), frees_segments master.log (left_out master.log))
-  follows-shuts master e =
-      follows-by master (with_log master (writes_on master.log)) (frees_segments master.log (left_out master.log))
-      (λ s n placed. freed-kept (left_out master.log) (record master.log { phase = Writing }) s n
-      (placed-kept master.log (record master.log { phase = Writing }) (omega arith) (λ t _. refl) s n placed))
-      (λ sent now good. freed-put (left_out master.log) sent (record master.log { phase = Writing })
-      (phase-put f W sent m master.log Writing writing-opening (good.head_placed (closing-is master.log.phase was)) good))
+  follows-shuts master e = follows-by (λ s n placed. freed-kept (left_out master.log)
+      (placed-kept (omega arith) (λ t _. refl) s n placed)) (λ sent now good. freed-put (left_out master.log)
+      (phase-put f W sent m writing-opening (good.head_placed (closing-is master.log.phase was)) good))
       (λ sent now good _. each-frees _ master.log (left_out master.log) (λ seg id _. tt))
     where
       was : is_closing master.log.phase ≡ true
@@ -257,16 +247,14 @@ module _ (f : ℕ) (W : ℕ → ℕ → Type 0) (m : ServerId) where
 
   follows-commits : (master : Master) (seg : ℕ) → first_open master.log ≡ Some seg →
       wants_commit (master.log.segments seg) ≡ true → Follows master (commits master seg)
-  follows-commits master seg found wants =
-      follows-by master (commits master seg).0 (commits master seg).1 (kept-put log seg marked refl)
-      (λ sent now good. placings-put f W sent m log seg marked good (record {
+  follows-commits master seg found wants = follows-by (kept-put seg marked refl)
+      (λ sent now good. placings-put W good (record {
         many = (good.each seg).many;
         known = (good.each seg).known;
         next = (good.each seg).next;
         shut = (good.each seg).shut;
         asked = λ _. placed now;
-      }))
-      (λ sent now good _. each-one _ _ (placed now))
+      })) (λ sent now good _. each-one _ _ (placed now))
     where
       log : Log
       log = master.log
@@ -275,10 +263,10 @@ module _ (f : ℕ) (W : ℕ → ℕ → Type 0) (m : ServerId) where
       marked = record (log.segments seg) { commit_sent = true }
 
       opened : (0 < seg) × (seg ≤ log.head)
-      opened = numbers-In seg log.head (find-one (λ s. not (log.segments s).shut) (numbers_to log.head) seg found).0
+      opened = numbers-In seg log.head (find-one (λ s. not (log.segments s).shut) (numbers_to log.head) found).0
 
       placed : NowIn (with_segment seg marked log) → W seg (log.segments seg).config.epoch
-      placed now = now seg (log.segments seg).config.epoch (kept-put log seg marked refl seg (log.segments seg).config.epoch (record {
+      placed now = now seg (log.segments seg).config.epoch (kept-put seg marked refl seg (log.segments seg).config.epoch (record {
         opened = record { above = opened.0; below = opened.1 };
         placed = (and_parts (all_placed (log.segments seg).config) (not (log.segments seg).commit_sent)
             (and_parts (not (log.segments seg).config.committed) (all_placed (log.segments seg).config && not
@@ -287,13 +275,11 @@ module _ (f : ℕ) (W : ℕ → ℕ → Type 0) (m : ServerId) where
       }))
 
   follows-rolls : (master : Master) → Rolls Follows master
-  follows-rolls master ids writing room chosen =
-      follows-by master (with_log master (opens_head master.log (next_digest master.log (dead_segments master)) ids)) _
-      (kept-opens master.log (next_digest master.log (dead_segments master)) ids)
-      (λ sent now good. opens-put f W sent m master.log (next_digest master.log (dead_segments master)) ids
+  follows-rolls master ids writing room chosen = follows-by
+      (kept-opens (next_digest master.log (dead_segments master)) ids)
+      (λ sent now good. opens-put f W sent m (next_digest master.log (dead_segments master)) ids
       (choose-length (master.log.head + 1) master.log.own master.log.factor master.known ids chosen ∙ good.factor)
-      (inl (writing-is master.log.phase writing)) good)
-      (λ sent now good _. each-to_ids _ master.log.own _
+      (inl (writing-is master.log.phase writing)) good) (λ sent now good _. each-to_ids _ master.log.own _
       (place_of (opens_head master.log (next_digest master.log (dead_segments master)) ids) (master.log.head + 1) false)
       (λ id _ never. true_false (sym never)))
 
@@ -305,19 +291,15 @@ module _ (f : ℕ) (W : ℕ → ℕ → Type 0) (m : ServerId) where
     closes = follows-closes;
     shuts = follows-shuts;
     commits = follows-commits;
-    counts = λ master more. follows-by master (with_log master (record master.log { durable = durable_now master.log })) _
-        (placed-kept master.log (record master.log { durable = durable_now master.log }) (omega arith) (λ s _. refl))
-        (λ sent now good. counted-put f W sent m master.log (durable_now master.log) good)
+    counts = λ master more. follows-by (placed-kept (omega arith) (λ s _. refl))
+        (λ sent now good. counted-put f W sent m good)
         (λ sent now good _. each-write_oks _ master.log.own (new_durable master.log) (λ place _ _. tt));
     rolls = follows-rolls;
     replays = λ master entry entries is writing room. follows-both master (record master { ownership = after_replay master.ownership }) []
         (appends_entry (record master { ownership = after_replay master.ownership }) entry false)
-        (follows-same master (record master { ownership = after_replay master.ownership }) [] refl (λ log message none. absurd none))
-        (follows-alike (record master { ownership = after_replay master.ownership }) master.log.head
-        (with_entry entry false (head_of master.log)) _ refl refl refl
+        (follows-same refl (λ log message none. absurd none)) (follows-alike master.log.head
+        (with_entry entry false (head_of master.log)) refl refl refl
         (λ sent good. each-to_ids _ master.log.own (ids_of (not_lost (head_of master.log).config.members))
         (Append master.log.head (length (head_of master.log).entries) (entry ∷ [])) (λ id _. tt)));
-    answers = λ master term is. follows-same master
-        (record master { ownership = after_answer (durable_replayed master) master.ownership })
-        (to_coordinator master.log.own (Recovered (attempt_of term master.tasks) term) ∷ []) refl (λ log. each-one _ _ tt);
+    answers = λ master term is. follows-same refl (λ log. each-one _ _ tt);
   }

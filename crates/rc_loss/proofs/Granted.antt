@@ -52,26 +52,26 @@ parts-joined = record {
 parts-listed : Listed SameParts
 parts-listed = record {
   replaces = λ master seg ids isn't. record {
-    places = (same-loses master.known seg master.log).places;
-    durable = (same-loses master.known seg master.log).durable;
+    places = (same-loses master.known seg {log = master.log}).places;
+    durable = (same-loses master.known seg {log = master.log}).durable;
     ownership = refl;
     tasks = refl;
   };
   opens = λ master ids none chosen. record {
-    places = (same-opens master.log (1 ∷ []) ids).places;
-    durable = (same-opens master.log (1 ∷ []) ids).durable;
+    places = (same-opens {log = master.log} (1 ∷ []) ids).places;
+    durable = (same-opens {log = master.log} (1 ∷ []) ids).durable;
     ownership = refl;
     tasks = refl;
   };
 }
 
-same-obeyed : (master : Master) → SameParts master (obeys_list master)
-same-obeyed master = kept-obeys SameParts parts-joined parts-listed master
+same-obeyed : {master : Master} → SameParts master (obeys_list master)
+same-obeyed {master} = kept-obeys SameParts parts-joined parts-listed master
 
 -- so the same parts await their grant
 same-awaits : (master : Master) (state : PartState) → awaits_grant (obeys_list master).0 state ≡ awaits_grant master state
 same-awaits master state =
-    let same : SameParts master (obeys_list master) = same-obeyed master in
+    let same : SameParts master (obeys_list master) = same-obeyed in
     let after : Master = (obeys_list master).0 in
     ap (λ (places : List LogPlace). is_complete (replayed_at (take after.log.durable places)) state
     && not (owns_term after.ownership state.part.term)) same.places
@@ -92,8 +92,7 @@ again master state among awaits =
 
 in-reminds : (before : Log) (master : Master) (message : Message) → In message (recovered_again master) →
     In message (reminds before master).1
-in-reminds before master message among =
-    In-left message
+in-reminds before master message among = In-left message
     (reminds_open before master.log (numbers_to master.log.head) ++ reminds_shut before master.log (numbers_to master.log.head)
     ++ commits_again master.log ++ fetches_again master master.tasks ++ recovered_again master) (ready_again master)
     (In-right message
@@ -109,7 +108,7 @@ module _ (master : Master) (state : PartState) where
   message = to_coordinator master.log.own (Recovered (attempt_of state.part.term master.tasks) state.part.term)
 
   same : SameParts master (obeys_list master)
-  same = same-obeyed master
+  same = same-obeyed
 
   told-again : In state master.ownership.parts → awaits_grant master state ≡ true → In message (recovered_again after)
   told-again among awaits = subst (λ (one : Message). In one (recovered_again after))

@@ -34,21 +34,21 @@ pub record IsStart (world : World) (one : Event) (i : ℕ) (after : World) : Typ
   pub says : after.sent ≡ world.sent ++ to_coordinator (next_server (world.hosts i)) Enlist ∷ []
 
 -- two jobs that are one have one node and one work
-same-job : (a b : Job) → Some a ≡ Some b → a ≡ b
-same-job a b e = cc
+same-job : {a b : Job} → Some a ≡ Some b → a ≡ b
+same-job e = cc
 
-same-work : (a b : Job) → Some a ≡ Some b → a.work ≡ b.work
-same-work a b e = ap (λ (job : Job). job.work) (same-job a b e)
+same-work : {a b : Job} → Some a ≡ Some b → a.work ≡ b.work
+same-work e = ap (λ (job : Job). job.work) (same-job e)
 
-same-node : (a b : Job) → Some a ≡ Some b → a.node ≡ b.node
-same-node a b e = ap (λ (job : Job). job.node) (same-job a b e)
+same-node : {a b : Job} → Some a ≡ Some b → a.node ≡ b.node
+same-node e = ap (λ (job : Job). job.node) (same-job e)
 
 abbrev starting : ℕ → List (ServerId × ℕ) → Job
 starting i kept = record { node = TheHost i; work = Start kept }
 
-same-start : (index i : ℕ) (list kept : List (ServerId × ℕ)) → TheHost index ≡ TheHost i → Start list ≡ Start kept →
+same-start : {index i : ℕ} {list kept : List (ServerId × ℕ)} → TheHost index ≡ TheHost i → Start list ≡ Start kept →
     event.Start index list ≡ event.Start i kept
-same-start index i list kept nodes works = (let a : index ≡ i = cc in let b : list ≡ kept = cc in both a b)
+same-start {index} {i} {list} {kept} nodes works = (let a : index ≡ i = cc in let b : list ≡ kept = cc in both a b)
   where
     both : index ≡ i → list ≡ kept → event.Start index list ≡ event.Start i kept
     both p q j = event.Start (p j) (q j)
@@ -58,16 +58,15 @@ is_start (Start kept) = true
 is_start _ = false
 
 -- only a Start gives a host the work to start
-start-work : (sent : List Message) (one : Event) (i : ℕ) (kept : List (ServerId × ℕ)) →
+start-work : (sent : List Message) (one : Event) {i : ℕ} {kept : List (ServerId × ℕ)} →
     job_of sent one ≡ Some (starting i kept) → one ≡ event.Start i kept
-start-work sent (event.Deliver number) i kept e = by (slice_get sent number) e
+start-work sent (event.Deliver number) {i} {kept} e = by (slice_get sent number) e
   where
     by : (found : Option Message) → delivery found ≡ Some (starting i kept) → event.Deliver number ≡ event.Start i kept
     by None e = cc
-    by (Some message) e = let never : ◌≡◌ {A = NodeWork} (Deliver message) (Start kept) = same-work _ (starting i kept) e in cc
-start-work sent (event.Start index list) i kept e =
-    same-start index i list kept (same-node _ (starting i kept) e) (same-work _ (starting i kept) e)
-start-work sent _ i kept e = true_false (sym (ap is_start (same-work _ (starting i kept) e)))
+    by (Some message) e = let never : ◌≡◌ {A = NodeWork} (Deliver message) (Start kept) = same-work e in cc
+start-work sent (event.Start index list) e = same-start (same-node e) (same-work e)
+start-work sent _ e = true_false (sym (ap is_start (same-work e)))
 
 takes-same : (host : HostNode) (found : Option Master) (message : Message) → (takes_if_running host found message).0.generation ≡
     host.generation
@@ -96,11 +95,11 @@ module _ (world : World) (one : Event) (i : ℕ) where
   abbrev pub Same : World → Type 0
   Same after = ((after.hosts i).generation ≡ (world.hosts i).generation) ⊎ IsStart world one i after
 
-  started : (index : ℕ) (kept : List (ServerId × ℕ)) → index ≡ i → job_of world.sent one ≡ Some (starting index kept) →
+  started : {index : ℕ} {kept : List (ServerId × ℕ)} → index ≡ i → job_of world.sent one ≡ Some (starting index kept) →
       is_possible world one ≡ true → IsStart world one i (node_done world one (TheHost index) (Start kept))
-  started index kept same is possible = record {
+  started {index} {kept} same is possible = record {
     kept = kept;
-    is = start-work world.sent one i kept (is ∙ ap (λ k. Some (starting k kept)) same);
+    is = start-work world.sent one (is ∙ ap (λ k. Some (starting k kept)) same);
     possible = possible;
     backup = ap (λ (host : HostNode). host.backup) (ap (put world.hosts index new) (sym same) ∙ put-same world.hosts index new) ∙
         ap (λ k. restart (next_server (world.hosts k)) kept (world.hosts k).backup) same;
@@ -110,9 +109,9 @@ module _ (world : World) (one : Event) (i : ℕ) where
       new : HostNode
       new = (starts_host (world.hosts index) (next_server (world.hosts index)) kept).0
 
-  same-host : (index : ℕ) (work : NodeWork) → job_of world.sent one ≡ Some (record { node = TheHost index; work = work }) →
+  same-host : {index : ℕ} {work : NodeWork} → job_of world.sent one ≡ Some (record { node = TheHost index; work = work }) →
       is_possible world one ≡ true → Same (node_done world one (TheHost index) work)
-  same-host index work is possible =
+  same-host {index} {work} is possible =
       split (nat_eq index i) (λ e. here (eqb-true index i e) (host-work (world.hosts index) work))
       (λ e. inl (ap (λ (host : HostNode). host.generation) (put-other world.hosts index (host_step (world.hosts index) work).0 i e)))
     where
@@ -126,21 +125,20 @@ module _ (world : World) (one : Event) (i : ℕ) where
           ∙ (stays ∙ ap (λ k. (world.hosts k).generation) same))
       here same (inr (kept, starts)) =
           inr (subst (λ (w : NodeWork). IsStart world one i (node_done world one (TheHost index) w)) (sym starts)
-          (started index kept same (is ∙ ap (λ (w : NodeWork). Some (record { node = TheHost index; work = w })) starts) possible))
+          (started same (is ∙ ap (λ (w : NodeWork). Some (record { node = TheHost index; work = w })) starts) possible))
 
-  same-node_done : (node : NodeName) (work : NodeWork) → job_of world.sent one ≡ Some (record { node = node; work = work }) →
+  same-node_done : (node : NodeName) {work : NodeWork} → job_of world.sent one ≡ Some (record { node = node; work = work }) →
       is_possible world one ≡ true → Same (node_done world one node work)
-  same-node_done TheOutside work is possible = inl refl
-  same-node_done TheCoordinator work is possible = inl refl
-  same-node_done (TheHost index) work is possible = same-host index work is possible
+  same-node_done TheOutside is possible = inl refl
+  same-node_done TheCoordinator is possible = inl refl
+  same-node_done (TheHost index) is possible = same-host is possible
 
   same-job_done : (found : Option Job) → job_of world.sent one ≡ found → is_possible world one ≡ true → Same (job_done world one found)
   same-job_done None is possible = inl refl
-  same-job_done (Some job) is possible = same-node_done job.node job.work is possible
+  same-job_done (Some job) is possible = same-node_done job.node is possible
 
   pub same-or-start : Same (step world one)
-  same-or-start =
-      either Same (is_possible world one) (job_done world one (job_of world.sent one)) world
+  same-or-start = either Same (is_possible world one) (job_done world one (job_of world.sent one)) world
       (λ possible. same-job_done (job_of world.sent one) refl possible) (λ _. inl refl)
 
 -- What a backup newly says
@@ -230,12 +228,11 @@ module _ (world : World) (one : Event) (good : GoodWorld world) (x : ServerId) (
 
   stands-job : (found : Option Job) → job_of world.sent one ≡ found → Stands (job_done world one found)
   stands-job None is = λ at. inl at
-  stands-job (Some job) is = stands-node job.node job.work (job_of-given world.sent one job is)
+  stands-job (Some job) is = stands-node job.node job.work (job_of-given world.sent one is)
 
   pub said-stands : In (record { from = Server x; to = to; body = says }) (step world one).sent →
       In (record { from = Server x; to = to; body = says }) world.sent ⊎ P ((step world one).hosts x.index).backup
-  said-stands =
-      either Stands (is_possible world one) (job_done world one (job_of world.sent one)) world
+  said-stands = either Stands (is_possible world one) (job_done world one (job_of world.sent one)) world
       (λ _. stands-job (job_of world.sent one) refl) (λ _ at. inl at)
 
 -- What is newly told
@@ -244,9 +241,9 @@ module _ (world : World) (one : Event) (good : GoodWorld world) (x : ServerId) (
 pub record NewlyStands (hosts : ℕ → HostNode) (x m : ServerId) (s e len : ℕ) (closed : Bool) : Type 0 where
   pub stands : StillStands (held_at hosts x.index m) s e len closed
 
-stored-said : (world : World) → GoodWorld world → (x m : ServerId) (s e len : ℕ) (closed : Bool) →
+stored-said : {world : World} → GoodWorld world → {x m : ServerId} {s e len : ℕ} {closed : Bool} →
     IsSaid world x (Server m) (Stored s e len closed) (λ backup. StillStands (backup.held m) s e len closed)
-stored-said world good x m s e len closed = record {
+stored-said {world} good {x} {m} {s} {e} {len} {closed} = record {
   not_enlist = λ never. differs never;
   no_master = λ sent sent_now n old log said. said;
   by_backup = λ i from heard given at. ((moved-backup world.sent world.masters world.hosts
@@ -265,7 +262,7 @@ pub told-stands : (world : World) (one : Event) → GoodWorld world → (x m : S
     In (between x m (Stored s e len closed)) world.sent ⊎ NewlyStands (step world one).hosts x m s e len closed
 told-stands world one good x m s e len closed at =
     by (said-stands world one good x (Server m) (Stored s e len closed) (λ backup. StillStands (backup.held m) s e len closed)
-    (stored-said world good x m s e len closed) at)
+    (stored-said good) at)
   where
     by : In (between x m (Stored s e len closed)) world.sent ⊎ StillStands (held_at (step world one).hosts x.index m) s e len closed →
         In (between x m (Stored s e len closed)) world.sent ⊎ NewlyStands (step world one).hosts x m s e len closed

@@ -24,40 +24,40 @@ pub record GoodKept (sent : List Message) (m : ServerId) (held : Held) : Type 0 
 abbrev pub AllKept : List Message → Backup → Type 0
 AllKept sent backup = (m : ServerId) → GoodKept sent m (backup.held m)
 
-pub closed-more : (sent sent_now : List Message) (m : ServerId) (s : ℕ) → More sent sent_now → HasClosed sent m s → HasClosed sent_now m s
-closed-more sent sent_now m s more c = record { message = c.message; among = more _ c.among; from = c.from; says = c.says }
+pub closed-more : {sent sent_now : List Message} {m : ServerId} {s : ℕ} → More sent sent_now → HasClosed sent m s → HasClosed sent_now m s
+closed-more more c = record { message = c.message; among = more _ c.among; from = c.from; says = c.says }
 
-pub freed-more : (sent sent_now : List Message) (m : ServerId) (s : ℕ) → More sent sent_now → HasFreed sent m s → HasFreed sent_now m s
-freed-more sent sent_now m s more c = record { message = c.message; among = more _ c.among; from = c.from; says = c.says }
+pub freed-more : {sent sent_now : List Message} {m : ServerId} {s : ℕ} → More sent sent_now → HasFreed sent m s → HasFreed sent_now m s
+freed-more more c = record { message = c.message; among = more _ c.among; from = c.from; says = c.says }
 
-pub kept-more : (sent sent_now : List Message) (m : ServerId) (held : Held) → More sent sent_now → GoodKept sent m held →
+pub kept-more : {sent sent_now : List Message} {m : ServerId} {held : Held} → More sent sent_now → GoodKept sent m held →
     GoodKept sent_now m held
-kept-more sent sent_now m held more p = record {
-  closed = λ s replica at is. closed-more sent sent_now m s more (p.closed s replica at is);
-  freed = λ s is. freed-more sent sent_now m s more (p.freed s is);
+kept-more more p = record {
+  closed = λ s replica at is. closed-more more (p.closed s replica at is);
+  freed = λ s is. freed-more more (p.freed s is);
 }
 
 -- the same replicas, and the same marks
-kept-same : (sent : List Message) (m : ServerId) (old new : Held) → new.replicas ≡ old.replicas → new.freed ≡ old.freed →
+kept-same : {sent : List Message} {m : ServerId} {old new : Held} → new.replicas ≡ old.replicas → new.freed ≡ old.freed →
     GoodKept sent m old → GoodKept sent m new
-kept-same sent m old new replicas freed p = record {
+kept-same replicas freed p = record {
   closed = λ s replica at is. p.closed s replica (ap (replica_of s) (sym replicas) ∙ at) is;
   freed = λ s is. p.freed s (ap (list_any (nat_eq s)) (sym freed) ∙ is);
 }
 
-any-insert-from : (s n : ℕ) (ns : List ℕ) → list_any (nat_eq s) (insert_once n ns) ≡ true → (s ≡ n) ⊎ (list_any (nat_eq s) ns ≡ true)
-any-insert-from s n [] e = by (or_cases (nat_eq s n) false e)
+any-insert-from : {s n : ℕ} (ns : List ℕ) → list_any (nat_eq s) (insert_once n ns) ≡ true → (s ≡ n) ⊎ (list_any (nat_eq s) ns ≡ true)
+any-insert-from {s} {n} [] e = by (or_cases (nat_eq s n) false e)
   where
     by : (nat_eq s n ≡ true) ⊎ (false ≡ true) → (s ≡ n) ⊎ (false ≡ true)
     by (inl same) = inl (eqb-true s n same)
     by (inr never) = inr never
-any-insert-from s n (k ∷ ns) e =
+any-insert-from {s} {n} (k ∷ ns) e =
     either (λ (all : List ℕ). list_any (nat_eq s) all ≡ true → (s ≡ n) ⊎ (list_any (nat_eq s) (k ∷ ns) ≡ true)) (nat_lt n k) (n ∷ k ∷ ns)
     (cond (nat_eq n k) (k ∷ ns) (k ∷ insert_once n ns))
     (λ _ found. first (or_cases (nat_eq s n) (list_any (nat_eq s) (k ∷ ns)) found))
     (λ _. either (λ (all : List ℕ). list_any (nat_eq s) all ≡ true → (s ≡ n) ⊎ (list_any (nat_eq s) (k ∷ ns) ≡ true)) (nat_eq n k)
     (k ∷ ns) (k ∷ insert_once n ns) (λ _ found. inr found)
-    (λ _ found. later (any-insert-from s n ns) (or_cases (nat_eq s k) (list_any (nat_eq s) (insert_once n ns)) found))) e
+    (λ _ found. later (any-insert-from ns) (or_cases (nat_eq s k) (list_any (nat_eq s) (insert_once n ns)) found))) e
   where
     first : (nat_eq s n ≡ true) ⊎ (list_any (nat_eq s) (k ∷ ns) ≡ true) → (s ≡ n) ⊎ (list_any (nat_eq s) (k ∷ ns) ≡ true)
     first (inl same) = inl (eqb-true s n same)
@@ -76,11 +76,11 @@ any-insert-from s n (k ∷ ns) e =
 abbrev Closing : List Message → ServerId → ℕ → Body → Type 0
 Closing sent m seg says = (n : ℕ) → closing_length says ≡ Some n → HasClosed sent m seg
 
-kept-keeps : (sent : List Message) (backup : Backup) (m : ServerId) (seg : ℕ) (says : Body) → Closing sent m seg says →
+kept-keeps : {sent : List Message} (backup : Backup) {m : ServerId} {seg : ℕ} (says : Body) → Closing sent m seg says →
     AllKept sent backup → (found : Option Replica) →
     found ≡ replica_after (replica_of seg (backup.held m).replicas) says → AllKept sent (keeps backup m seg found).0
-kept-keeps sent backup m seg says closing all None is = all
-kept-keeps sent backup m seg says closing all (Some after) is =
+kept-keeps backup says closing all None is = all
+kept-keeps {sent} backup {m} {seg} says closing all (Some after) is =
     put_id_each (λ other one. GoodKept sent other one) backup.held m
     (record (backup.held m) { replicas = put_replica seg after (backup.held m).replicas }) (record {
       closed = λ s replica at closed. by s replica at closed (cases_eq s seg);
@@ -101,29 +101,29 @@ kept-keeps sent backup m seg says closing all (Some after) is =
     by : (s : ℕ) (replica : Replica) → replica_of s (put_replica seg after (backup.held m).replicas) ≡ Some replica →
         replica.closed ≡ true → (s ≡ seg) ⊎ (s ≡ seg → ⊥) → HasClosed sent m s
     by s replica at closed (inl same) =
-        let here : Some after ≡ Some replica = sym (replica_of-put seg after (backup.held m).replicas) ∙
+        let here : Some after ≡ Some replica = sym (replica_of-put seg (backup.held m).replicas) ∙
         subst (λ t. replica_of t (put_replica seg after (backup.held m).replicas) ≡ Some replica) same at in
         let one : after ≡ replica = cc in
         subst (HasClosed sent m) (sym same)
         (new (ap (λ (r : Replica). r.closed) one ∙ closed) (replica_of seg (backup.held m).replicas) refl)
     by s replica at closed (inr differs) =
-        (all m).closed s replica (sym (replica_of-other s seg after (backup.held m).replicas differs) ∙ at) closed
+        (all m).closed s replica (sym (replica_of-other after (backup.held m).replicas differs) ∙ at) closed
 
-kept-stores : (sent : List Message) (backup : Backup) (m : ServerId) (seg : ℕ) (says : Body) → Closing sent m seg says →
+kept-stores : {sent : List Message} (backup : Backup) {m : ServerId} {seg : ℕ} (says : Body) → Closing sent m seg says →
     AllKept sent backup → AllKept sent (stores backup m seg says).0
-kept-stores sent backup m seg says closing all =
+kept-stores {sent} backup {m} {seg} says closing all =
     either (λ (after : Backup × List Message). AllKept sent after.0) (is_refused seg (backup.held m)) (backup, [])
     (keeps backup m seg (replica_after (replica_of seg (backup.held m).replicas) says))
-    (λ _. all) (λ _. kept-keeps sent backup m seg says closing all _ refl)
+    (λ _. all) (λ _. kept-keeps backup says closing all _ refl)
 
-kept-frees : (sent : List Message) (backup : Backup) (m : ServerId) (seg : ℕ) → HasFreed sent m seg →
+kept-frees : {sent : List Message} (backup : Backup) {m : ServerId} {seg : ℕ} → HasFreed sent m seg →
     Ascending (backup.held m).replicas → AllKept sent backup → AllKept sent (frees backup m seg)
-kept-frees sent backup m seg freed up all =
+kept-frees {sent} backup {m} {seg} freed up all =
     either (AllKept sent) (backup.held m).fenced backup (with_held m held backup) (λ _. all)
     (λ _. put_id_each (λ other one. GoodKept sent other one) backup.held m held (record {
       closed = λ s replica at closed. (all m).closed s replica
-          (replica_of-filter (λ one. not (nat_eq seg one.0)) s replica (backup.held m).replicas up at) closed;
-      freed = λ s is. by s (any-insert-from s seg (backup.held m).freed is);
+          (replica_of-filter (λ one. not (nat_eq seg one.0)) s (backup.held m).replicas up at) closed;
+      freed = λ s is. by s (any-insert-from (backup.held m).freed is);
     }) all)
   where
     held : Held
@@ -142,25 +142,25 @@ pub kept-backup : (sent : List Message) (backup : Backup) (from to : Addr) (says
     ((m : ServerId) → Ascending (backup.held m).replicas) → AllKept sent backup →
     In (record { from = from; to = to; body = says }) sent → AllKept sent (backup_takes backup from says).0
 kept-backup sent backup (Server m) to (Place seg epoch digest entries true) up all at =
-    kept-stores sent backup m seg (Place seg epoch digest entries true)
+    kept-stores backup (Place seg epoch digest entries true)
     (λ n e. record { message = _; among = at; from = refl; says = refl }) all
 kept-backup sent backup (Server m) to (Place seg epoch digest entries false) up all at =
-    kept-stores sent backup m seg (Place seg epoch digest entries false) (λ n e. cc) all
+    kept-stores backup (Place seg epoch digest entries false) (λ n e. cc) all
 kept-backup sent backup (Server m) to (Append seg offset entries) up all at =
-    kept-stores sent backup m seg (Append seg offset entries) (λ n e. cc) all
+    kept-stores backup (Append seg offset entries) (λ n e. cc) all
 kept-backup sent backup (Server m) to (Close seg len) up all at =
-    kept-stores sent backup m seg (Close seg len) (λ n e. record { message = _; among = at; from = refl; says = refl }) all
+    kept-stores backup (Close seg len) (λ n e. record { message = _; among = at; from = refl; says = refl }) all
 kept-backup sent backup (Server m) to (Free seg) up all at =
-    kept-frees sent backup m seg (record { message = _; among = at; from = refl; says = refl }) (up m) all
+    kept-frees backup (record { message = _; among = at; from = refl; says = refl }) (up m) all
 kept-backup sent backup from to (Gather attempt master) up all at =
     put_id_each (λ other one. GoodKept sent other one) backup.held master (record (backup.held master) { fenced = true })
-    (kept-same sent master (backup.held master) (record (backup.held master) { fenced = true }) refl refl (all master)) all
+    (kept-same refl refl (all master)) all
 kept-backup sent backup from to _ up all at = all
 
 -- a restart
-pub kept-restarted : (sent : List Message) (m : ServerId) (list : List (ServerId × ℕ)) (held : Held) → Ascending held.replicas →
+pub kept-restarted : {sent : List Message} {m : ServerId} (list : List (ServerId × ℕ)) {held : Held} → Ascending held.replicas →
     GoodKept sent m held → GoodKept sent m (restarted list m held)
-kept-restarted sent m list held up p = record {
-  closed = λ s replica at closed. p.closed s replica (replica_of-filter (stays list m) s replica held.replicas up at) closed;
+kept-restarted {m} list {held} up p = record {
+  closed = λ s replica at closed. p.closed s replica (replica_of-filter (stays list m) s held.replicas up at) closed;
   freed = λ s never. true_false (sym never);
 }

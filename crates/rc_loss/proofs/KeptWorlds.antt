@@ -41,7 +41,7 @@ module _ (sent : List Message) (host : HostNode) (up : (m : ServerId) → Ascend
   kept-host : (i : ℕ) (work : NodeWork) → IsGiven sent (TheHost i) work → KeptAfter (host_step host work)
   kept-host i (Deliver message) given = kept-takes host.master message given.0
   kept-host i Tick given = kept-ticks host.master
-  kept-host i (Start list) given = λ m. kept-restarted sent m list (host.backup.held m) (up m) (all m)
+  kept-host i (Start list) given = λ m. kept-restarted list (up m) (all m)
   kept-host i _ given = all
 
 abbrev pub AllHosts : List Message → (ℕ → HostNode) → Type 0
@@ -57,11 +57,9 @@ module _ (world : World) (one : Event) (good : GoodWorld world) (all : AllHosts 
 
   kept-job : (found : Option Job) → job_of world.sent one ≡ found → AllHosts world.sent (job_done world one found).hosts
   kept-job None is = all
-  kept-job (Some job) is = kept-node job.node job.work (job_of-given world.sent one job is)
+  kept-job (Some job) is = kept-node job.node job.work (job_of-given world.sent one is)
 
   pub kept-step : AllHosts (step world one).sent (step world one).hosts
-  kept-step i m = kept-more world.sent (step world one).sent m (((step world one).hosts i).backup.held m)
-      (led-step world one good).onward.more
+  kept-step i m = kept-more (led-step world one good).onward.more
       (either (λ (after : World). AllHosts world.sent after.hosts) (is_possible world one) (job_done world one
-      (job_of world.sent one)) world
-      (λ _. kept-job (job_of world.sent one) refl) (λ _. all) i m)
+      (job_of world.sent one)) world (λ _. kept-job (job_of world.sent one) refl) (λ _. all) i m)

@@ -13,7 +13,7 @@ AllAsked world = (m : ServerId) → (world.coordinator.least m ≡ record { seg 
 
 asked-step : (setup : Setup) (events : List Event) (one : Event) → AllAsked (replay setup events) → AllAsked (step
     (replay setup events) one)
-asked-step setup events one p m = by ((step (replay setup events) one).coordinator.least m) (asked-event (replay setup events) one m)
+asked-step setup events one p m = by ((step (replay setup events) one).coordinator.least m) (asked-event (replay setup events) one)
   where
     more : (message : Message) → In message (replay setup events).sent → In message (step (replay setup events) one).sent
     more = (led-step (replay setup events) one (good-world setup events)).onward.more
@@ -25,8 +25,7 @@ asked-step setup events one p m = by ((step (replay setup events) one).coordinat
         (pair ≡ record { seg = 0; epoch = 0 }) ⊎ In (to_coordinator m (Commit pair.seg pair.epoch)) (step (replay setup events) one).sent
     was pair same (inl none) = inl (same ∙ none)
     was pair same (inr at) = inr (more _ (subst (λ (one : Pair). In (to_coordinator m (Commit one.seg one.epoch))
-        (replay setup events).sent)
-        (sym same) at))
+        (replay setup events).sent) (sym same) at))
 
     by : (pair : Pair) → Asked (replay setup events).sent (replay setup events).coordinator m pair →
         (pair ≡ record { seg = 0; epoch = 0 }) ⊎ In (to_coordinator m (Commit pair.seg pair.epoch)) (step (replay setup events) one).sent

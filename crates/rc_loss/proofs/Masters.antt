@@ -40,10 +40,10 @@ module _ (f : ℕ) (W : ℕ → ℕ → Type 0) (m : ServerId) where
       (append_assoc sent one.1 (goes_on one.0).1)
       ((kept-goes_on (follow.Follows f (OrNow W (goes_on one.0).0.log) m) (follow.follows-joined f (OrNow W (goes_on one.0).0.log) m)
       (follow.follows-followed f (OrNow W (goes_on one.0).0.log) m) one.0).leads (sent ++ one.1) (λ s e now. inr now)
-      (placings-wider f W (OrNow W (goes_on one.0).0.log) (sent ++ one.1) m one.0.log (λ s e w. inl w) p))
+      (placings-wider W (OrNow W (goes_on one.0).0.log) (λ s e w. inl w) p))
 
   wider : (sent : List Message) (after : Master × List Message) → Placings f W (sent ++ after.1) m after.0.log → After sent after
-  wider sent after p = placings-wider f W (OrNow W after.0.log) (sent ++ after.1) m after.0.log (λ s e w. inl w) p
+  wider sent after p = placings-wider W (OrNow W after.0.log) (λ s e w. inl w) p
 
   pub stepped : (sent : List Message) (master : Master) (from : Addr) (says : Body) → ToldShut sent m → Placings f W sent m master.log →
       In (record { from = from; to = Server m; body = says }) sent → After sent (master_takes master from says)
@@ -55,10 +55,9 @@ module _ (f : ℕ) (W : ℕ → ℕ → Type 0) (m : ServerId) where
       (kept-takes_first (first.Begins f W m sent) (first.begins-joined f W m sent) (first.begins-listed f W m sent) master from says
       (first.begins-taken f W m sent master from says at told) sent (λ message there. there) p))
 
-  pub ticked : (sent : List Message) (master : Master) → Placings f W sent m master.log → After sent (master_ticks master)
-  ticked sent master p =
-      either (After sent) master.deposed (master, []) (then_does (ticks master) goes_on)
-      (λ _. wider sent (master, []) (placings-say f W sent [] m master.log (λ message none. absurd none) p))
+  pub ticked : {sent : List Message} (master : Master) → Placings f W sent m master.log → After sent (master_ticks master)
+  ticked {sent} master p = either (After sent) master.deposed (master, []) (then_does (ticks master) goes_on)
+      (λ _. wider sent (master, []) (placings-say W [] (λ message none. absurd none) p))
       (λ _. joined sent (ticks master)
       (kept-ticks_first (first.Begins f W m sent) (first.begins-joined f W m sent) (first.begins-listed f W m sent)
       (first.begins-ticked f W m sent) master sent (λ message there. there) p))
@@ -73,10 +72,10 @@ module _ (f : ServerId → ℕ) (W : ServerId → ℕ → ℕ → Type 0) where
 
   pub masters-led : IsLed Before Now
   masters-led = record {
-    same = λ sent m master p. placings-wider (f m) (W m) (OrNow (W m) master.log) sent m master.log (λ s e w. inl w) p.1;
-    others = λ sent messages m master p others. placings-heard (f m) (OrNow (W m) master.log) sent messages m master.log
+    same = λ sent m master p. placings-wider (W m) (OrNow (W m) master.log) (λ s e w. inl w) p.1;
+    others = λ sent messages m master p others. placings-heard (OrNow (W m) master.log) messages
         (λ message at from. others-claim _ _ _ message.body (others message at from))
-        (placings-wider (f m) (W m) (OrNow (W m) master.log) sent m master.log (λ s e w. inl w) p.1);
+        (placings-wider (W m) (OrNow (W m) master.log) (λ s e w. inl w) p.1);
     takes = λ sent m master from says good p at. stepped (f m) (W m) m sent master from says p.0 p.1 at;
-    ticks = λ sent m master good p. ticked (f m) (W m) m sent master p.1;
+    ticks = λ sent m master good p. ticked (f m) (W m) m master p.1;
   }

@@ -23,8 +23,8 @@ many-replaced (one ∷ members) (id ∷ ids) =
 
 -- What is noted
 
-pub known-new : (sent : List Message) (m : ServerId) (s e : ℕ) (id : ServerId) → IsKnown sent m s e (new_member id)
-known-new sent m s e id = record { told = λ is. cc; shut = λ is. cc; closed = λ is. cc }
+pub known-new : {sent : List Message} {m : ServerId} {s e : ℕ} {id : ServerId} → IsKnown sent m s e (new_member id)
+known-new = record { told = λ is. cc; shut = λ is. cc; closed = λ is. cc }
 
 known-mapped : (sent : List Message) (m : ServerId) (s e : ℕ) (f : Member → Member) →
     ((member : Member) → IsKnown sent m s e member → IsKnown sent m s e (f member)) → (members : List Member) →
@@ -36,15 +36,15 @@ pub known-anew : (sent : List Message) (m : ServerId) (s e : ℕ) (members : Lis
     AllKnown sent m s e (map (λ member. new_member member.id) members)
 known-anew sent m s e members member at =
     let found = In-map (λ (one : Member). new_member one.id) member members at in
-    subst (λ one. IsKnown sent m s e one) (sym found.2) (known-new sent m s e found.0.id)
+    subst (λ one. IsKnown sent m s e one) (sym found.2) (known-new)
 
 pub known-chosen : (sent : List Message) (m : ServerId) (s e : ℕ) (ids : List ServerId) → AllKnown sent m s e (map new_member ids)
 known-chosen sent m s e ids member at =
-    let found = In-map new_member member ids at in subst (λ one. IsKnown sent m s e one) (sym found.2) (known-new sent m s e found.0)
+    let found = In-map new_member member ids at in subst (λ one. IsKnown sent m s e one) (sym found.2) (known-new)
 
-pub known-lost : (sent : List Message) (m : ServerId) (s e : ℕ) (servers : ServerList) (members : List Member) →
+pub known-lost : {sent : List Message} {m : ServerId} {s e : ℕ} (servers : ServerList) (members : List Member) →
     AllKnown sent m s e members → AllKnown sent m s e (map (lost_if_crashed servers) members)
-known-lost sent m s e servers members all = known-mapped sent m s e (lost_if_crashed servers)
+known-lost {sent} {m} {s} {e} servers members all = known-mapped sent m s e (lost_if_crashed servers)
     (λ member old. either (λ one. IsKnown sent m s e one) (has_crashed servers member.id) (record member { lost = true }) member
     (λ _. record { told = old.told; shut = old.shut; closed = old.closed }) (λ _. old)) members all
 
@@ -60,7 +60,7 @@ known-replaced sent m s e (one ∷ members) (id ∷ ids) all member at =
   where
     new_first : (In member (replaced members ids) → IsKnown sent m s e member) →
         (member ≡ new_member id) ⊎ In member (replaced members ids) → IsKnown sent m s e member
-    new_first rec (inl same) = subst (λ x. IsKnown sent m s e x) (sym same) (known-new sent m s e id)
+    new_first rec (inl same) = subst (λ x. IsKnown sent m s e x) (sym same) (known-new)
     new_first rec (inr rest) = rec rest
 
     old_first : (In member (replaced members (id ∷ ids)) → IsKnown sent m s e member) →

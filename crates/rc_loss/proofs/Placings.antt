@@ -81,52 +81,50 @@ pub record PlacedNow (log : Log) (s e : ℕ) : Type 0 where
 
 -- More was sent
 
-pub claims-map : (next next_now : ℕ → Type 0) (ready ready_now : Type 0) (placed placed_now : ℕ → ℕ → Type 0) →
+pub claims-map : {next next_now : ℕ → Type 0} {ready ready_now : Type 0} {placed placed_now : ℕ → ℕ → Type 0} →
     ((s : ℕ) → next s → next_now s) → (ready → ready_now) → ((s e : ℕ) → placed s e → placed_now s e) → (body : Body) →
     Claims next ready placed body → Claims next_now ready_now placed_now body
-claims-map next next_now ready ready_now placed placed_now n r p (Place s e digest entries closed) c = λ is. n s (c is)
-claims-map next next_now ready ready_now placed placed_now n r p (Close s len) c = n s c
-claims-map next next_now ready ready_now placed placed_now n r p Ready c = r c
-claims-map next next_now ready ready_now placed placed_now n r p (Commit s e) c = p s e c
-claims-map next next_now ready ready_now placed placed_now n r p _ c = tt
+claims-map n r p (Place s e digest entries closed) c = λ is. n s (c is)
+claims-map n r p (Close s len) c = n s c
+claims-map n r p Ready c = r c
+claims-map n r p (Commit s e) c = p s e c
+claims-map n r p _ c = tt
 
-pub known-more : (sent sent_now : List Message) (m : ServerId) (s e : ℕ) (member : Member) → More sent sent_now →
+pub known-more : {sent sent_now : List Message} {m : ServerId} {s e : ℕ} {member : Member} → More sent sent_now →
     IsKnown sent m s e member → IsKnown sent_now m s e member
-known-more sent sent_now m s e member more p = record {
+known-more more p = record {
   told = λ is. (let t = p.told is in record { len = t.len; closed = t.closed; told = more _ t.told });
   shut = λ is. (let t = p.shut is in record { len = t.len; told = more _ t.told });
   closed = λ is. (let t = p.closed is in record { message = t.message; among = more _ t.among; from = t.from; says = t.says });
 }
 
-pub shut-more : (sent sent_now : List Message) (m : ServerId) (s e : ℕ) → More sent sent_now → WasShut sent m s e → WasShut sent_now m s e
-shut-more sent sent_now m s e more p =
+pub shut-more : {sent sent_now : List Message} {m : ServerId} {s e : ℕ} → More sent sent_now → WasShut sent m s e → WasShut sent_now m s e
+shut-more more p =
     record { teller = p.teller; told = record { len = p.told.len; told = more _ p.told.told } }
 
 -- a segment stays good where more is sent, more is placed, and what was next is next
-pub good-later : (f : ℕ) (W V : ℕ → ℕ → Type 0) (sent sent_now : List Message) (m : ServerId) (head head_now : ℕ)
-    (phase phase_now : Phase) (s : ℕ) (segment : Segment) → ((t e : ℕ) → W t e → V t e) → More sent sent_now →
+pub good-later : {f : ℕ} (W V : ℕ → ℕ → Type 0) {sent sent_now : List Message} {m : ServerId} {head head_now : ℕ}
+    {phase phase_now : Phase} {s : ℕ} {segment : Segment} → ((t e : ℕ) → W t e → V t e) → More sent sent_now →
     (0 < s → s ≤ head_now → s ≤ head) → (IsNext f head phase s → IsNext f head_now phase_now s) →
     GoodPlacing f W sent m head phase s segment → GoodPlacing f V sent_now m head_now phase_now s segment
-good-later f W V sent sent_now m head head_now phase phase_now s segment w more within next p = record {
+good-later W V {s} {segment} w more within next p = record {
   many = λ above below. p.many above (within above below);
-  known = λ member at. known-more sent sent_now m s segment.config.epoch member more (p.known member at);
+  known = λ member at. known-more more (p.known member at);
   next = λ is. next (p.next is);
-  shut = λ some is. shut-more sent sent_now m s segment.config.epoch more (p.shut some is);
+  shut = λ some is. shut-more more (p.shut some is);
   asked = λ is. w s segment.config.epoch (p.asked is);
 }
 
 -- more is placed
-pub placings-wider : (f : ℕ) (W V : ℕ → ℕ → Type 0) (sent : List Message) (m : ServerId) (log : Log) →
+pub placings-wider : {f : ℕ} (W V : ℕ → ℕ → Type 0) {sent : List Message} {m : ServerId} {log : Log} →
     ((t e : ℕ) → W t e → V t e) → Placings f W sent m log → Placings f V sent m log
-placings-wider f W V sent m log w p = record {
+placings-wider W V {log} w p = record {
   own = p.own;
   factor = p.factor;
-  said = λ message at from. claims-map (IsNext f log.head log.phase) (IsNext f log.head log.phase) (Some_placed W 1)
-      (Some_placed V 1) W V (λ s is. is) (some 1) w message.body (p.said message at from);
+  said = λ message at from. claims-map (λ s is. is) (some 1) w message.body (p.said message at from);
   lower = λ s above below. some s (p.lower s above below);
   head_placed = λ not_opening. (let h = p.head_placed not_opening in (h.0, some log.head h.1));
-  each = λ s. good-later f W V sent sent m log.head log.head log.phase log.phase s (log.segments s) w (λ message at. at)
-      (λ above below. below) (λ is. is) (p.each s);
+  each = λ s. good-later W V w (λ message at. at) (λ above below. below) (λ is. is) (p.each s);
 }
   where
     some : (s : ℕ) → Some_placed W s → Some_placed V s
@@ -138,18 +136,17 @@ AllClaim f W log messages = (message : Message) → In message messages →
     Claims (IsNext f log.head log.phase) (Some_placed W 1) W message.body
 
 -- what is said in the master's name claims what holds
-pub placings-heard : (f : ℕ) (W : ℕ → ℕ → Type 0) (sent messages : List Message) (m : ServerId) (log : Log) →
+pub placings-heard : {f : ℕ} (W : ℕ → ℕ → Type 0) {sent : List Message} (messages : List Message) {m : ServerId} {log : Log} →
     ((message : Message) → In message messages → message.from ≡ Server m →
     Claims (IsNext f log.head log.phase) (Some_placed W 1) W message.body) →
     Placings f W sent m log → Placings f W (sent ++ messages) m log
-placings-heard f W sent messages m log claim p = record {
+placings-heard {f} W {sent} messages {m} {log} claim p = record {
   own = p.own;
   factor = p.factor;
   said = λ message at from. by message from (In-append message sent messages at);
   lower = p.lower;
   head_placed = p.head_placed;
-  each = λ s. good-later f W W sent (sent ++ messages) m log.head log.head log.phase log.phase s (log.segments s) (λ t e w. w) more
-      (λ above below. below) (λ is. is) (p.each s);
+  each = λ s. good-later W W (λ t e w. w) more (λ above below. below) (λ is. is) (p.each s);
 }
   where
     more : More sent (sent ++ messages)
@@ -160,45 +157,44 @@ placings-heard f W sent messages m log claim p = record {
     by message from (inl there) = p.said message there from
     by message from (inr new) = claim message new from
 
-pub placings-say : (f : ℕ) (W : ℕ → ℕ → Type 0) (sent messages : List Message) (m : ServerId) (log : Log) →
+pub placings-say : {f : ℕ} (W : ℕ → ℕ → Type 0) {sent : List Message} (messages : List Message) {m : ServerId} {log : Log} →
     AllClaim f W log messages → Placings f W sent m log → Placings f W (sent ++ messages) m log
-placings-say f W sent messages m log claim p = placings-heard f W sent messages m log (λ message at _. claim message at) p
+placings-say W messages claim p = placings-heard W messages (λ message at _. claim message at) p
 
 -- The log changes
 
 -- a change that keeps what is next, of a log whose new segments are good
-pub placings-moved : (f : ℕ) (W : ℕ → ℕ → Type 0) (sent : List Message) (m : ServerId) (old new : Log) → new.own ≡ old.own →
+pub placings-moved : {f : ℕ} (W : ℕ → ℕ → Type 0) {sent : List Message} {m : ServerId} {old new : Log} → new.own ≡ old.own →
     new.factor ≡ old.factor → ((s : ℕ) → IsNext f old.head old.phase s → IsNext f new.head new.phase s) →
     ((s : ℕ) → 0 < s → s < new.head → Some_placed W s) →
     ((new.phase ≡ Opening → ⊥) → (0 < new.head) × Some_placed W new.head) →
     ((s : ℕ) → GoodPlacing f W sent m new.head new.phase s (new.segments s)) → Placings f W sent m old → Placings f W sent m new
-placings-moved f W sent m old new own factor next lower head_placed each p = record {
+placings-moved W own factor next lower head_placed each p = record {
   own = own ∙ p.own;
   factor = factor ∙ p.factor;
-  said = λ message at from. claims-map (IsNext f old.head old.phase) (IsNext f new.head new.phase) (Some_placed W 1)
-      (Some_placed W 1) W W next (λ r. r) (λ s e w. w) message.body (p.said message at from);
+  said = λ message at from. claims-map next (λ r. r) (λ s e w. w) message.body (p.said message at from);
   lower = lower;
   head_placed = head_placed;
   each = each;
 }
 
 -- one segment changes
-pub placings-put : (f : ℕ) (W : ℕ → ℕ → Type 0) (sent : List Message) (m : ServerId) (log : Log) (seg : ℕ) (segment : Segment) →
+pub placings-put : {f : ℕ} (W : ℕ → ℕ → Type 0) {sent : List Message} {m : ServerId} {log : Log} {seg : ℕ} {segment : Segment} →
     Placings f W sent m log → GoodPlacing f W sent m log.head log.phase seg segment →
     Placings f W sent m (with_segment seg segment log)
-placings-put f W sent m log seg segment p good =
-    placings-moved f W sent m log (with_segment seg segment log) refl refl (λ s is. is) p.lower p.head_placed
+placings-put {f} W {sent} {m} {log} {seg} {segment} p good =
+    placings-moved W refl refl (λ s is. is) p.lower p.head_placed
     (put_each (λ k (one : Segment). GoodPlacing f W sent m log.head log.phase k one) log.segments seg segment good p.each) p
 
 -- another config, with as many members of which what is noted is known, under an epoch under which no commit is
 -- marked that wasn't
-pub good-config : (f : ℕ) (W : ℕ → ℕ → Type 0) (sent : List Message) (m : ServerId) (head : ℕ) (phase : Phase) (s : ℕ)
-    (old new : Segment) → length new.config.members ≡ length old.config.members → new.shut ≡ old.shut →
+pub good-config : {f : ℕ} (W : ℕ → ℕ → Type 0) {sent : List Message} {m : ServerId} {head : ℕ} {phase : Phase} {s : ℕ}
+    {old new : Segment} → length new.config.members ≡ length old.config.members → new.shut ≡ old.shut →
     (old.shut ≡ true → new.config.epoch ≡ old.config.epoch) →
     AllKnown sent m s new.config.epoch new.config.members →
     (new.commit_sent ≡ true → (old.commit_sent ≡ true) × (new.config.epoch ≡ old.config.epoch)) →
     GoodPlacing f W sent m head phase s old → GoodPlacing f W sent m head phase s new
-good-config f W sent m head phase s old new many same still known asked p = record {
+good-config W {sent} {m} {s} many same still known asked p = record {
   many = λ above below. many ∙ p.many above below;
   known = known;
   next = λ is. p.next (sym same ∙ is);
@@ -207,10 +203,10 @@ good-config f W sent m head phase s old new many same still known asked p = reco
 }
 
 -- the same config
-pub good-alike : (f : ℕ) (W : ℕ → ℕ → Type 0) (sent : List Message) (m : ServerId) (head : ℕ) (phase : Phase) (s : ℕ)
-    (old new : Segment) → new.config ≡ old.config → new.shut ≡ old.shut → new.commit_sent ≡ old.commit_sent →
+pub good-alike : {f : ℕ} (W : ℕ → ℕ → Type 0) {sent : List Message} {m : ServerId} {head : ℕ} {phase : Phase} {s : ℕ}
+    {old new : Segment} → new.config ≡ old.config → new.shut ≡ old.shut → new.commit_sent ≡ old.commit_sent →
     GoodPlacing f W sent m head phase s old → GoodPlacing f W sent m head phase s new
-good-alike f W sent m head phase s old new config same marked p = record {
+good-alike W {sent} {m} {s} config same marked p = record {
   many = λ above below. ap (λ (c : Config). length c.members) config ∙ p.many above below;
   known = subst (λ (c : Config). AllKnown sent m s c.epoch c.members) (sym config) p.known;
   next = λ is. p.next (sym same ∙ is);

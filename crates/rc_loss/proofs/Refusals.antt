@@ -53,21 +53,21 @@ all-or-one A B (x ∷ xs) each = by (each x (inl refl)) (all-or-one A B xs (λ y
     by (inr b) rest = inr (x, inl refl, b)
 
 -- a row of at least this epoch of a segment is not below a pair that is not above it
-above-valid : (s epoch e : ℕ) (least : Pair) → is_below (record { seg = s; epoch = e }) least ≡ false → e ≤ epoch →
+above-valid : (s : ℕ) {epoch e : ℕ} (least : Pair) → is_below (record { seg = s; epoch = e }) least ≡ false → e ≤ epoch →
     is_below (record { seg = s; epoch = epoch }) least ≡ false
-above-valid s epoch e least valid more = grind (arith, nat_tests)
+above-valid s least valid more = grind (arith, nat_tests)
 
-below-none : (s e : ℕ) (least : Pair) → least ≡ record { seg = 0; epoch = 0 } → is_below (record { seg = s; epoch = e }) least ≡ false
-below-none s e least none = subst (λ (pair : Pair). is_below (record { seg = s; epoch = e }) pair ≡ false) (sym none) zero_least
+below-none : (s e : ℕ) {least : Pair} → least ≡ record { seg = 0; epoch = 0 } → is_below (record { seg = s; epoch = e }) least ≡ false
+below-none s e none = subst (λ (pair : Pair). is_below (record { seg = s; epoch = e }) pair ≡ false) (sym none) zero_least
   where
     zero_least : is_below (record { seg = s; epoch = e }) (record { seg = 0; epoch = 0 }) ≡ false
     zero_least = grind (arith, nat_tests)
 
-below-less : (s e : ℕ) (least : Pair) → least.seg < s → is_below (record { seg = s; epoch = e }) least ≡ false
-below-less s e least less = grind (arith, nat_tests)
+below-less : {s : ℕ} (e : ℕ) (least : Pair) → least.seg < s → is_below (record { seg = s; epoch = e }) least ≡ false
+below-less e least less = grind (arith, nat_tests)
 
-below-same : (s : ℕ) (least : Pair) → least.seg ≡ s → is_below (record { seg = s; epoch = least.epoch }) least ≡ false
-below-same s least same = grind (arith, nat_tests)
+below-same : {s : ℕ} (least : Pair) → least.seg ≡ s → is_below (record { seg = s; epoch = least.epoch }) least ≡ false
+below-same least same = grind (arith, nat_tests)
 
 -- a segment is gone, where its members may be of these hosts as well
 pub record IsGoneBut (hosts : List ℕ) (setup : Setup) (events : List Event) (m : ServerId) (s : ℕ) : Type 0 where
@@ -89,11 +89,11 @@ module _ (setup : Setup) (events : List Event) (m : ServerId) (hosts : ℕ → L
   -- what was sent in the past is still there
   more-since : (before : List Event) → Begins before events → More (sent_after setup before) (sent_after setup events)
   more-since before (rest, same) message at =
-      subst (λ (all : List Event). In message (sent_after setup all)) same ((since-more setup before rest m).more message at)
+      subst (λ (all : List Event). In message (sent_after setup all)) same ((since-more setup before rest {m = m}).more message at)
 
   -- freed segments are shut
-  freed-shut : (s : ℕ) → 0 < s → HasFreed (sent_after setup events) m s → ((log_of setup events m).segments s).shut ≡ true
-  freed-shut s above freed = let out : IsLeftOut (log_of setup events m) s = freed-is-left-out setup events m s freed in out.shut s
+  freed-shut : {s : ℕ} → 0 < s → HasFreed (sent_after setup events) m s → ((log_of setup events m).segments s).shut ≡ true
+  freed-shut {s} above freed = let out : IsLeftOut (log_of setup events m) s = freed-is-left-out setup events m s freed in out.shut s
       above out.below
 
   pub record Survivor (s e : ℕ) : Type 0 where
@@ -106,9 +106,9 @@ module _ (setup : Setup) (events : List Event) (m : ServerId) (hosts : ℕ → L
     pub row : held.row ≡ row_of_replica (s, replica)
 
   -- who was told of is lost, or has it still
-  fate : (x : ServerId) (s e : ℕ) → 0 < s → ((log_of setup events m).segments s).shut ≡ false →
+  fate : {x : ServerId} {s e : ℕ} → 0 < s → ((log_of setup events m).segments s).shut ≡ false →
       HasStored (sent_after setup events) x m s e → Lost x s e ⊎ Survivor s e
-  fate x s e above unshut told = by ((loss-facts setup events).told x m s e told.len told.closed told.told)
+  fate {x} {s} {e} above unshut told = by ((loss-facts setup events).told x m s e told.len told.closed told.told)
     where
       by : Standing setup events (replay setup events) x m s e told.len told.closed → Lost x s e ⊎ Survivor s e
       by (inl stands) = which (all_rows x.index s)
@@ -127,13 +127,13 @@ module _ (setup : Setup) (events : List Event) (m : ServerId) (hosts : ℕ → L
                 among = found.1;
                 row = found.2;
               })
-      by (inr (inl freed)) = true_false (sym (freed-shut s above freed) ∙ unshut)
+      by (inr (inl freed)) = true_false (sym (freed-shut above freed) ∙ unshut)
       by (inr (inr (_, dropped))) = inl (inr dropped)
 
   -- a segment that was placed is gone, or some member has it still
-  gone-or : (s e : ℕ) → ((log_of setup events m).segments s).shut ≡ false → PlacedUnder setup events m s e →
+  gone-or : {s e : ℕ} → ((log_of setup events m).segments s).shut ≡ false → PlacedUnder setup events m s e →
       Gone s ⊎ Survivor s e
-  gone-or s e unshut placed = by (all-or-one
+  gone-or {s} {e} unshut placed = by (all-or-one
       (λ x. Lost x s (config_after setup placed.placed.before m s).epoch) (λ x. Survivor s e)
       (ids_of (config_after setup placed.placed.before m s).members) each)
     where
@@ -162,10 +162,9 @@ module _ (setup : Setup) (events : List Event) (m : ServerId) (hosts : ℕ → L
                 closed = told.closed;
                 told = more-since placed.placed.before placed.placed.beginning _
                     (subst (λ (y : ServerId). In (between y m (Stored s (config_after setup placed.placed.before m s).epoch told.len
-                    told.closed))
-                    (sent_after setup placed.placed.before)) (sym same) told.told);
+                    told.closed)) (sent_after setup placed.placed.before)) (sym same) told.told);
               } in
-              which (fate x s (config_after setup placed.placed.before m s).epoch opened.0 unshut now)
+              which (fate {x = x} {s = s} {e = (config_after setup placed.placed.before m s).epoch} opened.0 unshut now)
             where
               which : Lost x s (config_after setup placed.placed.before m s).epoch
                   ⊎ Survivor s (config_after setup placed.placed.before m s).epoch →
@@ -188,34 +187,32 @@ module _ (setup : Setup) (events : List Event) (m : ServerId) (hosts : ℕ → L
     placed : PlacedUnder setup events m s epoch
     valid : is_below (record { seg = s; epoch = epoch }) ((replay setup events).coordinator.least m) ≡ false
 
-  best : (s : ℕ) → 0 < s → ((log_of setup events m).segments s).shut ≡ false → Some_placed (PlacedUnder setup events m) s → BestPlaced s
-  best s above unshut some = by (least-asked setup events m)
+  best : {s : ℕ} → 0 < s → ((log_of setup events m).segments s).shut ≡ false → Some_placed (PlacedUnder setup events m) s → BestPlaced s
+  best {s} above unshut some = by (least-asked setup events m)
     where
       asked : In (to_coordinator m (Commit ((replay setup events).coordinator.least m).seg
-          ((replay setup events).coordinator.least m).epoch))
-          (replay setup events).sent →
+          ((replay setup events).coordinator.least m).epoch)) (replay setup events).sent →
           PlacedUnder setup events m ((replay setup events).coordinator.least m).seg ((replay setup events).coordinator.least m).epoch
       asked at = ((loss-facts setup events).masters m).said _ at refl
 
       which : In (to_coordinator m (Commit ((replay setup events).coordinator.least m).seg
-          ((replay setup events).coordinator.least m).epoch))
-          (replay setup events).sent →
+          ((replay setup events).coordinator.least m).epoch)) (replay setup events).sent →
           (((replay setup events).coordinator.least m).seg ≡ s) ⊎
           ((((replay setup events).coordinator.least m).seg < s) ⊎ (s < ((replay setup events).coordinator.least m).seg)) → BestPlaced s
       which at (inl same) = record {
         epoch = ((replay setup events).coordinator.least m).epoch;
         placed = subst (λ t. PlacedUnder setup events m t ((replay setup events).coordinator.least m).epoch) same (asked at);
-        valid = below-same s ((replay setup events).coordinator.least m) same;
+        valid = below-same {s = s} ((replay setup events).coordinator.least m) same;
       }
       which at (inr (inl less)) =
-          record { epoch = some.0; placed = some.1; valid = below-less s some.0 ((replay setup events).coordinator.least m) less }
+          record { epoch = some.0; placed = some.1; valid = below-less {s = s} some.0 ((replay setup events).coordinator.least m) less }
       which at (inr (inr more)) = true_false (sym (least-pairs-are-in-order setup events m s above more) ∙ unshut)
 
       by : ((replay setup events).coordinator.least m ≡ record { seg = 0; epoch = 0 })
           ⊎ In (to_coordinator m (Commit ((replay setup events).coordinator.least m).seg ((replay setup events).coordinator.least m).epoch))
           (replay setup events).sent → BestPlaced s
       by (inl none) =
-          record { epoch = some.0; placed = some.1; valid = below-none s some.0 ((replay setup events).coordinator.least m) none }
+          record { epoch = some.0; placed = some.1; valid = below-none s some.0 {least = ((replay setup events).coordinator.least m)} none }
       by (inr at) = which at (cases_order ((replay setup events).coordinator.least m).seg s)
 
   -- Where members are none, the head is gone by itself
@@ -223,14 +220,14 @@ module _ (setup : Setup) (events : List Event) (m : ServerId) (hosts : ℕ → L
   none-members [] e = refl
   none-members (member ∷ members) e = cc
 
-  no-factor : (s : ℕ) → factor_of setup m.index ≡ 0 → 0 < s → s ≤ (log_of setup events m).head →
+  no-factor : {s : ℕ} → factor_of setup m.index ≡ 0 → 0 < s → s ≤ (log_of setup events m).head →
       ((log_of setup events m).segments s).shut ≡ false → Gone s
-  no-factor s none above upto unshut = record {
+  no-factor {s} none above upto unshut = record {
     unshut = unshut;
     placed = record {
       before = events;
       beginning = ([], append-nil events);
-      opened = opened-has (log_of setup events m) s (record { above = above; below = upto });
+      opened = opened-has {log = (log_of setup events m)} {s = s} (record { above = above; below = upto });
       placed = subst (λ (members : List Member). list_all is_placed members ≡ true) (sym empty) refl;
     };
     dropped = λ x at. absurd (subst (λ (members : List Member). In x (ids_of members)) empty at);
@@ -243,8 +240,7 @@ module _ (setup : Setup) (events : List Event) (m : ServerId) (hosts : ℕ → L
   head-unshut : ((log_of setup events m).segments (log_of setup events m).head).shut ≡ false
   head-unshut = split ((log_of setup events m).segments (log_of setup events m).head).shut
       (λ is. (let below = (((good-world setup events).masters_are m).shut_below (log_of setup events m).head is).1 in absurd (omega
-      (arith, below))))
-      (λ is. is)
+      (arith, below)))) (λ is. is)
 
   -- the least segment that isn't shut: the head, or the one before; it was placed
   record LeastUnshut : Type 0 where
@@ -255,8 +251,8 @@ module _ (setup : Setup) (events : List Event) (m : ServerId) (hosts : ℕ → L
     last : (log_of setup events m).head ≤ seg + 1
     placed : Some_placed (PlacedUnder setup events m) seg
 
-  positive : (n : ℕ) → (n ≡ 0) ⊎ (0 < n)
-  positive n = grind arith
+  positive : {n : ℕ} → (n ≡ 0) ⊎ (0 < n)
+  positive = grind arith
 
   ready-first : WasReady (sent_after setup events) m → Some_placed (PlacedUnder setup events m) 1
   ready-first ready = ((loss-facts setup events).masters m).said (to_coordinator m Ready) ready refl
@@ -267,9 +263,8 @@ module _ (setup : Setup) (events : List Event) (m : ServerId) (hosts : ℕ → L
       (log_of setup placed.before m).head) placed.opened).1)
     where
       by_beginning : (before : List Event) → Begins before events → 1 ≤ (log_of setup before m).head → 0 < (log_of setup events m).head
-      by_beginning before (rest, same) has =
-          subst (λ (all : List Event). 0 < (log_of setup all m).head) same
-          (let up = (since-more setup before rest m).later.head in omega (arith, up, has))
+      by_beginning before (rest, same) has = subst (λ (all : List Event). 0 < (log_of setup all m).head) same
+          (let up = (since-more setup before rest {m = m}).later.head in omega (arith, up, has))
 
   ready-above : WasReady (sent_after setup events) m → 0 < (log_of setup events m).head
   ready-above ready = opened-is (ready-first ready).1.placed
@@ -312,11 +307,11 @@ module _ (setup : Setup) (events : List Event) (m : ServerId) (hosts : ℕ → L
   -- The answers
 
   -- a survivor's row is valid, and counts
-  valid-row : (s e : ℕ) (stands : Survivor s e) →
+  valid-row : {s e : ℕ} (stands : Survivor s e) →
       is_below (record { seg = s; epoch = e }) ((replay setup events).coordinator.least m) ≡ false →
       (held : HeldRow) × (In held (held_rows replies)) × (held.row ≡ row_of_replica (s, stands.replica)) ×
       (is_valid ((replay setup events).coordinator.least m) held.row ≡ true)
-  valid-row s e stands valid = (
+  valid-row {s} stands valid = (
     stands.held,
     stands.among,
     stands.row,
@@ -325,16 +320,16 @@ module _ (setup : Setup) (events : List Event) (m : ServerId) (hosts : ℕ → L
     where
       counts : is_valid ((replay setup events).coordinator.least m) (row_of_replica (s, stands.replica)) ≡ true
       counts = or_right stands.replica.closed _ (ap not
-          (above-valid s stands.replica.epoch e ((replay setup events).coordinator.least m) valid stands.upto))
+          (above-valid s ((replay setup events).coordinator.least m) valid stands.upto))
 
   -- No head
 
   module _ (none : HasNoHead ((replay setup events).coordinator.least m) replies) where
     -- so each survivor is closed
-    all-closed : (s e : ℕ) (stands : Survivor s e) →
+    all-closed : {s e : ℕ} (stands : Survivor s e) →
         is_below (record { seg = s; epoch = e }) ((replay setup events).coordinator.least m) ≡ false → stands.replica.closed ≡ true
-    all-closed s e stands valid =
-        let found = valid-row s e stands valid in
+    all-closed {s} {e} stands valid =
+        let found = valid-row stands valid in
         split stands.replica.closed (λ is. is) (λ isn't. true_false (sym (is-head found.0 found.2 found.3 isn't) ∙
         All-In (λ held. is_open_valid ((replay setup events).coordinator.least m) held ≡ false) (held_rows replies) found.0 none found.1))
       where
@@ -350,25 +345,25 @@ module _ (setup : Setup) (events : List Event) (m : ServerId) (hosts : ℕ → L
     -- the head has no closed replica
     head-gone : Some_placed (PlacedUnder setup events m) (log_of setup events m).head → 0 < (log_of setup events m).head →
         (s : ℕ) × Gone s
-    head-gone placed above = by (best (log_of setup events m).head above head-unshut placed)
+    head-gone placed above = by (best above head-unshut placed)
       where
         by : BestPlaced (log_of setup events m).head → (s : ℕ) × Gone s
-        by b = which (gone-or (log_of setup events m).head b.epoch head-unshut b.placed)
+        by b = which (gone-or head-unshut b.placed)
           where
             which : Gone (log_of setup events m).head ⊎ Survivor (log_of setup events m).head b.epoch →
                 (s : ℕ) × Gone s
             which (inl gone) = ((log_of setup events m).head, gone)
             which (inr stands) =
-                let closed : stands.replica.closed ≡ true = all-closed (log_of setup events m).head b.epoch stands b.valid in
+                let closed : stands.replica.closed ≡ true = all-closed stands b.valid in
                 let below = ((replica-copy setup events m stands.host (log_of setup events m).head stands.replica
                 stands.kept).copy.whole closed).0 in
                 absurd (omega (arith, below))
 
     no-head : LeastUnshut → 0 < factor_of setup m.index → (s : ℕ) × Gone s
-    no-head l some = by (best l.seg l.above l.unshut l.placed)
+    no-head l some = by (best l.above l.unshut l.placed)
       where
         by : BestPlaced l.seg → (s : ℕ) × Gone s
-        by b = which (gone-or l.seg b.epoch l.unshut b.placed)
+        by b = which (gone-or l.unshut b.placed)
           where
             next : IsNext (factor_of setup m.index) (log_of setup events m).head (log_of setup events m).phase l.seg →
                 (s : ℕ) × Gone s
@@ -379,9 +374,8 @@ module _ (setup : Setup) (events : List Event) (m : ServerId) (hosts : ℕ → L
             which : Gone l.seg ⊎ Survivor l.seg b.epoch → (s : ℕ) × Gone s
             which (inl gone) = (l.seg, gone)
             which (inr stands) =
-                let closed : stands.replica.closed ≡ true = all-closed l.seg b.epoch stands b.valid in
-                next (closed-next (factor_of setup m.index) (PlacedUnder setup events m) (replay setup events).sent m
-                ((replay setup events).masters m).log l.seg ((loss-facts setup events).masters m)
+                let closed : stands.replica.closed ≡ true = all-closed stands b.valid in
+                next (closed-next (PlacedUnder setup events m) ((loss-facts setup events).masters m)
                 (((loss-facts setup events).hosts stands.host m).closed l.seg stands.replica stands.kept closed))
 
   -- A segment has no row
@@ -401,8 +395,7 @@ module _ (setup : Setup) (events : List Event) (m : ServerId) (hosts : ℕ → L
       (listed : In t row.digest) (other : t ≡ row.seg → ⊥)
       (none : All (λ held. is_valid_of ((replay setup events).coordinator.least m) t held ≡ false) (held_rows replies)) where
     row-unshut : ((log_of setup events m).segments row.seg).shut ≡ true → ⊥
-    row-unshut = head-not-below (replay setup events).sent (replay setup events).masters (replay setup events).hosts
-        (replay setup events).coordinator (good-world setup events) m head row copy unclosed valid
+    row-unshut = head-not-below (good-world setup events) head copy unclosed valid
 
     in_digest : In t ((log_of setup events m).segments row.seg).digest
     in_digest = subst (λ (digest : List ℕ). In t digest) copy.digest_is listed
@@ -470,25 +463,24 @@ module _ (setup : Setup) (events : List Event) (m : ServerId) (hosts : ℕ → L
 
     -- one that isn't shut is the one before the head
     if-unshut : ((log_of setup events m).segments t).shut ≡ false → (s : ℕ) × Gone s
-    if-unshut unshut =
-        by (best t before-head.0 unshut (((loss-facts setup events).masters m).lower t before-head.0
+    if-unshut unshut = by (best before-head.0 unshut (((loss-facts setup events).masters m).lower t before-head.0
         (let less = before-head.1 in let upto = copy.opened.below in omega (arith, less, upto))))
       where
         by : BestPlaced t → (s : ℕ) × Gone s
-        by b = which (gone-or t b.epoch unshut b.placed)
+        by b = which (gone-or unshut b.placed)
           where
             which : Gone t ⊎ Survivor t b.epoch → (s : ℕ) × Gone s
             which (inl gone) = (t, gone)
             which (inr stands) =
-                let found = valid-row t b.epoch stands b.valid in
+                let found = valid-row stands b.valid in
                 absurd (none-valid found.0 found.1 (ap (λ (one : Row). one.seg) found.2) found.3)
 
     no-row : 0 < factor_of setup m.index → Outcome t
     no-row some = split ((log_of setup events m).segments t).shut (λ shut. inr (shut, if-shut shut some))
         (λ unshut. inl (if-unshut unshut))
 
-  segment-gone : (t : ℕ) → IsLeastMissing ((replay setup events).coordinator.least m) replies t → 0 < factor_of setup m.index → Outcome t
-  segment-gone t is some =
+  segment-gone : {t : ℕ} → IsLeastMissing ((replay setup events).coordinator.least m) replies t → 0 < factor_of setup m.index → Outcome t
+  segment-gone {t} is some =
       let top : HeadIs ((replay setup events).coordinator.least m) replies is.head =
       head-is ((replay setup events).coordinator.least m) replies is.head is.head_is in
       let found : CopyAt setup events m is.head.row = row-copy setup events m replies answers is.head top.among in
@@ -502,30 +494,29 @@ module _ (setup : Setup) (events : List Event) (m : ServerId) (hosts : ℕ → L
   Refusal fault = ((s : ℕ) × IsGoneBut (hosts s) setup events m s) ⊎ ((t : ℕ) × (fault ≡ SegmentMissing t) ×
       (((log_of setup events m).segments t).shut ≡ true) × Absent t)
 
-  pub refused-gone : (fault : Fault) → WasReady (sent_after setup events) m → IsRefused setup events m replies fault → Refusal fault
-  refused-gone fault ready refused = by_factor (positive (factor_of setup m.index))
+  pub refused-gone : {fault : Fault} → WasReady (sent_after setup events) m → IsRefused setup events m replies fault → Refusal fault
+  refused-gone {fault} ready refused = by_factor (positive)
     where
       outcome : (t : ℕ) → fault ≡ SegmentMissing t → Outcome t → Refusal fault
       outcome t same (inl gone) = inl gone
       outcome t same (inr (shut, absent)) = inr (t, same, shut, absent)
 
       by_fault : 0 < factor_of setup m.index → IsMissing fault → Refusal fault
-      by_fault some (inl same) =
-          inl (no-head (head_missing ((replay setup events).coordinator.least m) replies
+      by_fault some (inl same) = inl (no-head (head_missing ((replay setup events).coordinator.least m) replies
           (subst (λ (one : Fault). pick ((replay setup events).coordinator.least m) replies ≡ Err one) same refused))
           (least-unshut some ready) some)
       by_fault some (inr (t, same)) =
-          outcome t same (segment-gone t (segment_missing ((replay setup events).coordinator.least m) replies t
+          outcome t same (segment-gone (segment_missing ((replay setup events).coordinator.least m) replies t
           (subst (λ (one : Fault). pick ((replay setup events).coordinator.least m) replies ≡ Err one) same refused)) some)
 
       by_factor : (factor_of setup m.index ≡ 0) ⊎ (0 < factor_of setup m.index) → Refusal fault
       by_factor (inl none) =
-          inl ((log_of setup events m).head, no-factor (log_of setup events m).head none (ready-above ready) (omega arith) head-unshut)
+          inl ((log_of setup events m).head, no-factor none (ready-above ready) (omega arith) head-unshut)
       by_factor (inr some) = by_fault some (refused-is ((replay setup events).coordinator.least m) replies fault refused)
 
 pub refusals-mean-loss : RefusalsMeanLoss
 refusals-mean-loss setup events m replies fault ready answers all_rows refused =
-    by (refused-gone setup events m (λ _. []) replies answers (λ i s. inr (all_rows i s)) fault ready refused)
+    by (refused-gone setup events m (λ _. []) replies answers (λ i s. inr (all_rows i s)) ready refused)
   where
     by : Refusal setup events m (λ _. []) replies answers (λ i s. inr (all_rows i s)) fault → (s : ℕ) × IsGone setup events m s
     by (inl (s, gone)) = (s, record { unshut = gone.unshut; placed = gone.placed; dropped = λ x at. which x (gone.dropped x at) })

@@ -19,49 +19,40 @@ module _ (f : ℕ) (W : ℕ → ℕ → Type 0) (sent : List Message) (m : Serve
   -- A segment changes
 
   -- other members, under the same epoch
-  config-put : (log : Log) (seg : ℕ) (config : Config) → Placings f W sent m log →
+  config-put : {log : Log} {seg : ℕ} (config : Config) → Placings f W sent m log →
       length config.members ≡ length (log.segments seg).config.members → config.epoch ≡ (log.segments seg).config.epoch →
       AllKnown sent m seg config.epoch config.members → Placings f W sent m (with_config seg config log)
-  config-put log seg config p many epoch known =
-      placings-put f W sent m log seg (record (log.segments seg) { config = config }) p
-      (good-config f W sent m log.head log.phase seg (log.segments seg) (record (log.segments seg) { config = config }) many refl
+  config-put {seg} config p many epoch known = placings-put W p (good-config W many refl
       (λ _. epoch) known (λ is. (is, epoch)) (p.each seg))
 
   -- marks that are not of the config
-  pub alike-put : (log : Log) (seg : ℕ) (segment : Segment) → Placings f W sent m log →
+  pub alike-put : {log : Log} {seg : ℕ} (segment : Segment) → Placings f W sent m log →
       segment.config ≡ (log.segments seg).config → segment.shut ≡ (log.segments seg).shut →
       segment.commit_sent ≡ (log.segments seg).commit_sent → Placings f W sent m (with_segment seg segment log)
-  alike-put log seg segment p config shut marked =
-      placings-put f W sent m log seg segment p
-      (good-alike f W sent m log.head log.phase seg (log.segments seg) segment config shut marked (p.each seg))
+  alike-put {seg} segment p config shut marked = placings-put W p (good-alike W config shut marked (p.each seg))
 
   -- lost members
-  marked-put : (log : Log) (seg : ℕ) (servers : ServerList) → Placings f W sent m log →
+  marked-put : {log : Log} (seg : ℕ) (servers : ServerList) → Placings f W sent m log →
       Placings f W sent m (with_config seg (with_lost servers (log.segments seg).config) log)
-  marked-put log seg servers p =
-      config-put log seg (with_lost servers (log.segments seg).config) p
+  marked-put {log} seg servers p = config-put (with_lost servers (log.segments seg).config) p
       (length-map (log.segments seg).config.members (lost_if_crashed servers)) refl
-      (known-lost sent m seg (log.segments seg).config.epoch servers (log.segments seg).config.members (p.each seg).known)
+      (known-lost servers (log.segments seg).config.members (p.each seg).known)
 
-  refilled-put : (log : Log) (seg : ℕ) (servers : ServerList) (found : Option (List ServerId)) → Placings f W sent m log →
+  refilled-put : {log : Log} (seg : ℕ) (servers : ServerList) (found : Option (List ServerId)) → Placings f W sent m log →
       Placings f W sent m (refills seg log (refills_with (with_lost servers (log.segments seg).config) found)).0
-  refilled-put log seg servers None p = marked-put log seg servers p
-  refilled-put log seg servers (Some ids) p =
-      config-put log seg (record (with_lost servers (log.segments seg).config)
+  refilled-put seg servers None p = marked-put seg servers p
+  refilled-put {log} seg servers (Some ids) p = config-put (record (with_lost servers (log.segments seg).config)
       { members = replaced (with_lost servers (log.segments seg).config).members ids }) p
       (many-replaced (map (lost_if_crashed servers) (log.segments seg).config.members) ids ∙
       length-map (log.segments seg).config.members (lost_if_crashed servers)) refl
       (known-replaced sent m seg (log.segments seg).config.epoch (map (lost_if_crashed servers) (log.segments seg).config.members) ids
-      (known-lost sent m seg (log.segments seg).config.epoch servers (log.segments seg).config.members (p.each seg).known))
+      (known-lost servers (log.segments seg).config.members (p.each seg).known))
 
-  changed-put : (log : Log) (seg : ℕ) (servers : ServerList) (ids : List ServerId) →
+  changed-put : {log : Log} (seg : ℕ) (servers : ServerList) (ids : List ServerId) →
       (log.segments seg).shut ≡ false → Placings f W sent m log →
       Placings f W sent m
       (with_segment seg (under_new_epoch (changed (with_lost servers (log.segments seg).config) ids) (log.segments seg)) log)
-  changed-put log seg servers ids unshut p =
-      placings-put f W sent m log seg _ p
-      (good-config f W sent m log.head log.phase seg (log.segments seg)
-      (under_new_epoch (changed (with_lost servers (log.segments seg).config) ids) (log.segments seg))
+  changed-put {log} seg servers ids unshut p = placings-put W p (good-config W
       (length-map (replaced (map (lost_if_crashed servers) (log.segments seg).config.members) ids)
       (λ (member : Member). new_member member.id) ∙
       many-replaced (map (lost_if_crashed servers) (log.segments seg).config.members) ids ∙
@@ -70,56 +61,55 @@ module _ (f : ℕ) (W : ℕ → ℕ → Type 0) (sent : List Message) (m : Serve
       (replaced (map (lost_if_crashed servers) (log.segments seg).config.members) ids))
       (λ never. true_false (sym never)) (p.each seg))
 
-  changes-put : (log : Log) (seg : ℕ) (servers : ServerList) (found : Option (List ServerId)) →
+  changes-put : {log : Log} (seg : ℕ) (servers : ServerList) (found : Option (List ServerId)) →
       (log.segments seg).shut ≡ false → Placings f W sent m log →
       Placings f W sent m (opens_change seg log (changes_to (with_lost servers (log.segments seg).config) found)).0
-  changes-put log seg servers None unshut p = marked-put log seg servers p
-  changes-put log seg servers (Some ids) unshut p =
+  changes-put seg servers None unshut p = marked-put seg servers p
+  changes-put {log} seg servers (Some ids) unshut p =
       either (λ (answer : Config × Result Bool Fault). Placings f W sent m (opens_change seg log answer).0)
       (nat_lt (log.segments seg).config.epoch LAST_EPOCH) (changed (with_lost servers (log.segments seg).config) ids, Ok true)
       (with_lost servers (log.segments seg).config, Err EpochsExhausted)
-      (λ _. changed-put log seg servers ids unshut p) (λ _. marked-put log seg servers p)
+      (λ _. changed-put seg servers ids unshut p) (λ _. marked-put seg servers p)
 
-  pub loses-put : (servers : ServerList) (seg : ℕ) (log : Log) → Placings f W sent m log →
+  pub loses-put : (servers : ServerList) (seg : ℕ) {log : Log} → Placings f W sent m log →
       Placings f W sent m (loses servers seg log).0
-  loses-put servers seg log p =
+  loses-put servers seg {log} p =
       either (λ (after : Log × Result (List ServerId) Fault). Placings f W sent m after.0) (log.segments seg).shut
       (refills seg log (refill log.own servers (log.segments seg).config))
       (opens_change seg log (lose log.own servers (log.segments seg).config))
-      (λ _. refilled-put log seg servers (substitutes_for log.own servers (with_lost servers (log.segments seg).config)) p)
+      (λ _. refilled-put seg servers (substitutes_for log.own servers (with_lost servers (log.segments seg).config)) p)
       (λ unshut. either (λ (answer : Config × Result Bool Fault). Placings f W sent m (opens_change seg log answer).0)
       (any_lost (with_lost servers (log.segments seg).config).members)
       (changes_to (with_lost servers (log.segments seg).config)
       (substitutes_for log.own servers (with_lost servers (log.segments seg).config)))
       (with_lost servers (log.segments seg).config, Ok false)
-      (λ _. changes-put log seg servers (substitutes_for log.own servers (with_lost servers (log.segments seg).config)) unshut p)
-      (λ _. marked-put log seg servers p))
+      (λ _. changes-put seg servers (substitutes_for log.own servers (with_lost servers (log.segments seg).config)) unshut p)
+      (λ _. marked-put seg servers p))
 
   -- what members tell
   pub stored-put : (seg : ℕ) (from : ServerId) (epoch len : ℕ) (closed : Bool) (log : Log) →
       In (between from m (Stored seg epoch len closed)) sent → (closed ≡ true → HasClosed sent m seg) →
       Placings f W sent m log → Placings f W sent m (stored seg from epoch len closed log)
-  stored-put seg from epoch len closed log at shuts p =
-      either (Placings f W sent m) (has_segment log seg)
+  stored-put seg from epoch len closed log at shuts p = either (Placings f W sent m) (has_segment log seg)
       (with_config seg (noted from epoch len closed (log.segments seg).config) log) log
       (λ _. either (λ (config : Config). Placings f W sent m (with_config seg config log))
       (nat_eq epoch (log.segments seg).config.epoch)
       (record (log.segments seg).config { members = map (told_if_heard from len closed) (log.segments seg).config.members })
       (log.segments seg).config
-      (λ e. config-put log seg _ p (length-map (log.segments seg).config.members (told_if_heard from len closed)) refl
+      (λ e. config-put _ p (length-map (log.segments seg).config.members (told_if_heard from len closed)) refl
       (known-told sent m seg (log.segments seg).config.epoch from len closed
       (subst (λ n. In (between from m (Stored seg n len closed)) sent) (eqb-true epoch (log.segments seg).config.epoch e) at)
       shuts (log.segments seg).config.members (p.each seg).known))
-      (λ _. config-put log seg (log.segments seg).config p refl refl (p.each seg).known)) (λ _. p)
+      (λ _. config-put (log.segments seg).config p refl refl (p.each seg).known)) (λ _. p)
 
-  pub commit-put : (seg epoch : ℕ) (log : Log) → Placings f W sent m log → Placings f W sent m (commit_noted seg epoch log)
-  commit-put seg epoch log p =
+  pub commit-put : (seg epoch : ℕ) {log : Log} → Placings f W sent m log → Placings f W sent m (commit_noted seg epoch log)
+  commit-put seg epoch {log} p =
       either (Placings f W sent m) (has_segment log seg) (with_config seg (committed_at epoch (log.segments seg).config) log) log
       (λ _. either (λ (config : Config). Placings f W sent m (with_config seg config log))
       (nat_eq epoch (log.segments seg).config.epoch) (record (log.segments seg).config { committed = true })
       (log.segments seg).config
-      (λ _. config-put log seg (record (log.segments seg).config { committed = true }) p refl refl (p.each seg).known)
-      (λ _. config-put log seg (log.segments seg).config p refl refl (p.each seg).known)) (λ _. p)
+      (λ _. config-put (record (log.segments seg).config { committed = true }) p refl refl (p.each seg).known)
+      (λ _. config-put (log.segments seg).config p refl refl (p.each seg).known)) (λ _. p)
 
   -- The phase, and a new head
 
@@ -128,14 +118,12 @@ module _ (f : ℕ) (W : ℕ → ℕ → Type 0) (sent : List Message) (m : Serve
   next-up head s phase now (inr (same, _)) = inl (omega (arith, same))
 
   -- a head is opened where the old one was placed, or there was none
-  pub opens-put : (log : Log) (digest : List ℕ) (ids : List ServerId) → length ids ≡ f →
+  pub opens-put : {log : Log} (digest : List ℕ) (ids : List ServerId) → length ids ≡ f →
       (log.phase ≡ Opening → ⊥) ⊎ (log.head ≡ 0) → Placings f W sent m log → Placings f W sent m (opens_head log digest ids)
-  opens-put log digest ids many may p =
-      placings-moved f W sent m log (opens_head log digest ids) refl refl (λ s. next-up log.head s log.phase Opening)
+  opens-put {log} digest ids many may p = placings-moved W refl refl (λ s. next-up log.head s log.phase Opening)
       (λ s above below. lower s above (last s log.head below) may) (λ never. absurd (never refl))
       (put-cases (λ k (one : Segment). GoodPlacing f W sent m (log.head + 1) Opening k one) log.segments (log.head + 1)
-      (new_segment (log.head + 1) digest ids) fresh
-      (λ k differs. good-later f W W sent sent m log.head (log.head + 1) log.phase Opening k (log.segments k) (λ t e w. w)
+      (new_segment (log.head + 1) digest ids) fresh (λ k differs. good-later W W (λ t e w. w)
       (λ message at. at) (λ above upto. which k log.head upto (λ same. differs (sym same)))
       (next-up log.head k log.phase Opening) (p.each k))) p
     where
@@ -160,38 +148,36 @@ module _ (f : ℕ) (W : ℕ → ℕ → Type 0) (sent : List Message) (m : Serve
       }
 
   -- the phase goes on from Opening, where the head is placed on all, or from one in which it was
-  pub phase-put : (log : Log) (phase : Phase) → (phase ≡ Opening → ⊥) → (0 < log.head) × Some_placed W log.head →
+  pub phase-put : {log : Log} {phase : Phase} → (phase ≡ Opening → ⊥) → (0 < log.head) × Some_placed W log.head →
       Placings f W sent m log → Placings f W sent m (record log { phase = phase })
-  phase-put log phase not_opening placed p =
-      placings-moved f W sent m log (record log { phase = phase }) refl refl next p.lower (λ _. placed)
-      (λ s. good-later f W W sent sent m log.head log.head log.phase phase s (log.segments s) (λ t e w. w) (λ message at. at)
-      (λ above upto. upto) (next s) (p.each s)) p
+  phase-put {log} {phase} not_opening placed p = placings-moved W refl refl next p.lower (λ _. placed)
+      (λ s. good-later W W (λ t e w. w) (λ message at. at) (λ above upto. upto) (next s) (p.each s)) p
     where
       next : (s : ℕ) → IsNext f log.head log.phase s → IsNext f log.head phase s
       next s (inl less) = inl less
       next s (inr (same, _)) = inr (same, λ some. not_opening)
 
   -- the durable count
-  pub counted-put : (log : Log) (n : ℕ) → Placings f W sent m log → Placings f W sent m (record log { durable = n })
-  counted-put log n p = placings-moved f W sent m log (record log { durable = n }) refl refl (λ s is. is) p.lower p.head_placed p.each p
+  pub counted-put : {log : Log} {n : ℕ} → Placings f W sent m log → Placings f W sent m (record log { durable = n })
+  counted-put p = placings-moved W refl refl (λ s is. is) p.lower p.head_placed p.each p
 
 -- What is placed now stays so
 
-pub placed-kept : (old new : Log) → old.head ≤ new.head →
+pub placed-kept : {old new : Log} → old.head ≤ new.head →
     ((s : ℕ) → s ≤ old.head → (new.segments s).config ≡ (old.segments s).config) → (s e : ℕ) → PlacedNow old s e → PlacedNow new s e
-placed-kept old new up same s e p = record {
+placed-kept up same s e p = record {
   opened = record { above = p.opened.above; below = omega (arith, up, p.opened.below) };
   placed = subst (λ (config : Config). all_placed config ≡ true) (sym (same s p.opened.below)) p.placed;
   epoch = subst (λ (config : Config). config.epoch ≡ e) (sym (same s p.opened.below)) p.epoch;
 }
 
-pub kept-put : (log : Log) (seg : ℕ) (segment : Segment) → segment.config ≡ (log.segments seg).config → (s e : ℕ) →
+pub kept-put : {log : Log} (seg : ℕ) (segment : Segment) → segment.config ≡ (log.segments seg).config → (s e : ℕ) →
     PlacedNow log s e → PlacedNow (with_segment seg segment log) s e
-kept-put log seg segment same = placed-kept log (with_segment seg segment log) (omega arith)
+kept-put {log} seg segment same = placed-kept (omega arith)
     (λ s _. put_each (λ k (one : Segment). one.config ≡ (log.segments k).config) log.segments seg segment same (λ k. refl) s)
 
-pub kept-opens : (log : Log) (digest : List ℕ) (ids : List ServerId) (s e : ℕ) → PlacedNow log s e → PlacedNow
+pub kept-opens : {log : Log} (digest : List ℕ) (ids : List ServerId) (s e : ℕ) → PlacedNow log s e → PlacedNow
     (opens_head log digest ids) s e
-kept-opens log digest ids = placed-kept log (opens_head log digest ids) (omega arith)
+kept-opens {log} digest ids = placed-kept (omega arith)
     (λ s upto. put-cases (λ k (one : Segment). k ≤ log.head → one.config ≡ (log.segments k).config) log.segments (log.head + 1)
     (new_segment (log.head + 1) digest ids) (λ beyond. absurd (omega (arith, beyond))) (λ k _ _. refl) s upto)

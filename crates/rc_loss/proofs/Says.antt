@@ -74,8 +74,7 @@ module _ (f : ℕ) (W : ℕ → ℕ → Type 0) (sent : List Message) (m : Serve
 
   shut-holds : (before : Log) (segs : List ℕ) → Each Holds (reminds_shut before log segs)
   shut-holds before [] = each-none Holds
-  shut-holds before (seg ∷ segs) =
-      each-both Holds
+  shut-holds before (seg ∷ segs) = each-both Holds
       (cond ((log.segments seg).shut && not (log.segments seg).freed) (reminds_shut_members log seg (standing before log seg)) [])
       (reminds_shut before log segs)
       (each-if Holds ((log.segments seg).shut && not (log.segments seg).freed) (reminds_shut_members log seg (standing before log seg))
@@ -98,16 +97,14 @@ module _ (f : ℕ) (W : ℕ → ℕ → Type 0) (sent : List Message) (m : Serve
       (filter (awaits_grant master) master.ownership.parts) (λ state at. tt)
 
   ready-holds : (master : Master) → master.log.phase ≡ log.phase → Each Holds (ready_again master)
-  ready-holds master same =
-      each-if Holds (is_writing master.log.phase && nat_eq (length master.ownership.grants) 0)
-      (to_coordinator master.log.own Ready ∷ [])
-      (λ e. each-one Holds (to_coordinator master.log.own Ready)
+  ready-holds master same = each-if Holds (is_writing master.log.phase && nat_eq (length master.ownership.grants) 0)
+      (to_coordinator master.log.own Ready ∷ []) (λ e. each-one Holds (to_coordinator master.log.own Ready)
       (first-placed (writing-not log.phase
       (sym (ap is_writing same) ∙ (and_parts (is_writing master.log.phase) (nat_eq (length master.ownership.grants) 0) e).0))))
 
-pub reminds-hold : (f : ℕ) (W : ℕ → ℕ → Type 0) (sent : List Message) (m : ServerId) (before : Log) (master : Master) →
+pub reminds-hold : {f : ℕ} (W : ℕ → ℕ → Type 0) {sent : List Message} {m : ServerId} (before : Log) (master : Master) →
     Placings f W sent m master.log → AllClaim f W master.log (reminds before master).1
-reminds-hold f W sent m before master p =
+reminds-hold {f} W {sent} {m} before master p =
     each-both P _ (ready_again master) (each-both P _ (recovered_again master) (each-both P _ (fetches_again master master.tasks)
     (each-both P _ (commits_again log)
     (each-both P (reminds_open before log (numbers_to log.head)) (reminds_shut before log (numbers_to log.head))

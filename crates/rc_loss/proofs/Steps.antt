@@ -48,7 +48,7 @@ module _ (f : ℕ) (W : ℕ → ℕ → Type 0) (m : ServerId) where
         ((sent : List Message) → More known sent → Good sent old.log → Good sent new.log) →
         ((sent : List Message) → Good sent new.log → AllClaim f W new.log messages) → Begins old (new, messages)
     begins-by old new messages change claim sent more good =
-        placings-say f W sent messages m new.log (claim sent (change sent more good)) (change sent more good)
+        placings-say W messages (claim sent (change sent more good)) (change sent more good)
 
     begins-same : (old new : Master) (messages : List Message) → new.log ≡ old.log → Quiet messages → Begins old (new, messages)
     begins-same old new messages same quiet =
@@ -64,19 +64,19 @@ module _ (f : ℕ) (W : ℕ → ℕ → Type 0) (m : ServerId) where
         each-to_ids (λ message. Claims (IsNext f log.head log.phase) (Some_placed W 1) W message.body) log.own ids
         (place_of log seg closed) (λ id _. next)
 
-    begins-opens : (master : Master) (digest : List ℕ) (ids : List ServerId) (seg : ℕ) →
+    begins-opens : (master : Master) (digest : List ℕ) {ids : List ServerId} (seg : ℕ) →
         choose seg master.log.own master.log.factor master.known ≡ Some ids →
         (master.log.phase ≡ Opening → ⊥) ⊎ (master.log.head ≡ 0) →
         Begins master (with_log master (opens_head master.log digest ids), places_head (opens_head master.log digest ids))
-    begins-opens master digest ids seg chosen may =
+    begins-opens master digest {ids} seg chosen may =
         begins-by master (with_log master (opens_head master.log digest ids)) (places_head (opens_head master.log digest ids))
-        (λ sent more good. opens-put f W sent m master.log digest ids
+        (λ sent more good. opens-put f W sent m digest ids
         (choose-length seg master.log.own master.log.factor master.known ids chosen ∙ good.factor) may good)
         (λ sent good. whole-claims sent (opens_head master.log digest ids) (master.log.head + 1) false _ (λ never. true_false (sym never)))
 
     pub begins-rolls : (master : Master) → Rolls Begins master
     begins-rolls master ids writing room chosen =
-        begins-opens master (next_digest master.log (dead_segments master)) ids (master.log.head + 1) chosen
+        begins-opens master (next_digest master.log (dead_segments master)) (master.log.head + 1) chosen
         (inl (writing-is-not master.log.phase writing))
       where
         writing-is-not : (phase : Phase) → is_writing phase ≡ true → phase ≡ Opening → ⊥
@@ -87,16 +87,15 @@ module _ (f : ℕ) (W : ℕ → ℕ → Type 0) (m : ServerId) where
     pub begins-listed : Listed Begins
     begins-listed = record {
       replaces = λ master seg ids isn't. begins-by master (with_log master (loses master.known seg master.log).0) _
-          (λ sent more good. loses-put f W sent m master.known seg master.log good)
+          (λ sent more good. loses-put f W sent m master.known seg good)
           (λ sent good. whole-claims sent (loses master.known seg master.log).0 seg _ ids (good.each seg).next);
-      opens = λ master ids none chosen. begins-opens master (1 ∷ []) ids 1 chosen (inr none);
+      opens = λ master ids none chosen. begins-opens master (1 ∷ []) 1 chosen (inr none);
     }
 
     begins-appends : (master : Master) (entry : Entry) (client : Bool) → Begins master (appends_entry master entry client)
     begins-appends master entry client =
         begins-by master (appends_entry master entry client).0 (appends_entry master entry client).1
-        (λ sent more good. alike-put f W sent m master.log master.log.head (with_entry entry client
-        (head_of master.log)) good refl refl refl)
+        (λ sent more good. alike-put f W sent m (with_entry entry client (head_of master.log)) good refl refl refl)
         (λ sent good. each-to_ids (λ message. Claims _ (Some_placed W 1) W message.body) master.log.own
         (ids_of (not_lost (head_of master.log).config.members))
         (Append master.log.head (length (head_of master.log).entries) (entry ∷ [])) (λ id _. tt))
@@ -118,7 +117,7 @@ module _ (f : ℕ) (W : ℕ → ℕ → Type 0) (m : ServerId) where
           record { message = c.message; among = more _ c.among; from = c.from; says = c.says })) good)
           (λ sent good message none. absurd none);
       commits = λ seg epoch is. begins-by master (with_log master (commit_noted seg epoch master.log)) []
-          (λ sent more good. commit-put f W sent m seg epoch master.log good) (λ sent good message none. absurd none);
+          (λ sent more good. commit-put f W sent m seg epoch good) (λ sent good message none. absurd none);
       deposes = begins-same master (record master { deposed = true }) [] refl quiet-none;
       begins = λ one attempt crashed head rows parts part is among new. begins-same one
           (begun (task_of attempt crashed rows part) one) _ refl (λ log. each-map _ _ rows (λ row _. tt));
@@ -140,5 +139,5 @@ module _ (f : ℕ) (W : ℕ → ℕ → Type 0) (m : ServerId) where
     begins-ticked = record {
       enlists = λ master. begins-same master master _ refl (λ log. each-one _ _ tt);
       reminds = λ before master. begins-by master master (reminds before master).1 (λ sent more good. good)
-          (λ sent good. reminds-hold f W sent m before master good);
+          (λ sent good. reminds-hold W before master good);
     }

@@ -37,17 +37,17 @@ module _ (world : World) (one : Event) (good : GoodWorld world) (m : ServerId) w
     done-none : (host : HostNode) → Done (host, [])
     done-none host = none-new (host_done world one i (host, [])) [] refl (λ x s e len closed at. at)
 
-    done-moved : (master : Master) (after : Master × List Message) → MasterMoved world.sent (server_of (world.hosts i)) master after →
+    done-moved : {master : Master} (after : Master × List Message) → MasterMoved world.sent (server_of (world.hosts i)) master after →
         Done (with_master (world.hosts i) after)
-    done-moved master (now, messages) moved = none-new (host_done world one i (with_master (world.hosts i) (now, messages))) messages refl
+    done-moved (now, messages) moved = none-new (host_done world one i (with_master (world.hosts i) (now, messages))) messages refl
         (λ x s e len closed at. (moved.says (between x m (Stored s e len closed)) at).says)
 
-    done-backup : (master : Master) → (world.hosts i).master ≡ Some master → (after : Backup × List Message) →
+    done-backup : {master : Master} → (world.hosts i).master ≡ Some master → (after : Backup × List Message) →
         Done (with_backup (world.hosts i) after)
-    done-backup master is (backup, messages) =
+    done-backup {master} is (backup, messages) =
         inl (ap (λ (found : Option Master). with_last_view world.masters found m) is ∙
-        ap (λ (table : ServerId → Master). table m) (put_id-found world.masters master.log.own master
-        (ap world.masters (is-good world one i good master is).own ∙ (good.hosts_are i).runs master is)))
+        ap (λ (table : ServerId → Master). table m) (put_id-found {masters = world.masters} master.log.own {master = master}
+        (ap world.masters (is-good world one i good {master = master} is).own ∙ (good.hosts_are i).runs master is)))
 
     no-enlist : (x : ServerId) (s e len : ℕ) (closed : Bool) →
         In (between x m (Stored s e len closed)) (to_coordinator (next_server (world.hosts i)) Enlist ∷ []) → ⊥
@@ -58,9 +58,9 @@ module _ (world : World) (one : Event) (good : GoodWorld world) (m : ServerId) w
     done-host : (work : NodeWork) → IsGiven world.sent (TheHost i) work → Done (host_step (world.hosts i) work)
     done-host work given = walked-host world one i good Done (record {
       still = done-none (world.hosts i);
-      backs = λ master is from says at moved. done-backup master is (backup_takes (world.hosts i).backup from says);
-      takes = λ master is from says at moved. done-moved master (master_takes master from says) moved;
-      ticks = λ master is moved. done-moved master (master_ticks master) moved;
+      backs = λ master is from says at moved. done-backup is (backup_takes (world.hosts i).backup from says);
+      takes = λ master is from says at moved. done-moved (master_takes master from says) moved;
+      ticks = λ master is moved. done-moved (master_ticks master) moved;
       stops = done-none (record (world.hosts i) { master = None });
       starts = λ kept. none-new (host_done world one i (host_step (world.hosts i) (Start kept)))
           (to_coordinator (next_server (world.hosts i)) Enlist ∷ []) refl no-enlist;
@@ -73,7 +73,7 @@ module _ (world : World) (one : Event) (good : GoodWorld world) (m : ServerId) w
 
   either-job : (found : Option Job) → job_of world.sent one ≡ found → Either (job_done world one found)
   either-job None is = inl refl
-  either-job (Some job) is = either-node job.node job.work (job_of-given world.sent one job is)
+  either-job (Some job) is = either-node job.node job.work (job_of-given world.sent one is)
 
   moves-or-tells : Either (step world one)
   moves-or-tells = either Either (is_possible world one) (job_done world one (job_of world.sent one)) world
@@ -87,9 +87,9 @@ pub record Tellers (f : ℕ) (sent : List Message) (m : ServerId) (t : ℕ) : Ty
   pub apart : OnDifferentHosts ids
   pub told : (x : ServerId) → In x ids → (e : ℕ) × HasToldClosed sent x m t e
 
-tellers-more : (f : ℕ) (sent sent_now : List Message) (m : ServerId) (t : ℕ) → More sent sent_now → Tellers f sent m t → Tellers f
+tellers-more : {f : ℕ} {sent sent_now : List Message} {m : ServerId} {t : ℕ} → More sent sent_now → Tellers f sent m t → Tellers f
     sent_now m t
-tellers-more f sent sent_now m t more p = record {
+tellers-more more p = record {
   ids = p.ids;
   many = p.many;
   apart = p.apart;
@@ -125,8 +125,7 @@ module _ (setup : Setup) (events : List Event) (one : Event) (p : AllTellers set
 
       -- what was told under its epoch was told before
       placed : In (between was.teller m (Stored t (((step (replay setup events) one).masters m).log.segments t).config.epoch
-          was.told.len true))
-          (replay setup events).sent → (0 < t) × (t ≤ ((replay setup events).masters m).log.head) ×
+          was.told.len true)) (replay setup events).sent → (0 < t) × (t ≤ ((replay setup events).masters m).log.head) ×
           ((((step (replay setup events) one).masters m).log.segments t).config.epoch ≤
           (((replay setup events).masters m).log.segments t).config.epoch)
       placed at =
@@ -155,8 +154,7 @@ module _ (setup : Setup) (events : List Event) (one : Event) (p : AllTellers set
             apart = ((good-world setup events).masters_are m).apart t unshut;
             told = λ x at. (
               (((step (replay setup events) one).masters m).log.segments t).config.epoch,
-              later.shuts t x upto unshut
-                  shut same at,
+              later.shuts t x upto unshut shut same at,
             );
           }
 
@@ -167,8 +165,7 @@ module _ (setup : Setup) (events : List Event) (one : Event) (p : AllTellers set
       by (inr back) = old (placed (back was.teller t _ was.told.len true was.told.told))
 
   tellers-step : Now
-  tellers-step = split (((replay setup events).masters m).log.segments t).shut
-      (λ is. tellers-more (factor_of setup m.index) (replay setup events).sent (step (replay setup events) one).sent m t led.onward.more
+  tellers-step = split (((replay setup events).masters m).log.segments t).shut (λ is. tellers-more led.onward.more
       (p m t some is)) newly
 
 tellers-from : (setup : Setup) (past events : List Event) → AllTellers setup (replay setup past) → AllTellers setup (replay setup

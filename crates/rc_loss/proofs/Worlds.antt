@@ -30,36 +30,36 @@ pub record PlacedUnder (setup : Setup) (events : List Event) (m : ServerId) (s e
   pub placed : WasPlaced setup events m s
   pub epoch : (config_after setup placed.before m s).epoch ≡ e
 
-begins-more : (before events : List Event) (one : Event) → Begins before events → Begins before (events ++ one ∷ [])
-begins-more before events one p = begins-trans before events (events ++ one ∷ []) p (one ∷ [], refl)
+begins-more : (before : List Event) {events : List Event} (one : Event) → Begins before events → Begins before (events ++ one ∷ [])
+begins-more before one p = begins-trans before p (one ∷ [], refl)
 
-placed-later : (setup : Setup) (events : List Event) (one : Event) (m : ServerId) (s e : ℕ) → PlacedUnder setup events m s e →
+placed-later : {setup : Setup} {events : List Event} (one : Event) {m : ServerId} {s e : ℕ} → PlacedUnder setup events m s e →
     PlacedUnder setup (events ++ one ∷ []) m s e
-placed-later setup events one m s e p = record {
+placed-later one p = record {
   placed = record {
     before = p.placed.before;
-    beginning = begins-more p.placed.before events one p.placed.beginning;
+    beginning = begins-more p.placed.before one p.placed.beginning;
     opened = p.placed.opened;
     placed = p.placed.placed;
   };
   epoch = p.epoch;
 }
 
-pub opened-has : (log : Log) (s : ℕ) → IsOpened log s → has_segment log s ≡ true
-opened-has log s p = both (nat_lt 0 s) (nat_le s log.head) (lt-ltb 0 s p.above) (le-leb s log.head p.below)
+pub opened-has : {log : Log} {s : ℕ} → IsOpened log s → has_segment log s ≡ true
+opened-has {log} {s} p = both (nat_lt 0 s) (nat_le s log.head) (lt-ltb 0 s p.above) (le-leb s log.head p.below)
   where
     both : (a b : Bool) → a ≡ true → b ≡ true → (a && b) ≡ true
     both true b e f = f
     both false b e f = e
 
 -- and what is placed now
-placed-now : (setup : Setup) (events : List Event) (m : ServerId) (s e : ℕ) → PlacedNow (log_of setup events m) s e →
+placed-now : {setup : Setup} {events : List Event} {m : ServerId} {s e : ℕ} → PlacedNow (log_of setup events m) s e →
     PlacedUnder setup events m s e
-placed-now setup events m s e p = record {
+placed-now {events} p = record {
   placed = record {
     before = events;
     beginning = ([], append-nil events);
-    opened = opened-has (log_of setup events m) s p.opened;
+    opened = opened-has p.opened;
     placed = p.placed;
   };
   epoch = p.epoch;
@@ -72,12 +72,12 @@ abbrev pub Standing : Setup → List Event → World → ServerId → ServerId �
 Standing setup events world x m s e len closed = StillStands (held_at world.hosts x.index m) s e len closed
     ⊎ (HasFreed world.sent m s ⊎ ((closed ≡ true → ⊥) × WasDropped setup events x m s e))
 
-dropped-later : (setup : Setup) (events : List Event) (one : Event) (x m : ServerId) (s e : ℕ) → WasDropped setup events x m s e →
+dropped-later : {setup : Setup} {events : List Event} (one : Event) {x m : ServerId} {s e : ℕ} → WasDropped setup events x m s e →
     WasDropped setup (events ++ one ∷ []) x m s e
-dropped-later setup events one x m s e p = record {
+dropped-later one {x} p = record {
   before = p.before;
   kept = p.kept;
-  beginning = begins-more (p.before ++ event.Start x.index p.kept ∷ []) events one p.beginning;
+  beginning = begins-more (p.before ++ event.Start x.index p.kept ∷ []) one p.beginning;
   told = p.told;
   possible = p.possible;
   replica = p.replica;
@@ -88,9 +88,9 @@ dropped-later setup events one x m s e p = record {
 }
 
 -- a replica that is above what was told, where a later one is above it
-stands-then : (old new : Held) (s e len : ℕ) (closed : Bool) → HeldLater old new → StillStands old s e len closed →
+stands-then : {old new : Held} {s e len : ℕ} {closed : Bool} → HeldLater old new → StillStands old s e len closed →
     StillStands new s e len closed ⊎ (is_freed s new ≡ true)
-stands-then old new s e len closed later p = by (later.replicas s p.replica p.kept)
+stands-then {new} {s} {e} {len} {closed} later p = by (later.replicas s p.replica p.kept)
   where
     by : StillStands new s p.replica.epoch (length p.replica.entries) p.replica.closed ⊎ (is_freed s new ≡ true) →
         StillStands new s e len closed ⊎ (is_freed s new ≡ true)
@@ -113,8 +113,8 @@ pub record LossFacts (setup : Setup) (events : List Event) (world : World) : Typ
   pub told : (x m : ServerId) (s e len : ℕ) (closed : Bool) → In (between x m (Stored s e len closed)) world.sent →
       Standing setup events world x m s e len closed
 
-pub facts-opening : (setup : Setup) → LossFacts setup [] (opening setup)
-facts-opening setup = record {
+pub facts-opening : {setup : Setup} → LossFacts setup [] (opening setup)
+facts-opening = record {
   masters = λ m. record {
     own = refl;
     factor = refl;
@@ -152,9 +152,7 @@ module _ (setup : Setup) (events : List Event) (one : Event) (p : LossFacts setu
 
   masters-now : (m : ServerId) → Placings (factor_of setup m.index) (PlacedUnder setup (events ++ one ∷ []) m)
       (step (replay setup events) one).sent m ((step (replay setup events) one).masters m).log
-  masters-now m =
-      placings-wider (factor_of setup m.index) _ (PlacedUnder setup (events ++ one ∷ []) m) (step (replay setup events) one).sent m
-      ((step (replay setup events) one).masters m).log which
+  masters-now m = placings-wider _ (PlacedUnder setup (events ++ one ∷ []) m) which
       (led-by (Before (λ k. factor_of setup k.index) (PlacedUnder setup events)) (Now (λ k. factor_of setup k.index)
       (PlacedUnder setup events))
       (masters-led (λ k. factor_of setup k.index) (PlacedUnder setup events)) (replay setup events) one (good-world setup events)
@@ -162,9 +160,8 @@ module _ (setup : Setup) (events : List Event) (one : Event) (p : LossFacts setu
     where
       which : (s e : ℕ) → PlacedUnder setup events m s e ⊎ PlacedNow ((step (replay setup events) one).masters m).log s e →
           PlacedUnder setup (events ++ one ∷ []) m s e
-      which s e (inl was) = placed-later setup events one m s e was
-      which s e (inr is) = placed-now setup (events ++ one ∷ []) m s e
-          (subst (λ (w : World). PlacedNow (w.masters m).log s e) (sym same) is)
+      which s e (inl was) = placed-later one was
+      which s e (inr is) = placed-now (subst (λ (w : World). PlacedNow (w.masters m).log s e) (sym same) is)
 
   hosts-now : AllHosts (step (replay setup events) one).sent (step (replay setup events) one).hosts
   hosts-now = kept-step (replay setup events) one (good-world setup events) p.hosts
@@ -175,8 +172,7 @@ module _ (setup : Setup) (events : List Event) (one : Event) (p : LossFacts setu
     where
       by : In (between x m (Stored s e len closed)) (replay setup events).sent ⊎
           NewlyStands (step (replay setup events) one).hosts x m s e len closed → HasClosed (step (replay setup events) one).sent m s
-      by (inl there) = closed-more (replay setup events).sent (step (replay setup events) one).sent m s led.onward.more
-          (p.shut m x s e len closed there is)
+      by (inl there) = closed-more led.onward.more (p.shut m x s e len closed there is)
       by (inr new) = (hosts-now x.index m).closed s new.stands.replica new.stands.kept (new.stands.closed_too is)
 
   module _ (x m : ServerId) (s e len : ℕ) (closed : Bool) where
@@ -228,10 +224,7 @@ module _ (setup : Setup) (events : List Event) (one : Event) (p : LossFacts setu
     -- or it stays the same
     stays-on : ((step (replay setup events) one).hosts x.index).generation ≡ ((replay setup events).hosts x.index).generation →
         StillStands (held_at (replay setup events).hosts x.index m) s e len closed → StandsNow
-    stays-on still stands =
-        by (stands-then (held_at (replay setup events).hosts x.index m) (held_at (step
-        (replay setup events) one).hosts x.index m) s e len closed
-        ((led.onward.hosts_later x.index).held (sym still) m) stands)
+    stays-on still stands = by (stands-then ((led.onward.hosts_later x.index).held (sym still) m) stands)
       where
         by : StillStands (held_at (step (replay setup events) one).hosts x.index m) s e len closed ⊎
             (is_freed s (held_at (step (replay setup events) one).hosts x.index m) ≡ true) → StandsNow
@@ -248,9 +241,8 @@ module _ (setup : Setup) (events : List Event) (one : Event) (p : LossFacts setu
                 ⊎ IsStart (replay setup events) one x.index (step (replay setup events) one) → StandsNow
             which (inl still) = stays-on still stands
             which (inr start) = restarts told start stands
-        was told (inr (inl freed)) = inr (inl (freed-more (replay setup events).sent (step (replay setup events) one).sent m s
-            led.onward.more freed))
-        was told (inr (inr dropped)) = inr (inr (dropped.0, dropped-later setup events one x m s e dropped.1))
+        was told (inr (inl freed)) = inr (inl (freed-more led.onward.more freed))
+        was told (inr (inr dropped)) = inr (inr (dropped.0, dropped-later one dropped.1))
 
         by : In (between x m (Stored s e len closed)) (replay setup events).sent ⊎
             NewlyStands (step (replay setup events) one).hosts x m s e len closed → StandsNow
@@ -261,12 +253,12 @@ module _ (setup : Setup) (events : List Event) (one : Event) (p : LossFacts setu
   facts-step = subst (LossFacts setup (events ++ one ∷ [])) (sym same)
       (record { masters = masters-now; hosts = hosts-now; shut = shut-now; told = stands-now })
 
-facts-from : (setup : Setup) (past events : List Event) → LossFacts setup past (replay setup past) →
+facts-from : {setup : Setup} {past : List Event} (events : List Event) → LossFacts setup past (replay setup past) →
     LossFacts setup (past ++ events) (replay setup (past ++ events))
-facts-from setup past [] p = subst (λ (all : List Event). LossFacts setup all (replay setup all)) (sym (append-nil past)) p
-facts-from setup past (one ∷ events) p =
+facts-from {setup} {past} [] p = subst (λ (all : List Event). LossFacts setup all (replay setup all)) (sym (append-nil past)) p
+facts-from {setup} {past} (one ∷ events) p =
     subst (λ (all : List Event). LossFacts setup all (replay setup all)) (append_assoc past (one ∷ []) events)
-    (facts-from setup (past ++ one ∷ []) events (facts-step setup past one p))
+    (facts-from events (facts-step setup past one p))
 
 pub loss-facts : (setup : Setup) (events : List Event) → LossFacts setup events (replay setup events)
-loss-facts setup events = facts-from setup [] events (facts-opening setup)
+loss-facts setup events = facts-from events (facts-opening)

@@ -37,8 +37,7 @@ module _ (n : ℕ) where
 
   placed-within : (replica : Replica) (epoch : ℕ) (sent : List Entry) (closed : Bool) → Within replica →
       VersionsUpTo n sent → Within (placed replica epoch sent closed)
-  placed-within replica epoch sent closed p q =
-      either Within (nat_lt epoch replica.epoch) replica
+  placed-within replica epoch sent closed p q = either Within (nat_lt epoch replica.epoch) replica
       (cond replica.closed (record replica { epoch = epoch }) (placed_open replica epoch sent closed))
       (λ e. p) (λ e. either Within replica.closed (record replica { epoch = epoch })
       (placed_open replica epoch sent closed) (λ f. p) (λ f. grown-within replica.entries 0 sent p q))
@@ -55,8 +54,7 @@ module _ (n : ℕ) where
 
   found-within : (seg : ℕ) (replicas : List (ℕ × Replica)) → ReplicasWithin replicas → FoundWithin (replica_of seg replicas)
   found-within seg [] all = tt
-  found-within seg (one ∷ others) all =
-      either FoundWithin (nat_eq seg one.0) (Some one.1) (replica_of seg others)
+  found-within seg (one ∷ others) all = either FoundWithin (nat_eq seg one.0) (Some one.1) (replica_of seg others)
       (λ e. All-head (λ (other : ℕ × Replica). VersionsUpTo n other.1.entries) one others all)
       (λ e. found-within seg others (All-tail (λ (other : ℕ × Replica). VersionsUpTo n other.1.entries) one others all))
 
@@ -88,12 +86,12 @@ module _ (n : ℕ) where
   after-within (Some replica) (Close seg len) p q = closed-within replica len p
   after-within found body p q = tt
 
-  still : (backup : Backup) → BackupWithin n backup → BackupDone (backup, [])
-  still backup h = record { backup = h; messages = none-within n }
+  still : {backup : Backup} → BackupWithin n backup → BackupDone (backup, [])
+  still {backup} h = record { backup = h; messages = none-within n }
 
   keeps-done : (backup : Backup) (master : ServerId) (seg : ℕ) (found : Option Replica) → BackupWithin n backup →
       FoundWithin found → BackupDone (keeps backup master seg found)
-  keeps-done backup master seg None h p = still backup h
+  keeps-done backup master seg None h p = still h
   keeps-done backup master seg (Some replica) h p = record {
     backup = held-within backup master
         (record (backup.held master) { replicas = put_replica seg replica (backup.held master).replicas }) h
@@ -103,23 +101,18 @@ module _ (n : ℕ) where
 
   stores-done : (backup : Backup) (master : ServerId) (seg : ℕ) (body : Body) → BackupWithin n backup →
       body_within n body → BackupDone (stores backup master seg body)
-  stores-done backup master seg body h p =
-      either BackupDone (is_refused seg (backup.held master)) (backup, [])
-      (keeps backup master seg (replica_after (replica_of seg (backup.held master).replicas) body))
-      (λ e. still backup h)
+  stores-done backup master seg body h p = either BackupDone (is_refused seg (backup.held master)) (backup, [])
+      (keeps backup master seg (replica_after (replica_of seg (backup.held master).replicas) body)) (λ e. still h)
       (λ e. keeps-done backup master seg (replica_after (replica_of seg (backup.held master).replicas) body) h
       (after-within (replica_of seg (backup.held master).replicas) body (found-within seg (backup.held master).replicas (h master)) p))
 
   frees-within : (backup : Backup) (master : ServerId) (seg : ℕ) → BackupWithin n backup → BackupWithin n (frees backup master seg)
-  frees-within backup master seg h =
-      either (BackupWithin n) (backup.held master).fenced backup
+  frees-within backup master seg h = either (BackupWithin n) (backup.held master).fenced backup
       (with_held master (record {
         fenced = false;
         replicas = without_replica seg (backup.held master).replicas;
         freed = insert_once seg (backup.held master).freed;
-      }) backup)
-      (λ e. h)
-      (λ e. held-within backup master
+      }) backup) (λ e. h) (λ e. held-within backup master
       (record {
         fenced = false;
         replicas = without_replica seg (backup.held master).replicas;
@@ -138,8 +131,7 @@ module _ (n : ℕ) where
       (Data attempt seg part.term (filter (is_in_part part) (take len replica.entries)) ∷ []) []
       (λ e. All-one (body_within n) (Data attempt seg part.term (filter (is_in_part part) (take len replica.entries)))
       (All-filter (is_in_part part) (λ (entry : Entry). entry.version ≤ n) (take len replica.entries)
-      (All-take (λ (entry : Entry). entry.version ≤ n) len replica.entries p)))
-      (λ e. All-nil (body_within n))
+      (All-take (λ (entry : Entry). entry.version ≤ n) len replica.entries p))) (λ e. All-nil (body_within n))
 
   answers-within : (backup : Backup) (asker master : ServerId) (bodies : List Body) → All (body_within n) bodies →
       MessagesWithin n (answers_fetch backup asker master bodies)
@@ -156,7 +148,7 @@ module _ (n : ℕ) where
       stores-done backup master seg (Place seg epoch digest entries closed) h p
   backup-done backup (Server master) (Append seg offset entries) h p = stores-done backup master seg (Append seg offset entries) h p
   backup-done backup (Server master) (Close seg len) h p = stores-done backup master seg (Close seg len) h p
-  backup-done backup (Server master) (Free seg) h p = still (frees backup master seg) (frees-within backup master seg h)
+  backup-done backup (Server master) (Free seg) h p = still (frees-within backup master seg h)
   backup-done backup (Server asker) (Fetch attempt master seg len part) h p = record {
     backup = h;
     messages = answers-within backup asker master (data_of attempt seg len part (replica_of seg (backup.held master).replicas))
@@ -167,7 +159,7 @@ module _ (n : ℕ) where
     backup = held-within backup master (record (backup.held master) { fenced = true }) h (h master);
     messages = one-within n (to_coordinator backup.own (Replicas attempt (rows_of_replicas (backup.held master).replicas))) tt;
   }
-  backup-done backup from body h p = still backup h
+  backup-done backup from body h p = still h
 
   pub restart-within : (own : ServerId) (kept : List (ServerId × ℕ)) (backup : Backup) → BackupWithin n backup →
       BackupWithin n (restart own kept backup)
@@ -175,5 +167,5 @@ module _ (n : ℕ) where
       (λ (one : ℕ × Replica). VersionsUpTo n one.1.entries) (backup.held master).replicas (h master)
 
 -- more events allow more
-pub backup-more : (n m : ℕ) → n ≤ m → (backup : Backup) → BackupWithin n backup → BackupWithin m backup
-backup-more n m more backup h = λ master k d less. versions-more n m more _ (h master k d less)
+pub backup-more : {n m : ℕ} → n ≤ m → (backup : Backup) → BackupWithin n backup → BackupWithin m backup
+backup-more more backup h = λ master k d less. versions-more more _ (h master k d less)

@@ -18,11 +18,11 @@ use Rattle.rc_numbers.proofs.Tablets.{length-marked, length-assigned, length-ins
 use Rattle.rc_model.proofs.Tests.{either}
 
 -- what is within n is within all that is more
-pub within-more : (c : Coordinator) (n m : ℕ) → n ≤ m → CoordinatorWithin n c → CoordinatorWithin m c
-within-more c n m more h = record { versions = omega arith; attempts = omega arith; tablets = omega arith; terms = omega arith }
+pub within-more : {c : Coordinator} {n m : ℕ} → n ≤ m → CoordinatorWithin n c → CoordinatorWithin m c
+within-more more h = record { versions = omega arith; attempts = omega arith; tablets = omega arith; terms = omega arith }
 
-within-next : (c : Coordinator) (n : ℕ) → CoordinatorWithin n c → CoordinatorWithin (n + 1) c
-within-next c n h = within-more c n (n + 1) (omega arith) h
+within-next : {c : Coordinator} {n : ℕ} → CoordinatorWithin n c → CoordinatorWithin (n + 1) c
+within-next h = within-more (omega arith) h
 
 -- what a step leaves, with what is said in it
 pub record After (n : ℕ) (after : Coordinator × List Message) : Type 0 where
@@ -43,17 +43,15 @@ each-within n ids body p = each-all (λ (message : Message). body_within n messa
 
 -- a crash raises the version by one at most
 version-crashed : (id : ServerId) (servers : ServerList) → (crashed id servers).version ≤ servers.version + 1
-version-crashed id servers =
-    either (λ (after : ServerList). after.version ≤ servers.version + 1) (is_up servers id)
-    (record { version = servers.version + 1; rows = id_crashed id servers.rows }) servers
-    (λ e. omega arith)
+version-crashed id servers = either (λ (after : ServerList). after.version ≤ servers.version + 1) (is_up servers id)
+    (record { version = servers.version + 1; rows = id_crashed id servers.rows }) servers (λ e. omega arith)
     (λ e. omega arith)
 
 -- what changes no number
-same-within : (c new : Coordinator) (n : ℕ) → CoordinatorWithin n c → new.servers.version ≡ c.servers.version →
+same-within : {c new : Coordinator} {n : ℕ} → CoordinatorWithin n c → new.servers.version ≡ c.servers.version →
     length new.attempts ≡ length c.attempts → length new.tablets ≡ length c.tablets → new.last_term ≡ c.last_term →
     CoordinatorWithin (n + 1) new
-same-within c new n h versions attempts tablets terms =
+same-within h versions attempts tablets terms =
     record {
       versions = omega (arith, h.versions, versions);
       attempts = omega (arith, h.attempts, attempts);
@@ -85,13 +83,13 @@ ticks-within n c = each-all (λ (message : Message). body_within n message.body)
 
 module _ (c : Coordinator) (n : ℕ) (h : CoordinatorWithin n c) where
   -- one message
-  says : (new : Coordinator) (message : Message) → CoordinatorWithin (n + 1) new → body_within (n + 1) message.body →
+  says : {new : Coordinator} {message : Message} → CoordinatorWithin (n + 1) new → body_within (n + 1) message.body →
       After n (new, message ∷ [])
-  says new message within p = record { numbers = within; messages = one-within (n + 1) message p }
+  says {message} within p = record { numbers = within; messages = one-within (n + 1) message p }
 
   -- the numbers stay, and this is said
   answers : (message : Message) → body_within (n + 1) message.body → After n (c, message ∷ [])
-  answers message p = says c message (within-next c n h) p
+  answers message p = says (within-next h) p
 
   stays : Stays c (λ _ _. Unit {0}) (After n)
   stays = record {
@@ -100,12 +98,12 @@ module _ (c : Coordinator) (n : ℕ) (h : CoordinatorWithin n c) where
     lists = λ id. answers (from_coordinator id (list_body c.servers)) tt;
     repeats = λ id term grant is found. answers (from_coordinator id (own_body grant)) tt;
     lacks = λ id number term part is none. answers (refuses_server id NoTable) tt;
-    ticks = record { numbers = within-next c n h; messages = ticks-within (n + 1) c };
+    ticks = record { numbers = within-next h; messages = ticks-within (n + 1) c };
   }
 
-  came : (servers : ServerList) (tablets : List Tablet) → servers.version ≤ n + 1 → length tablets ≤ MAX_TABLETS →
+  came : {servers : ServerList} {tablets : List Tablet} → servers.version ≤ n + 1 → length tablets ≤ MAX_TABLETS →
       Before n (record c { servers = servers; tablets = tablets }, spreads_list servers)
-  came servers tablets versions more = record {
+  came {servers} {tablets} versions more = record {
     versions = versions;
     attempts = h.attempts;
     tablets = more;
@@ -117,8 +115,7 @@ module _ (c : Coordinator) (n : ℕ) (h : CoordinatorWithin n c) where
   same : (ready : ServerId → Bool) (least : ServerId → Pair) (attempts : List Attempt) (tablets : List Tablet) (grants : List Grant) →
       length attempts ≡ length c.attempts → length tablets ≡ length c.tablets → CoordinatorWithin (n + 1)
       (record c { ready = ready; least = least; attempts = attempts; tablets = tablets; grants = grants })
-  same ready least attempts tablets grants p q =
-      same-within c (record c { ready = ready; least = least; attempts = attempts; tablets = tablets; grants = grants }) n h refl p q refl
+  same ready least attempts tablets grants p q = same-within h refl p q refl
 
   moves : Moves c (λ _ _. Unit {0}) (Before n) (After n)
   moves = record {
@@ -129,10 +126,10 @@ module _ (c : Coordinator) (n : ℕ) (h : CoordinatorWithin n c) where
       terms = h.terms;
       messages = none-within (n + 1);
     };
-    crashes = λ id is. came (crashed id c.servers) (marked_crashed id c.tablets)
+    crashes = λ id is. came
         (omega (arith, version-crashed id c.servers, h.versions)) (omega (arith, length-marked id c.tablets, h.tablets));
-    enlists = λ id is. came (enlisted id c.servers) c.tablets (omega (arith, h.versions)) h.tablets;
-    replaces = λ id older is. came (enlisted id c.servers) (marked_crashed older c.tablets) (omega (arith, h.versions))
+    enlists = λ id is. came (omega (arith, h.versions)) h.tablets;
+    replaces = λ id older is. came (omega (arith, h.versions))
         (omega (arith, length-marked older c.tablets, h.tablets));
     done = λ new messages p. record {
       numbers = record {
@@ -157,8 +154,7 @@ module _ (c : Coordinator) (n : ℕ) (h : CoordinatorWithin n c) where
       numbers = same (put_id c.ready id true) c.least c.attempts c.tablets c.grants refl refl;
       messages = none-within (n + 1);
     };
-    commits = λ id pair heard is. says (record c { least = put_id c.least id (greater_pair (c.least id) pair) })
-        (from_coordinator id (CommitOk pair.seg pair.epoch))
+    commits = λ id pair heard is. says
         (same c.ready (put_id c.least id (greater_pair (c.least id) pair)) c.attempts c.tablets c.grants refl refl) tt;
     answers = λ from number rows attempt heard is undecided. record {
       numbers = same c.ready c.least (with_attempt c number (with_answer from rows attempt)).attempts c.tablets c.grants
@@ -166,26 +162,21 @@ module _ (c : Coordinator) (n : ℕ) (h : CoordinatorWithin n c) where
       messages = none-within (n + 1);
     };
     decides = λ master attempt plan id ids is undecided picked. decided master attempt plan (id ∷ ids);
-    grants = λ id number term part is has. says (record c {
-      tablets = assigned part.range id part.term c.tablets;
-      grants = c.grants ++ grant_of number id part ∷ [];
-    }) (from_coordinator id (own_body (grant_of number id part)))
+    grants = λ id number term part is has. says
         (same c.ready c.least c.attempts (assigned part.range id part.term c.tablets) (c.grants ++ grant_of number id part ∷ [])
         refl (length-assigned part.range id part.term c.tablets)) tt;
-    creates = λ table owner is fresh few. says (creates_table c table owner).0
-        (from_coordinator owner (own_body (first_grant table owner (c.last_term + 1)))) (record {
-          versions = omega (arith, h.versions);
-          attempts = omega (arith, h.attempts);
-          tablets = omega (arith, length-inserted (whole_table table owner (c.last_term + 1)) c.tablets, room c.tablets few);
-          terms = omega (arith, h.terms);
-        }) tt;
-    splits = λ table at tablet is holds inside unmarked few. says (record c { tablets = split_at table at c.tablets })
-        (coordinator_tells (SplitOk table at)) (record {
-          versions = omega (arith, h.versions);
-          attempts = omega (arith, h.attempts);
-          tablets = omega (arith, length-split table at c.tablets, room c.tablets few);
-          terms = omega (arith, h.terms);
-        }) tt;
+    creates = λ table owner is fresh few. says (record {
+      versions = omega (arith, h.versions);
+      attempts = omega (arith, h.attempts);
+      tablets = omega (arith, length-inserted (whole_table table owner (c.last_term + 1)) c.tablets, room c.tablets few);
+      terms = omega (arith, h.terms);
+    }) tt;
+    splits = λ table at tablet is holds inside unmarked few. says (record {
+      versions = omega (arith, h.versions);
+      attempts = omega (arith, h.attempts);
+      tablets = omega (arith, length-split table at c.tablets, room c.tablets few);
+      terms = omega (arith, h.terms);
+    }) tt;
   }
     where
       decided : (master : ServerId) (attempt : Attempt) (plan : Plan) (ids : List ServerId) →
@@ -213,8 +204,8 @@ module _ (c : Coordinator) (n : ℕ) (h : CoordinatorWithin n c) where
             (decision_of c (c.current master) attempt.master plan ids) ids;
       }
 
-pub coordinator-within : (c : Coordinator) (work : NodeWork) (n : ℕ) → CoordinatorWithin n c → After n (coordinator_step c work)
-coordinator-within c work n h =
+pub coordinator-within : {c : Coordinator} (work : NodeWork) {n : ℕ} → CoordinatorWithin n c → After n (coordinator_step c work)
+coordinator-within {c} work {n} h =
     walked-step c (λ _ _. Unit {0}) (Before n) (After n) (stays c n h) (moves c n h) work (λ _ _. tt)
 
 pub new-within : CoordinatorWithin 0 new_coordinator

@@ -17,19 +17,19 @@ entries-in : (seg offset : ℕ) (entries : List (Entry × Bool)) →
 entries-in seg offset [] = refl
 entries-in seg offset (one ∷ entries) = ap (λ (rest : List Entry). one.0 ∷ rest) (entries-in seg (offset + 1) entries)
 
-entries-to : (n : ℕ) (segments : ℕ → Segment) →
+entries-to : {n : ℕ} (segments : ℕ → Segment) →
     ((seg : ℕ) → VersionsUpTo n (map (λ one. one.0) (segments seg).entries)) → (head : ℕ) →
     VersionsUpTo n (map (λ (place : LogPlace). place.entry) (places_to segments head))
-entries-to n segments each zero = All-nil (λ (entry : Entry). entry.version ≤ n)
-entries-to n segments each (suc s) =
+entries-to {n} segments each zero = All-nil (λ (entry : Entry). entry.version ≤ n)
+entries-to {n} segments each (suc s) =
     subst (VersionsUpTo n) (sym (map-append (λ (place : LogPlace). place.entry) (places_to segments s)
     (places_in (suc s) 0 (segments (suc s)).entries)))
     (All-append (λ (entry : Entry). entry.version ≤ n) (map (λ (place : LogPlace). place.entry) (places_to segments s))
     (map (λ (place : LogPlace). place.entry) (places_in (suc s) 0 (segments (suc s)).entries))
-    (entries-to n segments each s) (subst (VersionsUpTo n) (sym (entries-in (suc s) 0 (segments (suc s)).entries)) (each (suc s))))
+    (entries-to segments each s) (subst (VersionsUpTo n) (sym (entries-in (suc s) 0 (segments (suc s)).entries)) (each (suc s))))
 
-pub entries-within : (n : ℕ) (log : Log) → LogWithin n log → VersionsUpTo n (entries_of log)
-entries-within n log each = entries-to n log.segments each log.head
+pub entries-within : {n : ℕ} (log : Log) → LogWithin n log → VersionsUpTo n (entries_of log)
+entries-within log each = entries-to log.segments each log.head
 
 module _ (n : ℕ) where
   pub put-within : (log : Log) (seg : ℕ) (segment : Segment) → LogWithin n log →
@@ -45,9 +45,8 @@ module _ (n : ℕ) where
 
   pub appends-within : (entry : Entry) (client : Bool) (log : Log) → LogWithin n log → entry.version ≤ n →
       LogWithin n (appends entry client log)
-  appends-within entry client log each less =
-      put-within log log.head (with_entry entry client (head_of log)) each
-      (versions-push n (head_of log).entries entry client (each log.head) less)
+  appends-within entry client log each less = put-within log log.head (with_entry entry client (head_of log)) each
+      (versions-push (head_of log).entries entry client (each log.head) less)
 
   config-within : (seg : ℕ) (config : Config) (log : Log) → LogWithin n log → LogWithin n (with_config seg config log)
   config-within seg config log each = put-within log seg (record (log.segments seg) { config = config }) each (each seg)

@@ -26,8 +26,8 @@ module _ (n : ℕ) where
   abbrev is_within : Message → Type 0
   is_within message = body_within n message.body
 
-  logged : (master : Master) (log : Log) → MasterWithin n master → LogWithin n log → MasterWithin n (with_log master log)
-  logged master log h each = record { log = each; ownership = h.ownership }
+  logged : {master : Master} {log : Log} → MasterWithin n master → LogWithin n log → MasterWithin n (with_log master log)
+  logged {log} h each = record { log = each; ownership = h.ownership }
 
   none : {master : Master} → MasterWithin n master → Done (master, [])
   none h = record { master = h; messages = none-within n }
@@ -43,7 +43,7 @@ module _ (n : ℕ) where
       Within master (with_log master (opens_head master.log digest ids), places_head (opens_head master.log digest ids))
   opens master digest ids h =
       let each : LogWithin n (opens_head master.log digest ids) = opens-within n master.log digest ids h.log in
-      several _ _ _ (logged master (opens_head master.log digest ids) h each) (each (master.log.head + 1))
+      several _ _ _ (logged h each) (each (master.log.head + 1))
 
   rolls : (master : Master) → Rolls Within master
   rolls master ids writing room chosen = opens master (next_digest master.log (dead_segments master)) ids
@@ -51,7 +51,7 @@ module _ (n : ℕ) where
   entry-done : (master : Master) (entry : Entry) (client : Bool) → MasterWithin n master → entry.version ≤ n →
       Done (appends_entry master entry client)
   entry-done master entry client h less =
-      several _ _ _ (logged master (appends entry client master.log) h (appends-within n entry client master.log h.log less))
+      several _ _ _ (logged h (appends-within n entry client master.log h.log less))
       (All-one (λ (one : Entry). one.version ≤ n) entry less)
 
   joined : Joined Within
@@ -65,40 +65,38 @@ module _ (n : ℕ) where
   listed = record {
     replaces = λ master seg ids isn't h. (
         let each : LogWithin n (loses master.known seg master.log).0 = loses-within n master.known seg master.log h.log in
-        several _ _ _ (logged master (loses master.known seg master.log).0 h each) (each seg));
+        several _ _ _ (logged h each) (each seg));
     opens = λ master ids none_open chosen. opens master (1 ∷ []) ids;
   }
 
-  taken : (master : Master) (from : Addr) (body : Body) → body_within n body →
+  taken : {master : Master} {from : Addr} {body : Body} → body_within n body →
       ((term table key : ℕ) (value : Option (List ℕ)) → (written master term table key value).version ≤ n) →
       Taken Within master from body
-  taken master from body p less = record {
+  taken {master} p less = record {
     refuses = λ one fault h. says h tt;
     rolls = rolls master;
     writes = λ term table key value is owned writing room h.
         entry-done master (written master term table key value) true h (less term table key value);
     reads = λ term table key is owned h. says h tt;
     lists = λ version rows is newer h. none (record { log = h.log; ownership = h.ownership });
-    stores = λ teller seg epoch len closed is told h. none (logged master (stored seg teller epoch len closed master.log) h
+    stores = λ teller seg epoch len closed is told h. none (logged h
         (stored-within n seg teller epoch len closed master.log h.log));
-    commits = λ seg epoch is h. none (logged master (commit_noted seg epoch master.log) h
-        (commit-within n seg epoch master.log h.log));
+    commits = λ seg epoch is h. none (logged h (commit-within n seg epoch master.log h.log));
     deposes = λ h. none (record { log = h.log; ownership = h.ownership });
     begins = λ one attempt crashed head rows parts part is at new h. record {
       master = record {
         log = h.log;
-        ownership = begin-within n part (map (λ row. (row.seg, row.holder)) rows) one.ownership h.ownership;
+        ownership = begin-within n part (map (λ row. (row.seg, row.holder)) rows) h.ownership;
       };
       messages = each-all is_within _ (each-map is_within _ rows (λ row _. tt));
     };
     comes = λ holder attempt seg term entries is says_so h. none (record {
       log = h.log;
-      ownership = put_data-within n term seg holder entries master.ownership (subst (body_within n) says_so p) h.ownership;
+      ownership = put_data-within n term seg holder entries (subst (body_within n) says_so p) h.ownership;
     });
     owns = λ range term previous attempt is h. none (record {
       log = h.log;
-      ownership = grant-within n
-          (record { range = range; term = term }) master.ownership h.ownership;
+      ownership = grant-within n (record { range = range; term = term }) h.ownership;
     });
   }
 
@@ -109,7 +107,7 @@ module _ (n : ℕ) where
       master = h;
       messages = each-all is_within _ (each-reminds is_within before master (record {
         place = λ member seg closed at shut among. h.log seg;
-        append = λ member seg len at. versions-drop n len (master.log.segments seg).entries (h.log seg);
+        append = λ member seg len at. versions-drop len (master.log.segments seg).entries (h.log seg);
         close = λ member seg at old. tt;
       }) (λ seg awaits. tt) (record {
         fetch = λ task row given among. tt;
@@ -120,24 +118,24 @@ module _ (n : ℕ) where
   }
 
   -- a segment is changed, but for its entries
-  put : (master : Master) (seg : ℕ) (segment : Segment) → segment.entries ≡ (master.log.segments seg).entries →
+  put : {master : Master} (seg : ℕ) (segment : Segment) → segment.entries ≡ (master.log.segments seg).entries →
       MasterWithin n master → MasterWithin n (with_log master (with_segment seg segment master.log))
-  put master seg segment same h = logged master (with_segment seg segment master.log) h (put-within n master.log seg segment h.log
+  put {master} seg segment same h = logged h (put-within n master.log seg segment h.log
       (subst (λ entries. VersionsUpTo n (map (λ one. one.0) entries)) (sym same) (h.log seg)))
 
   followed : Followed Within
   followed = record {
-    marks = λ master is h. none (put master (master.log.head - 1) (record (old_head_of master.log) { shut = true }) refl h);
-    starts = λ master may h. says (logged master (starts master.log) h h.log) tt;
-    places = λ master may h. none (logged master (closes_old master.log) h h.log);
-    closes = λ master due h. several _ _ _ (put master (master.log.head - 1) (with_closes_sent (old_head_of master.log)) refl h) tt;
+    marks = λ master is h. none (put (master.log.head - 1) (record (old_head_of master.log) { shut = true }) refl h);
+    starts = λ master may h. says (logged h h.log) tt;
+    places = λ master may h. none (logged h h.log);
+    closes = λ master due h. several _ _ _ (put (master.log.head - 1) (with_closes_sent (old_head_of master.log)) refl h) tt;
     shuts = λ master may h. record {
-      master = logged master _ h (freed-within n (left_out master.log) (starts master.log) h.log);
+      master = logged h (freed-within n (left_out master.log) (starts master.log) h.log);
       messages = each-all is_within _ (each-frees is_within master.log (left_out master.log) (λ seg id at. tt));
     };
-    commits = λ master seg open_one wants h. says (put master seg (record (master.log.segments seg) { commit_sent = true }) refl h) tt;
+    commits = λ master seg open_one wants h. says (put seg (record (master.log.segments seg) { commit_sent = true }) refl h) tt;
     counts = λ master more h. record {
-      master = logged master (record master.log { durable = durable_now master.log }) h h.log;
+      master = logged h h.log;
       messages = each-all is_within _ (each-write_oks is_within master.log.own (new_durable master.log) (λ place at client. tt));
     };
     rolls = rolls;
@@ -145,9 +143,7 @@ module _ (n : ℕ) where
         (record {
           log = h.log;
           ownership = record { replay = rest-within n master.ownership.replay h.ownership.replay; parts = h.ownership.parts };
-        })
-        (All-head (λ (one : Entry). one.version ≤ n) entry entries
-        (subst (VersionsUpTo n) is h.ownership.replay));
+        }) (All-head (λ (one : Entry). one.version ≤ n) entry entries (subst (VersionsUpTo n) is h.ownership.replay));
     answers = λ master term is h. says (record {
       log = h.log;
       ownership = record {
@@ -161,24 +157,24 @@ module _ (n : ℕ) where
   tick-done = kept-ticks Within joined listed followed ticked
 
 -- more events allow more
-pub master-more : (n m : ℕ) → n ≤ m → (master : Master) → MasterWithin n master → MasterWithin m master
-master-more n m more master h = record {
-  log = λ seg. versions-more n m more (map (λ one. one.0) (master.log.segments seg).entries) (h.log seg);
+pub master-more : {n m : ℕ} → n ≤ m → {master : Master} → MasterWithin n master → MasterWithin m master
+master-more more {master} h = record {
+  log = λ seg. versions-more more (map (λ one. one.0) (master.log.segments seg).entries) (h.log seg);
   ownership = record {
-    replay = versions-more n m more master.ownership.replay h.ownership.replay;
-    parts = λ k d less i e within. versions-more n m more _ (h.ownership.parts k d less i e within);
+    replay = versions-more more master.ownership.replay h.ownership.replay;
+    parts = λ k d less i e within. versions-more more _ (h.ownership.parts k d less i e within);
   };
 }
 
 -- a write has at most one more than the greatest version
-written-within : (n : ℕ) (master : Master) → MasterWithin n master → (term table key : ℕ) (value : Option (List ℕ)) →
+written-within : {n : ℕ} {master : Master} → MasterWithin n master → (term table key : ℕ) (value : Option (List ℕ)) →
     (written master term table key value).version ≤ n + 1
-written-within n master h term table key value =
-    omega (arith, greatest-within n term table key (entries_of master.log) (entries-within n master.log h.log))
+written-within {master} h term table key value =
+    omega (arith, greatest-within term table key (entries_of master.log) (entries-within master.log h.log))
 
 -- a message
-pub takes-done : (n : ℕ) (master : Master) (from : Addr) (body : Body) → MasterWithin n master →
+pub takes-done : {n : ℕ} {master : Master} (from : Addr) (body : Body) → MasterWithin n master →
     body_within (n + 1) body → Done (n + 1) (master_takes master from body)
-takes-done n master from body h p =
+takes-done {n} {master} from body h p =
     kept-takes (Within (n + 1)) (joined (n + 1)) (listed (n + 1)) (followed (n + 1)) master from body
-    (taken (n + 1) master from body p (written-within n master h)) (master-more n (n + 1) (omega arith) master h)
+    (taken (n + 1) p (written-within h)) (master-more (omega arith) h)

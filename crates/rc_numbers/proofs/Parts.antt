@@ -35,9 +35,9 @@ module _ (n : ℕ) where
   awaited-within [] = All-nil (λ (one : PartRow). VersionsUpTo n (unwrap_or one.came []))
   awaited-within (row ∷ rows) = insert-within (awaited_row row) (rows_in_order (map awaited_row rows)) no_entries (awaited-within rows)
 
-  pub begin-within : (part : Part) (rows : List (ℕ × ServerId)) (own : Ownership) → OwnershipWithin n own →
+  pub begin-within : (part : Part) (rows : List (ℕ × ServerId)) {own : Ownership} → OwnershipWithin n own →
       OwnershipWithin n (begin_part part rows own)
-  begin-within part rows own h =
+  begin-within part rows {own} h =
       either (OwnershipWithin n) (knows_term own part.term) own (record own { parts = own.parts ++ new_part part rows ∷ [] })
       (λ e. h) (λ e. record {
         replay = h.replay;
@@ -64,8 +64,7 @@ module _ (n : ℕ) where
       (came-within rows (All-tail (λ (one : PartRow). VersionsUpTo n (unwrap_or one.came [])) row rows all))
 
   joined-within : (state : PartState) → RowsWithin state.rows → RowsWithin (joined state).rows
-  joined-within state all =
-      either (λ (after : PartState). RowsWithin after.rows) (all_came state.rows)
+  joined-within state all = either (λ (after : PartState). RowsWithin after.rows) (all_came state.rows)
       (record state { rows = []; size = length (entries_that_came state.rows) }) state
       (λ e. All-nil (λ (one : PartRow). VersionsUpTo n (unwrap_or one.came []))) (λ e. all)
 
@@ -84,8 +83,7 @@ module _ (n : ℕ) where
       (λ e. All-cons (λ (one : PartState). RowsWithin one.rows) (joined (part_with_row seg from entries state)) states
       (joined-within (part_with_row seg from entries state)
       (row-within seg from entries state.rows p (All-head (λ (one : PartState). RowsWithin one.rows) state states
-      all)))
-      (All-tail (λ (one : PartState). RowsWithin one.rows) state states all))
+      all))) (All-tail (λ (one : PartState). RowsWithin one.rows) state states all))
       (λ e. All-cons (λ (one : PartState). RowsWithin one.rows) state (data_in term seg from entries states)
       (All-head (λ (one : PartState). RowsWithin one.rows) state states all)
       (data-within term seg from entries states p (All-tail (λ (one : PartState). RowsWithin one.rows) state states all)))
@@ -95,22 +93,21 @@ module _ (n : ℕ) where
   replay-within term seg from entries [] p all = no_entries
   replay-within term seg from entries (state ∷ states) p all =
       either (VersionsUpTo n) (awaits term seg from state) (joining (part_with_row seg from entries state))
-      (replay_in term seg from entries states)
-      (λ e. joining-within (part_with_row seg from entries state)
+      (replay_in term seg from entries states) (λ e. joining-within (part_with_row seg from entries state)
       (row-within seg from entries state.rows p (All-head (λ (one : PartState). RowsWithin one.rows) state states
       all)))
       (λ e. replay-within term seg from entries states p (All-tail (λ (one : PartState). RowsWithin one.rows) state states all))
 
-  pub put_data-within : (term seg : ℕ) (from : ServerId) (entries : List Entry) (own : Ownership) → VersionsUpTo n entries →
+  pub put_data-within : (term seg : ℕ) (from : ServerId) (entries : List Entry) {own : Ownership} → VersionsUpTo n entries →
       OwnershipWithin n own → OwnershipWithin n (put_data term seg from entries own)
-  put_data-within term seg from entries own p h = record {
+  put_data-within term seg from entries {own} p h = record {
     replay = All-append (λ (entry : Entry). entry.version ≤ n) own.replay (replay_in term seg from entries own.parts)
         h.replay (replay-within term seg from entries own.parts p h.parts);
     parts = data-within term seg from entries own.parts p h.parts;
   }
 
-  pub grant-within : (range : GrantedRange) (own : Ownership) → OwnershipWithin n own → OwnershipWithin n (grant range own)
-  grant-within range own h =
+  pub grant-within : (range : GrantedRange) {own : Ownership} → OwnershipWithin n own → OwnershipWithin n (grant range own)
+  grant-within range {own} h =
       either (OwnershipWithin n) (owns_term own range.term) own (record own { grants = own.grants ++ range ∷ [] })
       (λ e. h) (λ e. record { replay = h.replay; parts = h.parts })
 

@@ -9,32 +9,31 @@ use Rattle.rc_numbers.proofs.Entries.{greatest-within}
 use Rattle.rc_numbers.proofs.Logs.{entries-within}
 use Rattle.rc_numbers.proofs.Worlds.{within-replay}
 
-pub room-of : (n : ℕ) (c : Coordinator) → n ≤ MAX_EVENTS → CoordinatorWithin n c → HasRoom c
-room-of n c few h = record {
+pub room-of : {n : ℕ} {c : Coordinator} → n ≤ MAX_EVENTS → CoordinatorWithin n c → HasRoom c
+room-of few h = record {
   versions = omega (arith, h.versions);
   attempts = omega (arith, h.attempts);
   terms = omega (arith, h.terms, h.tablets);
 }
 
 pub coordinator-has-room : CoordinatorHasRoom
-coordinator-has-room setup events few =
-    room-of (length events) (replay setup events).coordinator few (within-replay setup events).coordinator
+coordinator-has-room setup events few = room-of few (within-replay setup events).coordinator
 
 pub generations-have-room : GenerationsHaveRoom
 generations-have-room setup events few index = let h = ((within-replay setup events).hosts index).generation in omega (arith, h, few)
 
-pub versions-of : (n : ℕ) (master : Master) → MasterWithin n master → VersionsUpTo n (entries_of master.log)
-versions-of n master h = entries-within n master.log h.log
+pub versions-of : {n : ℕ} {master : Master} → MasterWithin n master → VersionsUpTo n (entries_of master.log)
+versions-of {master} h = entries-within master.log h.log
 
 pub versions-have-room : VersionsHaveRoom
 versions-have-room setup events few index master e =
     All-weaker (λ (entry : Entry). entry.version ≤ length events) (λ (entry : Entry). entry.version < 2 ^ 64 - 1)
     (λ entry p. omega (arith, p, few)) (entries_of master.log)
-    (versions-of (length events) master (((within-replay setup events).hosts index).master master e))
+    (versions-of (((within-replay setup events).hosts index).master master e))
 
 pub next-versions-have-room : NextVersionsHaveRoom
 next-versions-have-room setup events few index master e term table key =
     let h : greatest_version term table key (entries_of master.log) ≤ length events =
-    greatest-within (length events) term table key (entries_of master.log)
-    (versions-of (length events) master (((within-replay setup events).hosts index).master master e)) in
+    greatest-within term table key (entries_of master.log)
+    (versions-of (((within-replay setup events).hosts index).master master e)) in
     omega (arith, h, few)

@@ -17,25 +17,21 @@ length-assigned range owner term [] = refl
 length-assigned range owner term (tablet ∷ tablets) =
     either (λ (after : List Tablet). length after ≡ length (tablet ∷ tablets)) (is_range range tablet)
     (record tablet { owner = owner; term = term; crashed = false } ∷ tablets) (tablet ∷ assigned range owner term tablets)
-    (λ e. omega arith)
-    (λ e. omega (arith, length-assigned range owner term tablets))
+    (λ e. omega arith) (λ e. omega (arith, length-assigned range owner term tablets))
 
 -- one more tablet
 pub length-inserted : (new : Tablet) (tablets : List Tablet) → length (insert_tablet new tablets) ≡ length tablets + 1
 length-inserted new [] = refl
 length-inserted new (tablet ∷ tablets) =
     either (λ (after : List Tablet). length after ≡ length (tablet ∷ tablets) + 1) _ (new ∷ tablet ∷ tablets)
-    (tablet ∷ insert_tablet new tablets)
-    (λ e. omega arith)
-    (λ e. omega (arith, length-inserted new tablets))
+    (tablet ∷ insert_tablet new tablets) (λ e. omega arith) (λ e. omega (arith, length-inserted new tablets))
 
 -- at most one more
 pub length-split : (table at : ℕ) (tablets : List Tablet) → length (split_at table at tablets) ≤ length tablets + 1
 length-split table at [] = omega arith
 length-split table at (tablet ∷ tablets) =
     either (λ (after : List Tablet). length after ≤ length (tablet ∷ tablets) + 1) (holds tablet table at)
-    (lower_half at tablet ∷ upper_half at tablet ∷ tablets) (tablet ∷ split_at table at tablets)
-    (λ e. omega arith)
+    (lower_half at tablet ∷ upper_half at tablet ∷ tablets) (tablet ∷ split_at table at tablets) (λ e. omega arith)
     (λ e. omega (arith, length-split table at tablets))
 
 -- an owner has at most all tablets
@@ -43,14 +39,13 @@ pub length-owned : (owner : ServerId) (tablets : List Tablet) → length (tablet
 length-owned owner [] = omega arith
 length-owned owner (tablet ∷ tablets) =
     either (λ (owned : List Tablet). length owned ≤ length (tablet ∷ tablets)) (same_id owner tablet.owner)
-    (tablet ∷ tablets_of owner tablets) (tablets_of owner tablets)
-    (λ e. omega (arith, length-owned owner tablets))
+    (tablet ∷ tablets_of owner tablets) (tablets_of owner tablets) (λ e. omega (arith, length-owned owner tablets))
     (λ e. omega (arith, length-owned owner tablets))
 
-length-given : (tablet : Tablet) (term : ℕ) (found : Option ServerId) (others : List GivenPart) (n : ℕ) →
+length-given : (tablet : Tablet) (term : ℕ) (found : Option ServerId) (others : List GivenPart) {n : ℕ} →
     length others ≤ n → length (given_to found (part_of tablet term) others) ≤ n + 1
-length-given tablet term None others n h = omega arith
-length-given tablet term (Some id) others n h = omega arith
+length-given tablet term None others h = omega arith
+length-given tablet term (Some id) others h = omega arith
 
 -- at most one part of each tablet is given
 pub length-parts : (ids : List ServerId) (place term : ℕ) (tablets : List Tablet) →
@@ -61,5 +56,5 @@ length-parts ids place term (tablet ∷ tablets) =
     omega (
       arith,
       length-given tablet term (slice_get ids (place % length ids))
-          (gives_parts ids (place + 1) (term + 1) tablets) (length tablets) rest,
+          (gives_parts ids (place + 1) (term + 1) tablets) rest,
     )

@@ -19,17 +19,17 @@ use Rattle.rc_model.proofs.Tests.{true_false}
 abbrev pub with_durable : ℕ → PartView → PartView
 with_durable n v = record v { durable = n }
 
-durable-more : (v : PartView) (n term : ℕ) → v.durable ≤ n → durable_under term v ≤ durable_under term (with_durable n v)
-durable-more v n term less =
+durable-more : (v : PartView) {n : ℕ} (term : ℕ) → v.durable ≤ n → durable_under term v ≤ durable_under term (with_durable n v)
+durable-more v {n} term less =
     subst (λ entries. durable_under term v ≤ count_under term (take n entries)) (append-none (logged v.places))
     (count-grows term v.durable n (logged v.places) [] less)
   where
     append-none : (xs : List Entry) → xs ++ [] ≡ xs
     append-none xs = Rattle.rc_owner_laws.proofs.PartLists.append-nil xs
 
-pub good-durable : (sent : List Message) (m : ServerId) (v : PartView) (n : ℕ) → GoodParts sent m v → v.durable ≤ n →
+pub good-durable : {sent : List Message} {m : ServerId} {v : PartView} {n : ℕ} → GoodParts sent m v → v.durable ≤ n →
     GoodParts sent m (with_durable n v)
-good-durable sent m v n good less = record {
+good-durable {sent} {m} {v} {n} good less = record {
   granted = good.granted;
   planned = good.planned;
   task_known = good.task_known;
@@ -60,7 +60,7 @@ good-durable sent m v n good less = record {
       came = p.came;
       size = p.size;
       fresh = p.fresh;
-      owned = λ e. (let q = p.owned e in (q.0, q.1, let a = q.2 in let b = durable-more v n state.part.term less in omega arith));
+      owned = λ e. (let q = p.owned e in (q.0, q.1, let a = q.2 in let b = durable-more v state.part.term less in omega arith));
     })
 
 -- An entry is appended
@@ -76,18 +76,18 @@ under-place : (term : ℕ) (places : List LogPlace) (place : LogPlace) →
     under term (logged (places ++ place ∷ [])) ≡ under term (logged places) ++ under term (place.entry ∷ [])
 under-place term places place = ap (under term) (logged-place places place) ∙ under-append term (logged places) (place.entry ∷ [])
 
-under-one-other : (term : ℕ) (entry : Entry) → (entry.term ≡ term → ⊥) → under term (entry ∷ []) ≡ []
-under-one-other term entry differs = under-none term (entry ∷ []) none
+under-one-other : {term : ℕ} (entry : Entry) → (entry.term ≡ term → ⊥) → under term (entry ∷ []) ≡ []
+under-one-other {term} entry differs = under-none (entry ∷ []) none
   where
     none : (x : Entry) → (x ≡ entry) ⊎ ⊥ → x.term ≡ term → ⊥
     none x (inl same) e = differs (ap (λ (one : Entry). one.term) (sym same) ∙ e)
     none x (inr never) e = never
 
-under-place-other : (term : ℕ) (places : List LogPlace) (place : LogPlace) → (place.entry.term ≡ term → ⊥) →
+under-place-other : {term : ℕ} (places : List LogPlace) (place : LogPlace) → (place.entry.term ≡ term → ⊥) →
     under term (logged (places ++ place ∷ [])) ≡ under term (logged places)
-under-place-other term places place differs =
+under-place-other {term} places place differs =
     under-place term places place ∙ ap (λ rest. under term (logged places) ++ rest)
-    (under-one-other term place.entry differs) ∙ Rattle.rc_owner_laws.proofs.PartLists.append-nil
+    (under-one-other place.entry differs) ∙ Rattle.rc_owner_laws.proofs.PartLists.append-nil
     (under term (logged places))
 
 durable-place : (v : PartView) (place : LogPlace) (term : ℕ) →
@@ -98,9 +98,8 @@ durable-place v place term =
 
 begins-place : (term : ℕ) (places : List LogPlace) (place : LogPlace) (base : List Entry) →
     Begins base (under term (logged places)) → Begins base (under term (logged (places ++ place ∷ [])))
-begins-place term places place base p =
-    subst (Begins base) (sym (under-place term places place))
-    (begins-more base (under term (logged places)) (under term (place.entry ∷ [])) p)
+begins-place term places place base p = subst (Begins base) (sym (under-place term places place))
+    (begins-more base (under term (place.entry ∷ [])) p)
 
 -- Terms that are owned
 
@@ -111,14 +110,14 @@ pub record OwnsPoint (own : Ownership) (term table key : ℕ) : Type 0 where
   pub term_is : grant.term ≡ term
   pub holds : in_range grant.range table key ≡ true
 
-pub owns-point : (own : Ownership) (table key term : ℕ) → term_of own table key ≡ Some term → OwnsPoint own term table key
-owns-point own table key term e = by (find (λ (grant : GrantedRange). in_range grant.range table key) own.grants) refl e
+pub owns-point : {own : Ownership} {table key term : ℕ} → term_of own table key ≡ Some term → OwnsPoint own term table key
+owns-point {own} {table} {key} {term} e = by (find (λ (grant : GrantedRange). in_range grant.range table key) own.grants) refl e
   where
     by : (found : Option GrantedRange) → find (λ (grant : GrantedRange). in_range grant.range table key)
         own.grants ≡ found → option_map (λ (grant : GrantedRange). grant.term) found ≡ Some term →
         OwnsPoint own term table key
     by None is none = cc
-    by (Some grant) is some = let p = find-one (λ (one : GrantedRange). in_range one.range table key) own.grants grant is in
+    by (Some grant) is some = let p = find-one (λ (one : GrantedRange). in_range one.range table key) own.grants is in
         record { grant = grant; among = p.0; term_is = some-same some; holds = p.1 }
       where
         some-same : Some grant.term ≡ Some term → grant.term ≡ term
@@ -127,12 +126,12 @@ owns-point own table key term e = by (find (λ (grant : GrantedRange). in_range 
 pub owns-granted : (own : Ownership) (grant : GrantedRange) (term : ℕ) → In grant own.grants → grant.term ≡ term → owns_term own term ≡ true
 owns-granted own grant term at e = any-here (λ (one : GrantedRange). nat_eq one.term term) grant own.grants at (eq-eqb grant.term term e)
 
-or-right : (a b : Bool) → b ≡ true → Rattle.std.specs.Prelude.◌||◌ a b ≡ true
-or-right true b e = refl
-or-right false b e = e
+or-right : (a : Bool) {b : Bool} → b ≡ true → Rattle.std.specs.Prelude.◌||◌ a b ≡ true
+or-right true e = refl
+or-right false e = e
 
 pub knows-owned : (own : Ownership) (term : ℕ) → owns_term own term ≡ true → knows_term own term ≡ true
-knows-owned own term e = or-right (has_part own term) (owns_term own term) e
+knows-owned own term e = or-right (has_part own term) e
 
 or-left : (a b : Bool) → a ≡ true → Rattle.std.specs.Prelude.◌||◌ a b ≡ true
 or-left true b e = refl
@@ -143,29 +142,28 @@ knows-part own term e = or-left (has_part own term) (owns_term own term) e
 
 -- A client's entry
 
-pub is-of-true : (term table key : ℕ) (entry : Entry) → entry.term ≡ term → entry.table ≡ table → entry.key ≡ key →
+pub is-of-true : {term table key : ℕ} (entry : Entry) → entry.term ≡ term → entry.table ≡ table → entry.key ≡ key →
     is_of term table key entry ≡ true
-is-of-true term table key entry a b c =
+is-of-true {term} {table} {key} entry a b c =
     and_from (nat_eq entry.term term) (nat_eq entry.table table && nat_eq entry.key key) (eq-eqb entry.term term a)
     (and_from (nat_eq entry.table table) (nat_eq entry.key key) (eq-eqb entry.table table b) (eq-eqb entry.key key c))
 
-pub good-client : (sent : List Message) (m : ServerId) (v : PartView) (place : LogPlace) → place.client ≡ true →
+pub good-client : {sent : List Message} {m : ServerId} {v : PartView} (place : LogPlace) → place.client ≡ true →
     GoodParts sent m v → OwnsPoint v.own place.entry.term place.entry.table place.entry.key →
     place.entry.version ≡ next_version place.entry.term place.entry.table place.entry.key (logged v.places) →
     GoodParts sent m (with_place place v)
-good-client sent m v place is_client good owns numbered = record {
+good-client {sent} {m} {v} place is_client good owns numbered = record {
   granted = good.granted;
   planned = good.planned;
   task_known = good.task_known;
   differ = good.differ;
   parts_are = λ state at. (let p = good.parts_are state at in
       record { task = p.task; among = p.among; part_is = p.part_is; attempt_is = p.attempt_is; how = how state p.task p.how });
-  logged_known = λ entry at.
-      known entry (In-append entry (logged v.places) (place.entry ∷ [])
+  logged_known = λ entry at. known entry (In-append entry (logged v.places) (place.entry ∷ [])
       (subst (In entry) (logged-place v.places place) at));
   waiting_part = good.waiting_part;
-  clients = λ before after one e client. which before after one client (last-or-before v.places place before one after e);
-  replays = λ before after one e client. old_replay before after one client (last-or-before v.places place before one after e);
+  clients = λ before after one e client. which before after one client (last-or-before v.places before e);
+  replays = λ before after one e client. old_replay before after one client (last-or-before v.places before e);
 }
   where
     owned : owns_term v.own place.entry.term ≡ true
@@ -185,7 +183,7 @@ good-client sent m v place is_client good owns numbered = record {
     how state task (inl p) = inl (record {
       rows = p.rows;
       some = p.some;
-      none_logged = under-place-other state.part.term v.places place (other state p.unowned) ∙ p.none_logged;
+      none_logged = under-place-other v.places place (other state p.unowned) ∙ p.none_logged;
       none_waits = p.none_waits;
       unowned = p.unowned;
     })
@@ -195,7 +193,7 @@ good-client sent m v place is_client good owns numbered = record {
       came = p.came;
       size = p.size;
       fresh = λ unowned. ap (λ l. l ++ under state.part.term v.own.replay)
-          (under-place-other state.part.term v.places place (other state unowned)) ∙ p.fresh unowned;
+          (under-place-other v.places place (other state unowned)) ∙ p.fresh unowned;
       owned = λ e. (let q = p.owned e in (
         begins-place state.part.term v.places place (map (under_term state.part.term) p.entries) q.0,
         q.1,
@@ -209,7 +207,7 @@ good-client sent m v place is_client good owns numbered = record {
         let found = place_of (logged v.places) entry at in
         let most : entry.version ≤ greatest_version place.entry.term place.entry.table place.entry.key (logged v.places) =
         greatest-above place.entry.term place.entry.table place.entry.key (logged v.places) found.0 entry found.1
-        (is-of-true place.entry.term place.entry.table place.entry.key entry a b c) in
+        (is-of-true entry a b c) in
         omega arith
 
     joined : (state : PartState) (task : Task) → state.part.term ≡ place.entry.term →
@@ -253,35 +251,34 @@ good-client sent m v place is_client good owns numbered = record {
 abbrev pub replayed : LogPlace → List Entry → PartView → PartView
 replayed place rest v = record v { places = v.places ++ place ∷ []; own = record v.own { replay = rest } }
 
-both-none : {X : Type 0} (xs ys : List X) → xs ++ ys ≡ [] → (xs ≡ []) × (ys ≡ [])
-both-none [] ys e = (refl, e)
-both-none (x ∷ xs) ys e = cc
+both-none : {X : Type 0} (xs : List X) {ys : List X} → xs ++ ys ≡ [] → (xs ≡ []) × (ys ≡ [])
+both-none [] e = (refl, e)
+both-none (x ∷ xs) e = cc
 
-under-none-one : (term : ℕ) (entry : Entry) (rest : List Entry) → under term (entry ∷ rest) ≡ [] →
+under-none-one : {term : ℕ} (entry : Entry) (rest : List Entry) → under term (entry ∷ rest) ≡ [] →
     (entry.term ≡ term → ⊥) × (under term rest ≡ [])
-under-none-one term entry rest e =
-    let parts = both-none (under term (entry ∷ [])) (under term rest) (sym (under-append term (entry ∷ []) rest) ∙ e) in
-    (λ same. never (sym (under-here term entry [] same) ∙ parts.0), parts.1)
+under-none-one {term} entry rest e =
+    let parts = both-none (under term (entry ∷ [])) (sym (under-append term (entry ∷ []) rest) ∙ e) in
+    (λ same. never (sym (under-here [] same) ∙ parts.0), parts.1)
   where
     never : entry ∷ [] ≡ [] → ⊥
     never x = cc
 
-pub good-replayed : (sent : List Message) (m : ServerId) (v : PartView) (place : LogPlace) (rest : List Entry) →
+pub good-replayed : {sent : List Message} {m : ServerId} {v : PartView} (place : LogPlace) {rest : List Entry} →
     GoodParts sent m v → v.own.replay ≡ place.entry ∷ rest → place.client ≡ false →
     GoodParts sent m (replayed place rest v)
-good-replayed sent m v place rest good waits unclient = record {
+good-replayed {sent} {m} {v} place {rest} good waits unclient = record {
   granted = good.granted;
   planned = good.planned;
   task_known = good.task_known;
   differ = good.differ;
   parts_are = λ state at. (let p = good.parts_are state at in
       record { task = p.task; among = p.among; part_is = p.part_is; attempt_is = p.attempt_is; how = how state p.task p.how });
-  logged_known = λ entry at.
-      known entry (In-append entry (logged v.places) (place.entry ∷ [])
+  logged_known = λ entry at. known entry (In-append entry (logged v.places) (place.entry ∷ [])
       (subst (In entry) (logged-place v.places place) at));
   waiting_part = λ entry at. good.waiting_part entry (subst (In entry) (sym waits) (inr at));
-  clients = λ before after one e client. which before after one client (last-or-before v.places place before one after e);
-  replays = λ before after one e client. which_replay before after one client (last-or-before v.places place before one after e);
+  clients = λ before after one e client. which before after one client (last-or-before v.places before e);
+  replays = λ before after one e client. which_replay before after one client (last-or-before v.places before e);
 }
   where
     known : (entry : Entry) → In entry (logged v.places) ⊎ ((entry ≡ place.entry) ⊎ ⊥) → knows_term v.own entry.term ≡ true
@@ -292,11 +289,11 @@ good-replayed sent m v place rest good waits unclient = record {
     how : (state : PartState) (task : Task) → IsWaiting sent m v task state ⊎ HasJoined sent m v task state →
         IsWaiting sent m (replayed place rest v) task state ⊎ HasJoined sent m (replayed place rest v) task state
     how state task (inl p) =
-        let none = under-none-one state.part.term place.entry rest (sym (ap (under state.part.term) waits) ∙ p.none_waits) in
+        let none = under-none-one place.entry rest (sym (ap (under state.part.term) waits) ∙ p.none_waits) in
         inl (record {
           rows = p.rows;
           some = p.some;
-          none_logged = under-place-other state.part.term v.places place none.0 ∙ p.none_logged;
+          none_logged = under-place-other v.places place none.0 ∙ p.none_logged;
           none_waits = none.1;
           unowned = p.unowned;
         })
@@ -305,15 +302,14 @@ good-replayed sent m v place rest good waits unclient = record {
       entries = p.entries;
       came = p.came;
       size = p.size;
-      fresh = λ unowned.
-          ap (λ l. l ++ under state.part.term rest) (under-place state.part.term v.places place)
+      fresh = λ unowned. ap (λ l. l ++ under state.part.term rest) (under-place state.part.term v.places place)
           ∙ append_assoc (under state.part.term (logged v.places)) (under state.part.term (place.entry ∷ [])) (under state.part.term rest)
           ∙ ap (λ l. under state.part.term (logged v.places) ++ l)
           (sym (under-append state.part.term (place.entry ∷ []) rest) ∙ ap (under state.part.term) (sym waits))
           ∙ p.fresh unowned;
       owned = λ e. (let q = p.owned e in (
         begins-place state.part.term v.places place (map (under_term state.part.term) p.entries) q.0,
-        (under-none-one state.part.term place.entry rest (sym (ap (under state.part.term) waits) ∙ q.1)).1,
+        (under-none-one place.entry rest (sym (ap (under state.part.term) waits) ∙ q.1)).1,
         let a = q.2 in let b = durable-place v place state.part.term in omega arith,
       ));
     })
@@ -331,19 +327,18 @@ good-replayed sent m v place rest good waits unclient = record {
         IsWaiting sent m v task state ⊎ HasJoined sent m v task state →
         IsReplayed (replayed place rest v) v.places place.entry
     first state at same task (inl p) =
-        absurd ((under-none-one state.part.term place.entry rest (sym (ap (under state.part.term) waits) ∙
+        absurd ((under-none-one place.entry rest (sym (ap (under state.part.term) waits) ∙
         p.none_waits)).0 (sym same))
     first state at same task (inr p) = by (owns_term v.own state.part.term) refl
       where
         by : (b : Bool) → owns_term v.own state.part.term ≡ b → IsReplayed (replayed place rest v) v.places place.entry
-        by true owns = absurd ((under-none-one state.part.term place.entry rest
+        by true owns = absurd ((under-none-one place.entry rest
             (sym (ap (under state.part.term) waits) ∙ (p.owned owns).1)).0 (sym same))
         by false owns =
             let whole : under state.part.term (logged v.places) ++ place.entry ∷ under state.part.term rest ≡ map
             (under_term state.part.term) p.entries =
             ap (λ l. under state.part.term (logged v.places) ++ l)
-            (sym (under-here state.part.term place.entry rest (sym same)) ∙ ap (under state.part.term) (sym waits))
-            ∙ p.fresh owns in
+            (sym (under-here rest (sym same)) ∙ ap (under state.part.term) (sym waits)) ∙ p.fresh owns in
             let long : length (under state.part.term (logged v.places) ++ place.entry ∷ under state.part.term rest) ≡
             length (under state.part.term (logged v.places)) + length (place.entry ∷ under state.part.term rest) =
             length-append (under state.part.term (logged v.places)) (place.entry ∷ under state.part.term rest) in
@@ -365,7 +360,7 @@ good-replayed sent m v place rest good waits unclient = record {
         IsLast v.places place before one after ⊎ IsBefore v.places place before one after →
         IsReplayed (replayed place rest v) before one.entry
     which_replay before after one client (inl p) =
-        let found = any-one (λ (state : PartState). nat_eq state.part.term place.entry.term) v.own.parts
+        let found = any-one v.own.parts
         (good.waiting_part place.entry (subst (In place.entry) (sym waits) (inl refl))) in
         let q = good.parts_are found.0 found.1 in
         subst (λ (l : List LogPlace). IsReplayed (replayed place rest v) l one.entry) (sym p.before_is)

@@ -27,10 +27,10 @@ use Rattle.rc_step_laws.proofs.Attempting.{numbered-same}
 abbrev pub cut_of : (ServerId → Master) → Task → PlanRow → List Entry
 cut_of masters task row = filter (is_in_part task.part) (take row.len (log_in (masters task.master).log row.seg))
 
-pub decided-same : (attempts : List Attempt) (number : ℕ) (m k : ServerId) (one other : Decision) →
+pub decided-same : {attempts : List Attempt} {number : ℕ} {m k : ServerId} {one other : Decision} →
     IsDecided attempts number m one → IsDecided attempts number k other → (m ≡ k) × (one ≡ other)
-decided-same attempts number m k one other p q =
-    let same : p.attempt ≡ q.attempt = numbered-same attempts number p.attempt q.attempt p.numbered q.numbered in
+decided-same {one} {other} p q =
+    let same : p.attempt ≡ q.attempt = numbered-same p.numbered q.numbered in
     let first : p.attempt.decided ≡ Some one = p.decided in
     let second : p.attempt.decided ≡ Some other = ap (λ (a : Attempt). a.decided) same ∙ q.decided in
     (sym p.master_is ∙ ap (λ (a : Attempt). a.master) same ∙ q.master_is, cc)
@@ -82,7 +82,7 @@ module _ (sent : List Message) (masters : ServerId → Master) (hosts : ℕ → 
       let once = all.terms.part_once other.attempt task.attempt other.master task.master q.decision p.decision
       (record { to = x; part = other.part }) (record { to = x; part = task.part }) q.decided q.given p.decided
       p.given e in
-      let same = decided-same c.attempts task.attempt other.master task.master q.decision p.decision
+      let same = decided-same
       (subst (λ n. IsDecided c.attempts n other.master q.decision) once.0 q.decided) p.decided in
       record {
         attempt = once.0;
@@ -96,7 +96,7 @@ module _ (sent : List Message) (masters : ServerId → Master) (hosts : ℕ → 
   task-ascends x task at =
       let p : IsTaskOf sent c x task = task-of x task at in
       subst (λ rows. IsAscending (segs_of rows)) (sym p.rows_are)
-      (rows-ascend (c.least p.decided.attempt.master) p.decided.attempt.replies p.decision.plan
+      (rows-ascend (c.least p.decided.attempt.master) p.decided.attempt.replies
       ((all.good.coordinator.attempts task.attempt p.decided.attempt p.decided.numbered).picked p.decision p.decided.decided))
 
   -- Data
@@ -134,8 +134,7 @@ module _ (sent : List Message) (masters : ServerId → Master) (hosts : ℕ → 
       part_is = sym asked.part_is ∙ same.part
 
       same_cut : filter (is_in_part cut.part) (take cut.len (log_in (masters cut.master).log row.seg)) ≡ cut_of masters task row
-      same_cut =
-          ap (λ part. filter (is_in_part part) (take cut.len (log_in (masters cut.master).log row.seg))) part_is
+      same_cut = ap (λ part. filter (is_in_part part) (take cut.len (log_in (masters cut.master).log row.seg))) part_is
           ∙ ap (λ n. filter (is_in_part task.part) (take n (log_in (masters cut.master).log row.seg))) len_is
           ∙ ap (λ m. filter (is_in_part task.part) (take row.len (log_in (masters m).log row.seg))) master_is
 
@@ -162,7 +161,7 @@ module _ (sent : List Message) (masters : ServerId → Master) (hosts : ℕ → 
     task_among = part.among;
     part_is = part.part_is;
     given_is = ap (λ (one : GivenPart). one.part) once.1;
-    master_is = (decided-same c.attempts grant.attempt part.task.master given.master of_task.decision given.decision
+    master_is = (decided-same
         (subst (λ n. IsDecided c.attempts n part.task.master of_task.decision) once.0 of_task.decided) given.decided).0;
     attempt_is = once.0;
     joined = has_joined part.how;
@@ -200,8 +199,7 @@ module _ (sent : List Message) (masters : ServerId → Master) (hosts : ℕ → 
       state.size ≤ durable_under state.part.term (part_view (masters x)) →
       Begins (map (under_term state.part.term) p.entries)
       (under state.part.term (take (masters x).log.durable (logged (places_of (masters x).log))))
-  joined-begins x task state p durable =
-      begins-within base (under T (take d entries)) (under T (drop d entries))
+  joined-begins x task state p durable = begins-within base (under T (take d entries)) (under T (drop d entries))
       (subst (Begins base) parted (by (owns_term (masters x).ownership T) refl)) (let a = long in let b = p.size in
       omega arith)
     where
@@ -228,9 +226,9 @@ module _ (sent : List Message) (masters : ServerId → Master) (hosts : ℕ → 
       by false e =
           let taken : durable_under T (part_view (masters x)) ≤ count_under T entries =
           Rattle.rc_owner_laws.proofs.PartLists.count-take T d entries in
-          let rest = nothing-more base (under T entries) (under T (masters x).ownership.replay) (p.fresh e)
+          let rest = nothing-more {xs = base} {ys = (under T entries)} (under T (masters x).ownership.replay) (p.fresh e)
           (let a = long in let b = p.size in let f = durable in omega arith) in
-          subst (Begins base) (sym rest.1) (Rattle.rc_step_laws.proofs.Lists.begins-refl base)
+          subst (Begins base) (sym rest.1) (Rattle.rc_step_laws.proofs.Lists.begins-refl)
 
   -- and each of them stands at a safe place
   pub base-safe : (x : ServerId) (task : Task) (state : PartState) →
@@ -244,13 +242,13 @@ module _ (sent : List Message) (masters : ServerId → Master) (hosts : ℕ → 
       let found = In-take (masters x).log.durable (logged (places_of (masters x).log)) entry
       (under-In state.part.term entry (take (masters x).log.durable (logged (places_of (masters x).log))) there).0
       in
-      let place = get-map (λ (one : LogPlace). one.entry) (places_of (masters x).log) found.0 entry found.2 in
+      let place = get-map (places_of (masters x).log) found.0 found.2 in
       let is : IsOf (masters x).log.segments (masters x).log.head place.0 =
-      places_to-are (masters x).log.segments (masters x).log.head found.0 place.0 place.1 in
+      places_to-are (masters x).log.head found.0 place.1 in
       record {
         seg = place.0.seg;
         offset = place.0.offset;
         safe = (all.good.masters_are x).counted found.0 place.0 found.1 place.1;
-        holds = place-logged (masters x).log place.0 is ∙ ap Some place.2;
+        holds = place-logged (masters x).log is ∙ ap Some place.2;
         counted = record { index = found.0; place = place.0; below = found.1; at = place.1; seg_is = refl; offset_is = refl };
       }

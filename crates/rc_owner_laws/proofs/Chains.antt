@@ -13,22 +13,22 @@ use Rattle.rc_step_laws.proofs.Copies.{split}
 
 -- Chains
 
-pub chain-append : (start last : ℕ) (grants : List Grant) (grant : Grant) → IsChain start grants last →
+pub chain-append : (start : ℕ) {last : ℕ} (grants : List Grant) (grant : Grant) → IsChain start grants last →
     grant.previous ≡ last → last < grant.term → IsChain start (grants ++ grant ∷ []) grant.term
-chain-append start last [] grant chain previous rises = (previous ∙ sym chain, subst (λ n. n < grant.term) (sym chain) rises, refl)
-chain-append start last (first ∷ grants) grant chain previous rises =
-    (chain.0, chain.1, chain-append first.term last grants grant chain.2 previous rises)
+chain-append start [] grant chain previous rises = (previous ∙ sym chain, subst (λ n. n < grant.term) (sym chain) rises, refl)
+chain-append start (first ∷ grants) grant chain previous rises =
+    (chain.0, chain.1, chain-append first.term grants grant chain.2 previous rises)
 
-none_to-append : (owner : ServerId) (grants : List Grant) (grant : Grant) → NoneTo owner grants →
+none_to-append : {owner : ServerId} (grants : List Grant) (grant : Grant) → NoneTo owner grants →
     (grant.owner ≡ owner → ⊥) → NoneTo owner (grants ++ grant ∷ [])
-none_to-append owner [] grant none differs = (differs, tt)
-none_to-append owner (first ∷ grants) grant none differs = (none.0, none_to-append owner grants grant none.1 differs)
+none_to-append [] grant none differs = (differs, tt)
+none_to-append (first ∷ grants) grant none differs = (none.0, none_to-append grants grant none.1 differs)
 
 pub differ-append : (grants : List Grant) (grant : Grant) → OwnersDiffer grants →
     ((other : Grant) → In other grants → other.owner ≡ grant.owner → ⊥) → OwnersDiffer (grants ++ grant ∷ [])
 differ-append [] grant differ new = (tt, tt)
 differ-append (first ∷ grants) grant differ new = (
-  none_to-append first.owner grants grant differ.0 (λ e. new first (inl refl) (sym e)),
+  none_to-append grants grant differ.0 (λ e. new first (inl refl) (sym e)),
   differ-append grants grant differ.1 (λ other at. new other (inr at)),
 )
 
@@ -63,8 +63,7 @@ found-at (first ∷ tablets) tablet table key apart (inl same) e =
 found-at (first ∷ tablets) tablet table key apart (inr rest) e = by (found-at tablets tablet table key apart.1 rest e)
   where
     by : tablet_of tablets table key ≡ Some tablet → tablet_of (first ∷ tablets) table key ≡ Some tablet
-    by found = split (holds first table key)
-        (λ here. some-none (sym found ∙ apart.0 table key here))
+    by found = split (holds first table key) (λ here. some-none (sym found ∙ apart.0 table key here))
         (λ lacks. ap (λ b. cond b (Some first) (tablet_of tablets table key)) lacks ∙ found)
 
 -- the tablets of an owner are among all, and are its

@@ -20,16 +20,16 @@ take-append zero xs ys less = refl
 take-append (suc n) [] ys less = absurd (omega arith)
 take-append (suc n) (x ∷ xs) ys less = ap (λ l. x ∷ l) (take-append n xs ys (omega arith))
 
-take-begins : {X : Type 0} (n : ℕ) (xs ys : List X) → Begins xs ys → n ≤ length xs → take n ys ≡ take n xs
-take-begins n xs ys p less = ap (take n) (sym p.1) ∙ take-append n xs p.0 less
+take-begins : {X : Type 0} {n : ℕ} (xs : List X) {ys : List X} → Begins xs ys → n ≤ length xs → take n ys ≡ take n xs
+take-begins {n} xs p less = ap (take n) (sym p.1) ∙ take-append n xs p.0 less
 
 -- A cut stays one
 
-cut-later : (sent sent_now : List Message) (masters masters_now : ServerId → Master) → More sent sent_now →
+cut-later : {sent sent_now : List Message} {masters masters_now : ServerId → Master} → More sent sent_now →
     ((m : ServerId) → LogLater sent_now m (masters m).log (masters_now m).log) →
-    (y x : ServerId) (attempt seg term : ℕ) (entries : List Entry) →
+    {y x : ServerId} {attempt seg term : ℕ} {entries : List Entry} →
     IsCut sent masters y x attempt seg term entries → IsCut sent_now masters_now y x attempt seg term entries
-cut-later sent sent_now masters masters_now more later y x attempt seg term entries p = record {
+cut-later {masters} {masters_now} more later {y} {x} {attempt} {seg} p = record {
   master = p.master;
   len = p.len;
   part = p.part;
@@ -38,30 +38,30 @@ cut-later sent sent_now masters masters_now more later y x attempt seg term entr
   within = (let a = p.within in let b = begins-length (log_in (masters p.master).log seg)
       (log_in (masters_now p.master).log seg) begins in omega arith);
   entries_are = p.entries_are ∙ ap (filter (is_in_part p.part))
-      (sym (take-begins p.len (log_in (masters p.master).log seg) (log_in (masters_now p.master).log seg) begins
+      (sym (take-begins (log_in (masters p.master).log seg) begins
       p.within));
 }
   where
     begins : Begins (log_in (masters p.master).log seg) (log_in (masters_now p.master).log seg)
-    begins = grows-log sent_now p.master (masters p.master).log (masters_now p.master).log (later p.master) seg
+    begins = grows-log (later p.master) seg
 
-between-later : (sent sent_now : List Message) (masters masters_now : ServerId → Master) → More sent sent_now →
+between-later : (sent : List Message) {sent_now : List Message} (masters masters_now : ServerId → Master) → More sent sent_now →
     ((m : ServerId) → LogLater sent_now m (masters m).log (masters_now m).log) →
     (from to : Addr) (attempt seg term : ℕ) (entries : List Entry) →
     data_between sent masters from to attempt seg term entries → data_between sent_now masters_now from to attempt seg term entries
-between-later sent sent_now masters masters_now more later (Server y) (Server x) attempt seg term entries p =
-    cut-later sent sent_now masters masters_now more later y x attempt seg term entries p
-between-later sent sent_now masters masters_now more later (Server y) AtCoordinator attempt seg term entries p = absurd p
-between-later sent sent_now masters masters_now more later (Server y) Outside attempt seg term entries p = absurd p
-between-later sent sent_now masters masters_now more later AtCoordinator to attempt seg term entries p = absurd p
-between-later sent sent_now masters masters_now more later Outside to attempt seg term entries p = absurd p
+between-later sent masters masters_now more later (Server y) (Server x) attempt seg term entries p =
+    cut-later more later p
+between-later sent masters masters_now more later (Server y) AtCoordinator attempt seg term entries p = absurd p
+between-later sent masters masters_now more later (Server y) Outside attempt seg term entries p = absurd p
+between-later sent masters masters_now more later AtCoordinator to attempt seg term entries p = absurd p
+between-later sent masters masters_now more later Outside to attempt seg term entries p = absurd p
 
-pub data-later : (sent sent_now : List Message) (masters masters_now : ServerId → Master) → More sent sent_now →
+pub data-later : (sent : List Message) {sent_now : List Message} (masters masters_now : ServerId → Master) → More sent sent_now →
     ((m : ServerId) → LogLater sent_now m (masters m).log (masters_now m).log) → (from to : Addr) (says : Body) →
     data_fine sent masters from to says → data_fine sent_now masters_now from to says
-data-later sent sent_now masters masters_now more later from to (body.Data attempt seg term entries) p =
-    between-later sent sent_now masters masters_now more later from to attempt seg term entries p
-data-later sent sent_now masters masters_now more later from to _ p = tt
+data-later sent masters masters_now more later from to (body.Data attempt seg term entries) p =
+    between-later sent masters masters_now more later from to attempt seg term entries p
+data-later sent masters masters_now more later from to _ p = tt
 
 -- Messages that are no Data
 
@@ -81,16 +81,16 @@ module _ (sent : List Message) (masters : ServerId → Master) (index generation
   abbrev AllFine : List Message → Type 0
   AllFine messages = (message : Message) → In message messages → data_fine sent masters message.from message.to message.body
 
-  one : (only : Message) → data_fine sent masters only.from only.to only.body → AllFine (only ∷ [])
-  one only fine message (inl same) = subst (λ (it : Message). data_fine sent masters it.from it.to it.body) (sym same) fine
-  one only fine message (inr never) = absurd never
+  one : {only : Message} → data_fine sent masters only.from only.to only.body → AllFine (only ∷ [])
+  one fine message (inl same) = subst (λ (it : Message). data_fine sent masters it.from it.to it.body) (sym same) fine
+  one fine message (inr never) = absurd never
 
   none : AllFine []
   none message at = absurd at
 
   keeps-fine : (m : ServerId) (seg : ℕ) (found : Option Replica) → AllFine (keeps backup m seg found).1
   keeps-fine m seg None = none
-  keeps-fine m seg (Some replica) = one (between backup.own m (stored_of seg replica)) tt
+  keeps-fine m seg (Some replica) = one tt
 
   stores-fine : (m : ServerId) (seg : ℕ) (says : Body) → AllFine (stores backup m seg says).1
   stores-fine m seg says =
@@ -105,9 +105,8 @@ module _ (sent : List Message) (masters : ServerId → Master) (index generation
         ((says : Body) → In says bodies → data_fine sent masters (Server backup.own) (Server asker) says) →
         AllFine (answers_fetch backup asker m bodies)
     answer-fine [] fine = none
-    answer-fine (says ∷ bodies) fine =
-        either AllFine (backup.held m).fenced (between backup.own asker says ∷ []) []
-        (λ _. one (between backup.own asker says) (fine says (inl refl))) (λ _. none)
+    answer-fine (says ∷ bodies) fine = either AllFine (backup.held m).fenced (between backup.own asker says ∷ []) []
+        (λ _. one (fine says (inl refl))) (λ _. none)
 
     data-cut : (found : Option Replica) → replica_of seg (backup.held m).replicas ≡ found → (says : Body) →
         In says (data_of attempt seg len part found) → data_fine sent masters (Server backup.own) (Server asker) says
@@ -121,8 +120,7 @@ module _ (sent : List Message) (masters : ServerId → Master) (index generation
         good : GoodReplica sent m (masters m).log index generation seg replica
         good = (held m).each seg replica e
 
-        cut : len ≤ length replica.entries →
-            IsCut sent masters backup.own asker attempt seg part.term
+        cut : len ≤ length replica.entries → IsCut sent masters backup.own asker attempt seg part.term
             (filter (is_in_part part) (take len replica.entries))
         cut long = record {
           master = m;
@@ -131,7 +129,7 @@ module _ (sent : List Message) (masters : ServerId → Master) (index generation
           asked = asked;
           term_is = refl;
           within = (let b = begins-length replica.entries (log_in (masters m).log seg) good.begins in omega arith);
-          entries_are = ap (filter (is_in_part part)) (sym (take-begins len replica.entries (log_in (masters m).log seg) good.begins long));
+          entries_are = ap (filter (is_in_part part)) (sym (take-begins replica.entries good.begins long));
         }
 
         by : len ≤ length replica.entries →
@@ -144,8 +142,8 @@ module _ (sent : List Message) (masters : ServerId → Master) (index generation
     fetched-fine = answer-fine (data_of attempt seg len part (replica_of seg (backup.held m).replicas))
         (data-cut (replica_of seg (backup.held m).replicas) refl)
 
-  fences-fine : (attempt : ℕ) (m : ServerId) → AllFine (fences backup attempt m).1
-  fences-fine attempt m = one (to_coordinator backup.own (body.Replicas attempt (rows_of_replicas (backup.held m).replicas))) tt
+  fences-fine : {attempt : ℕ} (m : ServerId) → AllFine (fences backup attempt m).1
+  fences-fine m = one tt
 
   pub backup-fine : (from : Addr) (says : Body) → In (record { from = from; to = Server backup.own; body = says })
       sent → AllFine (backup_takes backup from says).1
@@ -153,5 +151,5 @@ module _ (sent : List Message) (masters : ServerId → Master) (index generation
   backup-fine (Server m) (body.Append seg offset entries) at = stores-fine m seg (body.Append seg offset entries)
   backup-fine (Server m) (body.Close seg len) at = stores-fine m seg (body.Close seg len)
   backup-fine (Server asker) (body.Fetch attempt m seg len part) at = fetched-fine asker m attempt seg len part at
-  backup-fine from (body.Gather attempt m) at = fences-fine attempt m
+  backup-fine from (body.Gather attempt m) at = fences-fine m
   backup-fine _ _ at = none

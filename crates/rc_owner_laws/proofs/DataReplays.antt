@@ -66,8 +66,7 @@ fine-coordinator world work good given =
 module _ (world : World) (one : Event) (i : ℕ) (good : GoodWorld world) where
   fine-master : (master : Master) (after : Master × List Message) →
       MasterMoved world.sent (server_of (world.hosts i)) master after → AllFine world after.1
-  fine-master master after is message at =
-      no-data-fine world.sent world.masters message.from message.to message.body
+  fine-master master after is message at = no-data-fine world.sent world.masters message.from message.to message.body
       (by_master world.sent (world.sent ++ after.1) (server_of (world.hosts i)) master.log after.0.log message.to
       message.body (is.says message at).says)
 
@@ -108,7 +107,7 @@ next-node world one (TheHost i) work good given can =
 next-job : (world : World) (one : Event) (found : Option Job) → job_of world.sent one ≡ found → GoodWorld world →
     is_possible_job world found ≡ true → IsNext world (job_done world one found)
 next-job world one None is good can = λ message at. inl at
-next-job world one (Some job) is good can = next-node world one job.node job.work good (job_of-given world.sent one job is) can
+next-job world one (Some job) is good can = next-node world one job.node job.work good (job_of-given world.sent one is) can
 
 next-step : (world : World) (one : Event) → GoodWorld world → IsNext world (step world one)
 next-step world one good =
@@ -123,7 +122,7 @@ cuts-step world one good p message at = by (next-step world one good message at)
 
     later : data_fine world.sent world.masters message.from message.to message.body →
         data_fine (step world one).sent (step world one).masters message.from message.to message.body
-    later = data-later world.sent (step world one).sent world.masters (step world one).masters led.onward.more
+    later = data-later world.sent world.masters (step world one).masters led.onward.more
         (λ m. (led.onward.grown m).later) message.from message.to message.body
 
     by : In message world.sent ⊎ data_fine world.sent world.masters message.from message.to message.body →

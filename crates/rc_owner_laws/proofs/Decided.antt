@@ -50,8 +50,8 @@ given-in id (first ∷ parts) part at = by (same_id id first.to) refl (given-in 
     by false e rec rest = inr (rec rest)
 
 -- what was given stays so with one more grant
-pub given-more : (grants : List Grant) (grant : Grant) (given : GivenPart) → IsGiven grants given → IsGiven (grants ++ grant ∷ []) given
-given-more grants grant given is = record {
+pub given-more : {grants : List Grant} (grant : Grant) (given : GivenPart) → IsGiven grants given → IsGiven (grants ++ grant ∷ []) given
+given-more {grants} grant given is = record {
   grant = is.grant;
   among = In-left is.grant grants (grant ∷ []) is.among;
   term = is.term;
@@ -67,11 +67,11 @@ abbrev pub OwnSays : Coordinator → List Message → Type 0
 OwnSays c messages = Each (OwnSaid c) messages
 
 -- each message of a plan is of the decision
-pub plan-said : (c : Coordinator) (number : ℕ) (master : ServerId) (decision : Decision) →
+pub plan-said : {c : Coordinator} {number : ℕ} {master : ServerId} {decision : Decision} →
     IsDecided c.attempts number master decision → (id : ServerId) (part : Part) (parts : List Part) →
     parts_of id decision.parts ≡ part ∷ parts →
     OwnSaid c (from_coordinator id (PlanBody decision.plan.head number master decision.plan.rows (part ∷ parts)))
-plan-said c number master decision decided id part parts are = record {
+plan-said {decision} decided id part parts are = record {
   id = id;
   to_is = refl;
   decision = decision;
@@ -85,7 +85,7 @@ pub begun-decided : (c : Coordinator) (master : ServerId) (number : ℕ) (other 
     IsDecided (c.attempts ++ new_attempt master ∷ []) number other decision →
     IsDecided c.attempts number other decision × (put_id c.current master (length c.attempts + 1) other ≡ number → c.current other ≡ number)
 begun-decided c master number other decision decided =
-    old (get-append c.attempts (new_attempt master ∷ []) decided.numbered.place decided.attempt
+    old (get-append c.attempts (new_attempt master ∷ []) decided.numbered.place
     decided.numbered.attempt_is)
   where
     undecided : (j : ℕ) (attempt : Attempt) (decision : Decision) →
@@ -116,18 +116,14 @@ begun-decided c master number other decision decided =
         master_is = decided.master_is;
         decided = decided.decided;
       },
-      current (let below : decided.numbered.place < length c.attempts = get-within c.attempts decided.numbered.place
-          decided.attempt there in
+      current (let below : decided.numbered.place < length c.attempts = get-within c.attempts decided.numbered.place there in
           let is : number ≡ decided.numbered.place + 1 = decided.numbered.number_is in omega (arith, below, is)),
     )
     old (inr (j, p, q)) = absurd (undecided j decided.attempt decision q decided.decided)
 
 -- an attempt begins
-pub begun-good : (c : Coordinator) → GoodGrants c → (master : ServerId) → GoodGrants (begins_attempt c master).0
-begun-good c good master =
-    kept-good c good c.servers c.ready c.tablets c.least (c.attempts ++ new_attempt master ∷ [])
-    (put_id c.current master (length c.attempts + 1)) good.apart (λ table key. refl) (λ m e. e)
-    (begun-decided c master)
+pub begun-good : {c : Coordinator} → GoodGrants c → (master : ServerId) → GoodGrants (begins_attempt c master).0
+begun-good {c} good master = kept-good good good.apart (λ table key. refl) (λ m e. e) (begun-decided c master)
 
 -- an answer decides nothing
 pub answered-decided : (c : Coordinator) (from : ServerId) (number : ℕ) (rows : List Row) (attempt : Attempt) →
@@ -135,7 +131,7 @@ pub answered-decided : (c : Coordinator) (from : ServerId) (number : ℕ) (rows 
     IsDecided (slice_set c.attempts (number - 1) (with_answer from rows attempt)) other master decision →
     IsDecided c.attempts other master decision
 answered-decided c from number rows attempt undecided other master decision decided =
-    by (get-set c.attempts (number - 1) (with_answer from rows attempt) decided.numbered.place decided.attempt decided.numbered.attempt_is)
+    by (get-set c.attempts (number - 1) decided.numbered.place decided.numbered.attempt_is)
   where
     by : (slice_get c.attempts decided.numbered.place ≡ Some decided.attempt) ⊎
         ((decided.numbered.place ≡ number - 1) × (decided.attempt ≡ with_answer from rows attempt)) →
@@ -149,12 +145,12 @@ answered-decided c from number rows attempt undecided other master decision deci
     by (inr (p, q)) = some-none (sym decided.decided ∙ (ap (λ (one : Attempt). one.decided) q ∙ undecided))
 
 -- what is decided once this attempt is decided was decided before, or is this decision
-pub newly-decided : (c : Coordinator) (number : ℕ) (attempt : Attempt) (new : Decision) (other : ℕ) (master : ServerId)
+pub newly-decided : (c : Coordinator) (number : ℕ) (attempt : Attempt) {new : Decision} (other : ℕ) (master : ServerId)
     (decision : Decision) →
     IsDecided (slice_set c.attempts (number - 1) (record attempt { decided = Some new })) other master decision →
     IsDecided c.attempts other master decision ⊎ ((master ≡ attempt.master) × (decision ≡ new))
-newly-decided c number attempt new other master decision decided =
-    by (get-set c.attempts (number - 1) (record attempt { decided = Some new }) decided.numbered.place decided.attempt
+newly-decided c number attempt {new} other master decision decided =
+    by (get-set c.attempts (number - 1) decided.numbered.place
     decided.numbered.attempt_is)
   where
     by : (slice_get c.attempts decided.numbered.place ≡ Some decided.attempt) ⊎
@@ -187,13 +183,13 @@ module _ (c : Coordinator) where
     pub among : In (gives id part) decision.parts
     pub term_is : part.term ≡ term
 
-  senders-in : (id : ServerId) (number term : ℕ) (part : Part) (attempt : Attempt) (decided : Option Decision) →
+  senders-in : {id : ServerId} {number term : ℕ} {part : Part} {attempt : Attempt} (decided : Option Decision) →
       IsNumbered c.attempts number attempt → c.current attempt.master ≡ number → attempt.decided ≡ decided →
       part_in id term decided ≡ Some part → IsSenders id number term part
-  senders-in id number term part attempt None numbered current is found = cc
-  senders-in id number term part attempt (Some decision) numbered current is found =
+  senders-in None numbered current is found = cc
+  senders-in {id} {term} {part} {attempt} (Some decision) numbered current is found =
       let one : In part (parts_of id decision.parts) × (nat_eq part.term term ≡ true) =
-      find-one (λ (p : Part). nat_eq p.term term) (parts_of id decision.parts) part found in
+      find-one (λ (p : Part). nat_eq p.term term) (parts_of id decision.parts) found in
       record {
         attempt = attempt;
         numbered = numbered;
@@ -204,27 +200,25 @@ module _ (c : Coordinator) where
         term_is = eqb-true part.term term one.1;
       }
 
-  pub senders : (id : ServerId) (number term : ℕ) (part : Part) (found : Option Attempt) →
+  pub senders : {id : ServerId} {number term : ℕ} {part : Part} (found : Option Attempt) →
       ((attempt : Attempt) → found ≡ Some attempt → IsNumbered c.attempts number attempt) →
       option_and_then (λ one. cond (is_current c number one) (part_in id term one.decided) None) found ≡ Some part →
       IsSenders id number term part
-  senders id number term part None numbered is = cc
-  senders id number term part (Some attempt) numbered is =
+  senders None numbered is = cc
+  senders {id} {number} {term} {part} (Some attempt) numbered is =
       either (λ (one : Option Part). one ≡ Some part → IsSenders id number term part) (is_current c number attempt)
-      (part_in id term attempt.decided) None
-      (λ current found. senders-in id number term part attempt attempt.decided (numbered attempt refl)
-      (eqb-true (c.current attempt.master) number current) refl found)
-      (λ _ none. cc) is
+      (part_in id term attempt.decided) None (λ current found. senders-in attempt.decided (numbered attempt refl)
+      (eqb-true (c.current attempt.master) number current) refl found) (λ _ none. cc) is
 
   -- its attempt was decided, and where no grant of its term is found it was not granted
-  pub senders-decided : (id : ServerId) (number term : ℕ) (part : Part) → (mine : IsSenders id number term part) →
+  pub senders-decided : {id : ServerId} {number term : ℕ} {part : Part} → (mine : IsSenders id number term part) →
       IsDecided c.attempts number mine.attempt.master mine.decision
-  senders-decided id number term part mine =
+  senders-decided mine =
       record { attempt = mine.attempt; numbered = mine.numbered; master_is = refl; decided = mine.decided }
 
-  pub senders-open : (id : ServerId) (number term : ℕ) (part : Part) → IsSenders id number term part →
+  pub senders-open : {id : ServerId} {number term : ℕ} {part : Part} → IsSenders id number term part →
       grant_to c id term ≡ None → IsGiven c.grants (gives id part) → ⊥
-  senders-open id number term part mine none p = find-none (is_grant_to id term) c.grants p.grant none p.among passes
+  senders-open {id} {term} mine none p = find-none (is_grant_to id term) c.grants p.grant none p.among passes
     where
       passes : (nat_eq p.grant.term term && same_id p.grant.owner id) ≡ true
       passes = ap (λ n. nat_eq n term && same_id p.grant.owner id) (p.term ∙ mine.term_is) ∙

@@ -63,41 +63,41 @@ from-host world one i good work given = said-host world one i good FromServers (
       (to_coordinator (next_server (world.hosts i)) Enlist) (next_server (world.hosts i), refl);
 }) work given
 
-tablets-node : (world : World) (one : Event) (node : NodeName) (work : NodeWork) → GoodWorld world → OfWorld world →
+tablets-node : {world : World} (one : Event) (node : NodeName) (work : NodeWork) → GoodWorld world → OfWorld world →
     TabletsWorld world → IsGivenWork world.sent node work → TabletsWorld (node_done world one node work)
-tablets-node world one TheOutside work good grants p given =
+tablets-node {world} one TheOutside work good grants p given =
     record { good = p.good; says = more-says world.sent (outside_sends work) p.says (outside-says work) }
-tablets-node world one TheCoordinator work good grants p given = record {
+tablets-node {world} one TheCoordinator work good grants p given = record {
   good = (tablets-moved world.sent world.coordinator good.coordinator grants.good p.good work).good;
   says = more-says world.sent (coordinator_step world.coordinator work).1 p.says
       (tablets-moved world.sent world.coordinator good.coordinator grants.good p.good work).says;
 }
-tablets-node world one (TheHost i) work good grants p given = record {
+tablets-node {world} one (TheHost i) work good grants p given = record {
   good = p.good;
   says = more-says world.sent (host_step (world.hosts i) work).1 p.says
       (servers-say (host_step (world.hosts i) work).1 (from-host world one i good work given));
 }
 
-tablets-job : (world : World) (one : Event) (found : Option Job) → job_of world.sent one ≡ found → GoodWorld world →
+tablets-job : {world : World} (one : Event) (found : Option Job) → job_of world.sent one ≡ found → GoodWorld world →
     OfWorld world → TabletsWorld world → TabletsWorld (job_done world one found)
-tablets-job world one None is good grants p = p
-tablets-job world one (Some job) is good grants p =
-    tablets-node world one job.node job.work good grants p (job_of-given world.sent one job is)
+tablets-job one None is good grants p = p
+tablets-job {world} one (Some job) is good grants p =
+    tablets-node one job.node job.work good grants p (job_of-given world.sent one is)
 
-tablets-step : (world : World) (one : Event) → GoodWorld world → OfWorld world → TabletsWorld world → TabletsWorld (step world one)
-tablets-step world one good grants p =
+tablets-step : {world : World} (one : Event) → GoodWorld world → OfWorld world → TabletsWorld world → TabletsWorld (step world one)
+tablets-step {world} one good grants p =
     either TabletsWorld (is_possible world one) (job_done world one (job_of world.sent one)) world
-    (λ _. tablets-job world one (job_of world.sent one) refl good grants p) (λ _. p)
+    (λ _. tablets-job one (job_of world.sent one) refl good grants p) (λ _. p)
 
-tablets-from : (world : World) (events : List Event) → GoodWorld world → OfWorld world → TabletsWorld world →
+tablets-from : {world : World} (events : List Event) → GoodWorld world → OfWorld world → TabletsWorld world →
     TabletsWorld (replay_from world events)
-tablets-from world [] good grants p = p
-tablets-from world (one ∷ events) good grants p =
-    tablets-from (step world one) events (good-step world one good) (grants-step world one good grants)
-    (tablets-step world one good grants p)
+tablets-from [] good grants p = p
+tablets-from {world} (one ∷ events) good grants p =
+    tablets-from {world = (step world one)} events (good-step world one good) (grants-step world one good grants)
+    (tablets-step {world = world} one good grants p)
 
 tablets-world : (setup : Setup) (events : List Event) → TabletsWorld (replay setup events)
-tablets-world setup events = tablets-from (opening setup) events (good-opening setup) (grants-opening setup)
+tablets-world setup events = tablets-from events (good-opening setup) (grants-opening setup)
     (record { good = new-tablets; says = λ message at. absurd at })
 
 -- What the messages say of it
@@ -106,8 +106,8 @@ pub no-server-lacks : NoServerLacksATablet
 no-server-lacks setup events id at = true_false ((tablets-world setup events).says (refuses_server id NoTable) at)
 
 -- an attempt is found by its number
-found-by : (c : Coordinator) (number : ℕ) (attempt : Attempt) → IsNumbered c.attempts number attempt → attempt_at c number ≡ Some attempt
-found-by c number attempt is = ap (attempt_at c) is.number_is ∙
+found-by : (c : Coordinator) {number : ℕ} {attempt : Attempt} → IsNumbered c.attempts number attempt → attempt_at c number ≡ Some attempt
+found-by c is = ap (attempt_at c) is.number_is ∙
     (ap (λ b. cond b None (slice_get c.attempts (is.place + 1 - 1))) (above is.place) ∙
     (ap (slice_get c.attempts) (back is.place) ∙ is.attempt_is))
   where
@@ -170,8 +170,7 @@ module _ (setup : Setup) (events : List Event) (id : ServerId) (number : ℕ) (m
 
       found : find (λ (p : Part). nat_eq p.term part.term) (parts_of id of.decision.parts) ≡ None
       found = sym (ap (option_and_then (λ one. cond (is_current (replay setup events).coordinator number one)
-          (part_in id part.term one.decided) None))
-          (found-by (replay setup events).coordinator number of.decided.attempt of.decided.numbered)
+          (part_in id part.term one.decided) None)) (found-by (replay setup events).coordinator of.decided.numbered)
           ∙ (ap (λ b. cond b (part_in id part.term of.decided.attempt.decided) None) is_now ∙
           ap (part_in id part.term) of.decided.decided)) ∙ none
 
@@ -184,10 +183,10 @@ module _ (setup : Setup) (events : List Event) (id : ServerId) (number : ℕ) (m
       (grant_to (replay setup events).coordinator id part.term))
       ((replay setup events).coordinator, refuses_server id Deposed ∷ [])).1) up
 
-  granted-before : is_up (replay setup events).coordinator.servers id ≡ true → (grant : Grant) →
+  granted-before : is_up (replay setup events).coordinator.servers id ≡ true → {grant : Grant} →
       grant_to (replay setup events).coordinator id part.term ≡ Some grant →
       IsAnsweredByOwn (replay setup events).coordinator id number part.term
-  granted-before up grant is = record {
+  granted-before up {grant} is = record {
     grant = grant;
     term_is = eqb-true grant.term part.term tests.0;
     owner = same_id-true grant.owner id tests.1;
@@ -198,20 +197,19 @@ module _ (setup : Setup) (events : List Event) (id : ServerId) (number : ℕ) (m
     where
       tests : (nat_eq grant.term part.term ≡ true) × (same_id grant.owner id ≡ true)
       tests = and_parts (nat_eq grant.term part.term) (same_id grant.owner id)
-          (find-one (is_grant_to id part.term) (replay setup events).coordinator.grants grant is).1
+          (find-one (is_grant_to id part.term) (replay setup events).coordinator.grants is).1
 
   granted-now : is_up (replay setup events).coordinator.servers id ≡ true →
-      grant_to (replay setup events).coordinator id part.term ≡ None → (mine : Part) →
+      grant_to (replay setup events).coordinator id part.term ≡ None → {mine : Part} →
       part_of_sender (replay setup events).coordinator id number part.term ≡ Some mine →
       IsAnsweredByOwn (replay setup events).coordinator id number part.term
-  granted-now up none mine is = record {
+  granted-now up none {mine} is = record {
     grant = grant_of number id mine;
     term_is = sender.term_is;
     owner = refl;
     answer = answer-is up ∙ (ap
         (λ (found : Option Grant). (by_grant (replay setup events).coordinator id number part.term found).1)
-        none
-        ∙ (ap (λ (found : Option Part). (by_part (replay setup events).coordinator id number found).1) is
+        none ∙ (ap (λ (found : Option Part). (by_part (replay setup events).coordinator id number found).1) is
         ∙ ap (λ b. (cond b (grants_anew (replay setup events).coordinator
         (assigned mine.range id mine.term (replay setup events).coordinator.tablets) (grant_of number id mine))
         ((replay setup events).coordinator, refuses_server id NoTable ∷ [])).1) has));
@@ -221,14 +219,13 @@ module _ (setup : Setup) (events : List Event) (id : ServerId) (number : ℕ) (m
       good = good-world setup events
 
       sender : IsSenders (replay setup events).coordinator id number part.term mine
-      sender = senders (replay setup events).coordinator id
-          number part.term mine (attempt_at (replay setup events).coordinator number)
-          (numbered-at (replay setup events).coordinator number) is
+      sender = senders (replay setup events).coordinator (attempt_at (replay setup events).coordinator number)
+          (numbered-at (replay setup events).coordinator) is
 
       has : has_range mine.range (replay setup events).coordinator.tablets ≡ true
-      has = ranged (replay setup events).coordinator.tablets sender.attempt.master mine
+      has = ranged
           (sender-waits (replay setup events).sent (replay setup events).coordinator good.coordinator grants.good
-          tablets id number part.term mine sender none)
+          tablets sender none)
 
   pub planned-is-granted : (replay setup events).coordinator.current master ≡ number →
       is_up (replay setup events).coordinator.servers id ≡ true →
@@ -239,11 +236,11 @@ module _ (setup : Setup) (events : List Event) (id : ServerId) (number : ℕ) (m
           part_of_sender (replay setup events).coordinator id number part.term ≡ found →
           IsAnsweredByOwn (replay setup events).coordinator id number part.term
       by_part none None is = absurd (found-part current is)
-      by_part none (Some mine) is = granted-now up none mine is
+      by_part none (Some mine) is = granted-now up none is
 
       by : (found : Option Grant) → grant_to (replay setup events).coordinator id part.term ≡ found →
           IsAnsweredByOwn (replay setup events).coordinator id number part.term
-      by (Some grant) is = granted-before up grant is
+      by (Some grant) is = granted-before up is
       by None is = by_part is (part_of_sender (replay setup events).coordinator id number part.term) refl
 
 pub planned-parts-are-tablets : PlannedPartsAreTablets

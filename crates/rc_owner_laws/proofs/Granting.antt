@@ -10,9 +10,9 @@ use Rattle.rc_owner_laws.proofs.Chains.{chain-append, differ-append, grants_at-w
 use Rattle.rc_step_laws.proofs.Copies.{split}
 
 -- no grant is made, and who owns what stays
-pub kept-good : (c : Coordinator) → GoodGrants c →
-    (servers : ServerList) (ready : ServerId → Bool) (tablets : List Tablet) (least : ServerId → Pair)
-    (attempts : List Attempt) (current : ServerId → ℕ) →
+pub kept-good : {c : Coordinator} → GoodGrants c →
+    {servers : ServerList} {ready : ServerId → Bool} {tablets : List Tablet} {least : ServerId → Pair}
+    {attempts : List Attempt} {current : ServerId → ℕ} →
     TabletsApart tablets → ((table key : ℕ) → owner_at tablets table key ≡ owner_at c.tablets table key) →
     ((m : ServerId) → has_crashed c.servers m ≡ true → has_crashed servers m ≡ true) →
     ((number : ℕ) (master : ServerId) (decision : Decision) → IsDecided attempts number master decision →
@@ -27,7 +27,7 @@ pub kept-good : (c : Coordinator) → GoodGrants c →
       grants = c.grants;
       last_term = c.last_term;
     })
-kept-good c good servers ready tablets least attempts current apart same crashes was = record {
+kept-good {c} good {servers} {tablets} apart same crashes was = record {
   apart = apart;
   issued = λ table key. subst (λ n. n ≤ c.last_term) (sym (ap term_in (same table key))) (good.issued table key);
   chains = λ table key. subst (IsChain 0 (grants_at c.grants table key)) (sym (ap term_in (same table key))) (good.chains table key);
@@ -67,9 +67,9 @@ pub record IsNewGrant (c : Coordinator) (tablets : List Tablet) (grant : Grant) 
       (given : GivenPart) → In given decision.parts → (IsGiven (c.grants ++ grant ∷ []) given → ⊥) →
       (table key : ℕ) → in_range given.part.range table key ≡ true → in_range grant.range table key ≡ true → ⊥
 
-pub granted-good : (c : Coordinator) → GoodGrants c → (tablets : List Tablet) (grant : Grant) (last : ℕ) → IsNewGrant c tablets grant last →
+pub granted-good : {c : Coordinator} → GoodGrants c → {tablets : List Tablet} {grant : Grant} {last : ℕ} → IsNewGrant c tablets grant last →
     GoodGrants (record c { tablets = tablets; grants = c.grants ++ grant ∷ []; last_term = last })
-granted-good c good tablets grant last new = record {
+granted-good {c} good {tablets} {grant} {last} new = record {
   apart = new.apart;
   issued = λ table key. split (in_range grant.range table key)
       (λ e. subst (λ n. n ≤ last) (sym (ap term_in (new.within table key e))) new.upto)
@@ -80,7 +80,7 @@ granted-good c good tablets grant last new = record {
       (λ e. subst (λ (grants : List Grant). IsChain 0 grants (term_at tablets table key))
       (sym (grants_at-within c.grants grant table key e))
       (subst (IsChain 0 (grants_at c.grants table key ++ grant ∷ [])) (sym (ap term_in (new.within table key e)))
-      (chain-append 0 (term_at c.tablets table key) (grants_at c.grants table key) grant (good.chains table key) (new.previous table key e)
+      (chain-append 0 (grants_at c.grants table key) grant (good.chains table key) (new.previous table key e)
       (subst (λ n. n < grant.term) (new.previous table key e) (new.rises table key e)))))
       (λ e. subst (λ (grants : List Grant). IsChain 0 grants (term_at tablets table key))
       (sym (grants_at-beside c.grants grant table key e))
@@ -88,8 +88,7 @@ granted-good c good tablets grant last new = record {
   owners = λ table key one at. split (in_range grant.range table key)
       (λ e. owner table key one e (In-append one (grants_at c.grants table key) (grant ∷ [])
       (subst (λ (grants : List Grant). In one grants) (grants_at-within c.grants grant table key e) at)))
-      (λ e. old_owner table key one e
-      (good.owners table key one
+      (λ e. old_owner table key one e (good.owners table key one
       (subst (λ (grants : List Grant). In one grants) (grants_at-beside c.grants grant table key e) at)));
   once = λ table key. split (in_range grant.range table key)
       (λ e. subst (λ (grants : List Grant). OwnersDiffer grants) (sym (grants_at-within c.grants grant table key e))

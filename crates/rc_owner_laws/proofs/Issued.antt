@@ -79,26 +79,25 @@ module _ (sent : List Message) (c : Coordinator) (good : GoodTerms sent c) (kept
       })
   of-body to _ issue own at = absurd at
 
-  issued-once : (one other : Issue) → OfTable c one ⊎ OfPart c one → OfTable c other ⊎ OfPart c other → one.term ≡ other.term → one ≡ other
-  issued-once one other (inl p) (inl q) e =
+  issued-once : {one other : Issue} → OfTable c one ⊎ OfPart c one → OfTable c other ⊎ OfPart c other → one.term ≡ other.term → one ≡ other
+  issued-once (inl p) (inl q) e =
       p.is ∙ ap of_grant (good.grant_once p.grant q.grant p.among q.among (ap (λ (i : Issue). i.term) (sym p.is) ∙ e ∙
       ap (λ (i : Issue). i.term) q.is)) ∙ sym q.is
-  issued-once one other (inl p) (inr q) e =
+  issued-once (inl p) (inr q) e =
       absurd (good.created_apart p.grant p.among p.created q.number q.master q.decision q.decided q.given q.among
       (ap (λ (i : Issue). i.term) (sym q.is) ∙ sym e ∙ ap (λ (i : Issue). i.term) p.is))
-  issued-once one other (inr p) (inl q) e =
+  issued-once (inr p) (inl q) e =
       absurd (good.created_apart q.grant q.among q.created p.number p.master p.decision p.decided p.given p.among
       (ap (λ (i : Issue). i.term) (sym p.is) ∙ e ∙ ap (λ (i : Issue). i.term) q.is))
-  issued-once one other (inr p) (inr q) e =
+  issued-once (inr p) (inr q) e =
       let once = good.part_once p.number q.number p.master q.master p.decision q.decision p.given q.given p.decided
-      p.among q.decided q.among
-      (ap (λ (i : Issue). i.term) (sym p.is) ∙ e ∙ ap (λ (i : Issue). i.term) q.is) in
+      p.among q.decided q.among (ap (λ (i : Issue). i.term) (sym p.is) ∙ e ∙ ap (λ (i : Issue). i.term) q.is) in
       p.is ∙ ap (λ (given : GivenPart). issue_of (Server given.to) p.number given.part) once.1
       ∙ ap (λ n. issue_of (Server q.given.to) n q.given.part) once.0 ∙ sym q.is
 
   pub once-issued : (one other : Issue) → WasIssued sent one → WasIssued sent other → one.term ≡ other.term → one ≡ other
   once-issued one other p q e =
-      issued-once one other (of-body p.message.to p.message.body one (kept.known p.message p.among) p.says)
+      issued-once (of-body p.message.to p.message.body one (kept.known p.message p.among) p.says)
       (of-body q.message.to q.message.body other (kept.known q.message q.among) q.says) e
 
 pub terms-are-issued-once : TermsAreIssuedOnce

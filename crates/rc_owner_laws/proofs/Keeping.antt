@@ -16,10 +16,10 @@ use Rattle.rc_owner_laws.specs.Terms.{IsGrantedTo, IsGivenBy, GoodTerms}
 -- Later
 
 -- a decision is for good
-pub decided-later : (old new : Coordinator) → CoordinatorLater old new →
+pub decided-later : {old new : Coordinator} → CoordinatorLater old new →
     (number : ℕ) (master : ServerId) (decision : Decision) → IsDecided old.attempts number master decision →
     IsDecided new.attempts number master decision
-decided-later old new later number master decision d = by (later.attempts number d.attempt d.numbered)
+decided-later {new} later number master decision d = by (later.attempts number d.attempt d.numbered)
   where
     by : AttemptLater new.attempts number d.attempt → IsDecided new.attempts number master decision
     by now = record {
@@ -36,18 +36,18 @@ decided-later old new later number master decision d = by (later.attempts number
             never : None ≡ Some decision → ⊥
             never e = cc
 
-granted-later : (grants more : List Grant) → ((grant : Grant) → In grant grants → In grant more) →
-    (owner : ServerId) (term table key : ℕ) → IsGrantedTo grants owner term table key →
+granted-later : {grants more : List Grant} → ((grant : Grant) → In grant grants → In grant more) →
+    {owner : ServerId} {term table key : ℕ} → IsGrantedTo grants owner term table key →
     IsGrantedTo more owner term table key
-granted-later grants more all owner term table key p =
+granted-later all p =
     record { grant = p.grant; among = all p.grant p.among; owner_is = p.owner_is; term_is = p.term_is; holds = p.holds }
 
-pub given-later : (sent sent_now : List Message) (old new : Coordinator) → More sent sent_now →
+pub given-later : {sent sent_now : List Message} {old new : Coordinator} → More sent sent_now →
     ((number : ℕ) (master : ServerId) (decision : Decision) → IsDecided old.attempts number master decision →
     IsDecided new.attempts number master decision) →
-    ((grant : Grant) → In grant old.grants → In grant new.grants) → (grant : Grant) → IsGivenBy sent old grant →
+    ((grant : Grant) → In grant old.grants → In grant new.grants) → {grant : Grant} → IsGivenBy sent old grant →
     IsGivenBy sent_now new grant
-given-later sent sent_now old new more decided all grant p = record {
+given-later more decided all {grant} p = record {
   master = p.master;
   decision = p.decision;
   decided = decided grant.attempt p.master p.decision p.decided;
@@ -57,30 +57,30 @@ given-later sent sent_now old new more decided all grant p = record {
   term_is = p.term_is;
   previous_is = p.previous_is;
   asked = more (to_coordinator grant.owner (Recovered grant.attempt grant.term)) p.asked;
-  after = λ table key holds. granted-later old.grants new.grants all p.master grant.previous table key (p.after table key holds);
+  after = λ table key holds. granted-later all (p.after table key holds);
 }
 
 abbrev pub Origin : List Message → Coordinator → Grant → Type 0
 Origin sent c grant = ((grant.attempt ≡ 0) × (grant.previous ≡ 0)) ⊎ IsGivenBy sent c grant
 
-origin-later : (sent sent_now : List Message) (old new : Coordinator) → More sent sent_now →
+origin-later : {sent sent_now : List Message} {old new : Coordinator} → More sent sent_now →
     ((number : ℕ) (master : ServerId) (decision : Decision) → IsDecided old.attempts number master decision →
     IsDecided new.attempts number master decision) →
-    ((grant : Grant) → In grant old.grants → In grant new.grants) → (grant : Grant) → Origin sent old grant → Origin sent_now new grant
-origin-later sent sent_now old new more decided all grant (inl created) = inl created
-origin-later sent sent_now old new more decided all grant (inr given) = inr (given-later sent sent_now old new more decided all grant given)
+    ((grant : Grant) → In grant old.grants → In grant new.grants) → {grant : Grant} → Origin sent old grant → Origin sent_now new grant
+origin-later more decided all (inl created) = inl created
+origin-later more decided all (inr given) = inr (given-later more decided all given)
 
 -- more was sent
-pub terms-more : (sent sent_now : List Message) (c : Coordinator) → More sent sent_now → GoodTerms sent c → GoodTerms sent_now c
-terms-more sent sent_now c more good = record {
+pub terms-more : {sent sent_now : List Message} {c : Coordinator} → More sent sent_now → GoodTerms sent c → GoodTerms sent_now c
+terms-more more good = record {
   owned = good.owned;
   issued = good.issued;
   part_issued = good.part_issued;
   part_once = good.part_once;
   grant_once = good.grant_once;
   created_apart = good.created_apart;
-  origin = λ grant at. origin-later sent sent_now c c more (λ number master decision decided. decided)
-      (λ one there. there) grant (good.origin grant at);
+  origin = λ grant at. origin-later more (λ number master decision decided. decided)
+      (λ one there. there) (good.origin grant at);
 }
 
 -- No term is issued
@@ -92,21 +92,21 @@ pub record SameTerms (old new : Coordinator) : Type 0 where
   pub back : (number : ℕ) (master : ServerId) (decision : Decision) → IsDecided new.attempts number master decision →
       IsDecided old.attempts number master decision
 
-pub same-refl : (c : Coordinator) → SameTerms c c
-same-refl c = record { grants = refl; last = refl; owners = λ table key. refl; back = λ number master decision decided. decided }
+pub same-refl : {c : Coordinator} → SameTerms c c
+same-refl = record { grants = refl; last = refl; owners = λ table key. refl; back = λ number master decision decided. decided }
 
-pub same-trans : (a b c : Coordinator) → SameTerms a b → SameTerms b c → SameTerms a c
-same-trans a b c p q = record {
+pub same-trans : {a b c : Coordinator} → SameTerms a b → SameTerms b c → SameTerms a c
+same-trans p q = record {
   grants = q.grants ∙ p.grants;
   last = q.last ∙ p.last;
   owners = λ table key. q.owners table key ∙ p.owners table key;
   back = λ number master decision decided. p.back number master decision (q.back number master decision decided);
 }
 
-pub kept-terms : (sent : List Message) (old new : Coordinator) → CoordinatorLater old new → SameTerms old new →
+pub kept-terms : {sent : List Message} {old new : Coordinator} → CoordinatorLater old new → SameTerms old new →
     GoodTerms sent old → GoodTerms sent new
-kept-terms sent old new later same good = record {
-  owned = λ table key owner term e. granted-later old.grants new.grants all owner term table key
+kept-terms {old} {new} later same good = record {
+  owned = λ table key owner term e. granted-later all
       (good.owned table key owner term (sym (same.owners table key) ∙ e));
   issued = λ grant at. (let p = good.issued grant (back grant at) in (p.0, subst (λ n. grant.term ≤ n) (sym same.last) p.1));
   part_issued = λ number master decision decided. good.part_issued number master decision (same.back number master decision decided);
@@ -116,7 +116,7 @@ kept-terms sent old new later same good = record {
   grant_once = λ one other at there e. good.grant_once one other (back one at) (back other there) e;
   created_apart = λ grant at none number master decision decided. good.created_apart grant (back grant at) none number
       master decision (same.back number master decision decided);
-  origin = λ grant at. origin-later sent sent old new (λ message there. there) (decided-later old new later) all grant
+  origin = λ grant at. origin-later (λ message there. there) (decided-later later) all
       (good.origin grant (back grant at));
 }
   where
@@ -140,13 +140,12 @@ pub record IsNewTerm (sent : List Message) (c : Coordinator) (tablets : List Tab
       (given : GivenPart) → In given decision.parts → given.part.term ≡ grant.term → ⊥
   pub origin : Origin sent c grant
 
-pub granted-terms : (sent : List Message) (c : Coordinator) (tablets : List Tablet) (grant : Grant) (last : ℕ) →
+pub granted-terms : {sent : List Message} {c : Coordinator} {tablets : List Tablet} {grant : Grant} {last : ℕ} →
     IsNewTerm sent c tablets grant last → GoodTerms sent c →
     GoodTerms sent (record c { tablets = tablets; grants = c.grants ++ grant ∷ []; last_term = last })
-granted-terms sent c tablets grant last new good = record {
+granted-terms {sent} {c} {tablets} {grant} {last} new good = record {
   owned = λ table key owner term e. split (in_range grant.range table key)
-      (λ within. mine table key owner term within (sym (new.within table key within) ∙ e))
-      (λ beside. granted-later c.grants (c.grants ++ grant ∷ []) all owner term table key
+      (λ within. mine table key owner term within (sym (new.within table key within) ∙ e)) (λ beside. granted-later all
       (good.owned table key owner term (sym (new.beside table key beside) ∙ e)));
   issued = λ one at. issued one (In-append one c.grants (grant ∷ []) at);
   part_issued = good.part_issued;
@@ -203,7 +202,7 @@ granted-terms sent c tablets grant last new good = record {
     apart one (inr (inr never)) none = absurd never
 
     later : (one : Grant) → Origin sent c one → Origin sent now one
-    later one p = origin-later sent sent c now (λ message there. there) (λ number master decision decided. decided) all one p
+    later one p = origin-later (λ message there. there) (λ number master decision decided. decided) all p
 
     origin : (one : Grant) → In one c.grants ⊎ ((one ≡ grant) ⊎ ⊥) → Origin sent now one
     origin one (inl old) = later one (good.origin one old)
@@ -262,7 +261,7 @@ module _ (sent : List Message) (c : Coordinator) (grants : GoodGrants c) (good :
   which : (other : ℕ) (master : ServerId) (decision : Decision) → IsDecided decided_now.attempts other master decision →
       IsDecided c.attempts other master decision ⊎ IsThis other master decision
   which other master decision decided =
-      by (get-set c.attempts (number - 1) now decided.numbered.place decided.attempt decided.numbered.attempt_is)
+      by (get-set c.attempts (number - 1) decided.numbered.place decided.numbered.attempt_is)
     where
       now : Attempt
       now = record attempt { decided = Some (decision_of c number attempt.master plan (id ∷ ids)) }
@@ -312,8 +311,7 @@ module _ (sent : List Message) (c : Coordinator) (grants : GoodGrants c) (good :
     grant_once = good.grant_once;
     created_apart = λ grant at none other master decision decided given there e. apart grant at none other master
         decision given there e (which other master decision decided);
-    origin = λ grant at. origin-later sent sent c decided_now (λ message there. there) later (λ one there. there) grant
-        (good.origin grant at);
+    origin = λ grant at. origin-later (λ message there. there) later (λ one there. there) (good.origin grant at);
   }
     where
       issued : (other : ℕ) (master : ServerId) (decision : Decision) (given : GivenPart) → In given decision.parts →

@@ -59,15 +59,13 @@ module _ (sent : List Message) (masters : ServerId → Master) (hosts : ℕ → 
       was = (all.parts.each m).granted one at
 
       own : IsOwn c (Server m) (body.Own one.range one.term was.previous was.attempt)
-      own = subst (λ (to : Addr).
-          own_said c to (body.Own one.range one.term was.previous was.attempt)) was.to
+      own = subst (λ (to : Addr). own_said c to (body.Own one.range one.term was.previous was.attempt)) was.to
           (subst (own_said c was.message.to) was.says (all.kept.known was.message was.among))
 
       owner : ◌≡◌ {A = Addr} (Server m) (Server own.grant.owner) → m ≡ own.grant.owner
       owner e = cc
 
-      terms : body.Own one.range one.term was.previous was.attempt ≡ own_body
-          own.grant → one.term ≡ own.grant.term
+      terms : body.Own one.range one.term was.previous was.attempt ≡ own_body own.grant → one.term ≡ own.grant.term
       terms e = cc
 
   -- who has an entry under a term that was granted is its owner
@@ -92,8 +90,7 @@ module _ (sent : List Message) (masters : ServerId → Master) (hosts : ℕ → 
           which (inl created) =
               absurd (all.terms.created_apart grant among created.0 part.task.attempt part.task.master task.decision
               task.decided (record { to = m; part = part.task.part }) task.given term)
-          which (inr given) =
-              ap (λ (one : GivenPart). one.to)
+          which (inr given) = ap (λ (one : GivenPart). one.to)
               (all.terms.part_once part.task.attempt grant.attempt part.task.master given.master task.decision
               given.decision (record { to = m; part = part.task.part })
               (record { to = grant.owner; part = given.part })
@@ -106,10 +103,9 @@ module _ (sent : List Message) (masters : ServerId → Master) (hosts : ℕ → 
 
       by : (a : Bool) → has_part (masters m).ownership entry.term ≡ a → (b : Bool) →
           owns_term (masters m).ownership entry.term ≡ b → (a || b) ≡ true → m ≡ grant.owner
-      by true is b has known = (let found = any-one (λ (state : PartState). nat_eq state.part.term entry.term)
+      by true is b has known = (let found = any-one
           (masters m).ownership.parts is in in_part found.0 found.1 (eqb-true found.0.part.term entry.term found.2))
-      by false is true has known =
-          (let found = any-one (λ (one : GrantedRange). nat_eq one.term entry.term) (masters m).ownership.grants has in
+      by false is true has known = (let found = any-one (masters m).ownership.grants has in
           in_grants found.0 found.1 (eqb-true found.0.term entry.term found.2))
       by false is false has known = true_false (sym known)
 
@@ -131,10 +127,9 @@ module _ (sent : List Message) (masters : ServerId → Master) (hosts : ℕ → 
 
       by : (a : Bool) → has_part (masters m).ownership entry.term ≡ a → (b : Bool) →
           owns_term (masters m).ownership entry.term ≡ b → (a || b) ≡ true → 0 < entry.term
-      by true is b has known = (let found = any-one (λ (state : PartState). nat_eq state.part.term entry.term)
+      by true is b has known = (let found = any-one
           (masters m).ownership.parts is in in_part found.0 found.1 (eqb-true found.0.part.term entry.term found.2))
-      by false is true has known =
-          (let found = any-one (λ (one : GrantedRange). nat_eq one.term entry.term) (masters m).ownership.grants has in
+      by false is true has known = (let found = any-one (masters m).ownership.grants has in
           in_grants found.0 found.1 (eqb-true found.0.term entry.term found.2))
       by false is false has known = true_false (sym known)
 
@@ -148,9 +143,9 @@ module _ (sent : List Message) (masters : ServerId → Master) (hosts : ℕ → 
   -- Who is granted the point later
 
   -- a grant that was sent is the one that is remembered under its term
-  of-grant : (grant : Granted) (x : ServerId) → IsGranted sent grant → grant.owner ≡ Server x → (one : Grant) →
+  of-grant : {grant : Granted} {x : ServerId} → IsGranted sent grant → grant.owner ≡ Server x → (one : Grant) →
       In one c.grants → one.term ≡ grant.term → one.owner ≡ x
-  of-grant grant x was to one among e = ap (λ (g : Grant). g.owner) same ∙ owner
+  of-grant {grant} {x} was to one among e = ap (λ (g : Grant). g.owner) same ∙ owner
     where
       r : IsRemembered c grant
       r = remembered c sent all.kept.known grant (In-get (granted sent) was.0 grant was.1)
@@ -172,17 +167,17 @@ module _ (sent : List Message) (masters : ServerId → Master) (hosts : ℕ → 
       IsEarlier sent entry.table entry.key entry.term grant.term →
       Keeps Freed sent x (masters x).log grant.term entry
   later-keeps Freed covers_it m s o entry safe at grant x was to before =
-      subst (λ y. Keeps Freed sent y (masters y).log grant.term entry) (of-grant grant x was to goes.grant goes.among goes.term_is)
+      subst (λ y. Keeps Freed sent y (masters y).log grant.term entry) (of-grant was to goes.grant goes.among goes.term_is)
       (subst (λ n. Keeps Freed sent goes.grant.owner (masters goes.grant.owner).log n entry) goes.term_is
-      (starts-keeps sent masters hosts c all Freed covers_it goes.grant entry goes.starts))
+      (starts-keeps sent masters hosts c all Freed covers_it goes.starts))
     where
       has : (old : Grant) → In old c.grants → old.term ≡ entry.term → Has Freed sent old.owner (masters old.owner).log entry.term entry
       has old among e =
           subst (λ y. Has Freed sent y (masters y).log entry.term entry) (issued-here m entry (safe-logged m s o entry safe at) old among e)
-          (has-itself sent m (masters m).log s o entry safe at)
+          (has-itself safe at)
 
       goes : GoesTo sent masters hosts c all Freed covers_it grant.term entry
-      goes = goes-on sent masters hosts c all Freed covers_it entry entry.term grant.term before
+      goes = goes-on sent masters hosts c all Freed covers_it before
           (term-above m entry (safe-logged m s o entry safe at)) has
 
   -- so it is of what was acknowledged
@@ -200,7 +195,7 @@ module _ (sent : List Message) (masters : ServerId → Master) (hosts : ℕ → 
   }
     where
       w : IsWriteOk sent m (masters m).log ack.seg ack.offset ack.term ack.table ack.key ack.version
-      w = (acked sent masters hosts c all m ack was).write
+      w = (acked sent masters hosts c all was).write
 
       way : (grant : Granted) → IsEarlier sent ack.table ack.key ack.term grant.term →
           IsEarlier sent w.entry.table w.entry.key w.entry.term grant.term
@@ -228,16 +223,16 @@ module _ (sent : List Message) (masters : ServerId → Master) (hosts : ℕ → 
       (was-granted first.grant first.among) covers_first (was-granted second.grant second.among) second.holds)
     where
       m : (m : ServerId) × HasAcknowledged sent m one
-      m = acknowledger sent masters hosts c all one p
+      m = acknowledger sent masters hosts c all p
 
       x : (x : ServerId) × HasAcknowledged sent x other
-      x = acknowledger sent masters hosts c all other q
+      x = acknowledger sent masters hosts c all q
 
       first : IsOwned sent masters hosts c all m.0 one.term one.table one.key
-      first = owner sent masters hosts c all m.0 one (acked sent masters hosts c all m.0 one m.1)
+      first = owner sent masters hosts c all m.0 one (acked sent masters hosts c all m.1)
 
       second : IsOwned sent masters hosts c all x.0 other.term other.table other.key
-      second = owner sent masters hosts c all x.0 other (acked sent masters hosts c all x.0 other x.1)
+      second = owner sent masters hosts c all x.0 other (acked sent masters hosts c all x.1)
 
       covers_first : in_range first.grant.range other.table other.key ≡ true
       covers_first = subst (λ k. in_range first.grant.range other.table k ≡ true) keys

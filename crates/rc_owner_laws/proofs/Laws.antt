@@ -31,7 +31,7 @@ grants-start sent masters hosts c all grant x was to recovered =
     by : ((r.grant.attempt ≡ 0) × (r.grant.previous ≡ 0)) ⊎ IsGivenBy sent c r.grant →
         StartsFromBase sent r.grant.owner (masters r.grant.owner).log (granted_of r.grant)
     by (inl created) = absurd (recovered (ap (λ (g : Granted). g.attempt) r.is ∙ created.0))
-    by (inr given) = starts-from-base sent masters hosts c all r.grant given
+    by (inr given) = starts-from-base sent masters hosts c all given
 
 pub facts-cut-data : FactsCutData
 facts-cut-data = data-is-cut

@@ -27,15 +27,15 @@ MarkedStay old new = (tablet : Tablet) → In tablet old → tablet.crashed ≡ 
 
 -- Marks
 
-mark-same : (owner : ServerId) (tablet : Tablet) → tablet.crashed ≡ true → mark_if_owned owner tablet ≡ tablet
-mark-same owner tablet e =
+mark-same : (owner : ServerId) {tablet : Tablet} → tablet.crashed ≡ true → mark_if_owned owner tablet ≡ tablet
+mark-same owner {tablet} e =
     either (λ (now : Tablet). now ≡ tablet) (same_id owner tablet.owner) (record tablet { crashed = true }) tablet
     (λ _. ap (λ b. record tablet { crashed = b }) (sym e)) (λ _. refl)
 
 pub stay-marked : (owner : ServerId) (tablets : List Tablet) → MarkedStay tablets (marked_crashed owner tablets)
 stay-marked owner [] tablet at e = absurd at
 stay-marked owner (first ∷ tablets) tablet (inl same) e =
-    inl (same ∙ sym (mark-same owner first (ap (λ (one : Tablet). one.crashed) (sym same) ∙ e)))
+    inl (same ∙ sym (mark-same owner (ap (λ (one : Tablet). one.crashed) (sym same) ∙ e)))
 stay-marked owner (first ∷ tablets) tablet (inr rest) e = inr (stay-marked owner tablets tablet rest e)
 
 pub each-marked : (P : Tablet → Type 0) (owner : ServerId) (tablets : List Tablet) →
@@ -67,8 +67,7 @@ stay-split table at (first ∷ tablets) one found unmarked tablet there e =
         In tablet (cond b (lower_half at first ∷ upper_half at first ∷ tablets) (first ∷ split_at table at tablets))
     by true is it rec (inl same) =
         let this : first ≡ one = cc in
-        true_false (sym e ∙ (ap (λ (t : Tablet). t.crashed) same ∙
-        (ap (λ (t : Tablet). t.crashed) this ∙ unmarked)))
+        true_false (sym e ∙ (ap (λ (t : Tablet). t.crashed) same ∙ (ap (λ (t : Tablet). t.crashed) this ∙ unmarked)))
     by true is it rec (inr rest) = inr (inr rest)
     by false is it rec (inl same) = inl same
     by false is it rec (inr rest) = inr (rec it rest e)
@@ -164,9 +163,9 @@ stay-assigned range id term (first ∷ tablets) tablet at differs =
 -- A part's tablet
 
 -- it has the part's range
-pub its-range : (tablets : List Tablet) (owner : ServerId) (part : Part) → (is : IsTablet tablets owner part) →
+pub its-range : {tablets : List Tablet} {owner : ServerId} {part : Part} → (is : IsTablet tablets owner part) →
     is_range part.range is.tablet ≡ true
-its-range tablets owner part is = subst (λ (range : KeyRange). is_range range is.tablet ≡ true) is.range (its-own is.tablet)
+its-range is = subst (λ (range : KeyRange). is_range range is.tablet ≡ true) is.range (its-own is.tablet)
   where
     its-own : (tablet : Tablet) → is_range tablet.range tablet ≡ true
     its-own tablet = grind (arith, nat_tests)
@@ -187,9 +186,9 @@ in-ranged range (first ∷ tablets) tablet (inr rest) is = by (is_range range fi
     by false rec = rec
 
 -- so there is a tablet of the part's range
-pub ranged : (tablets : List Tablet) (owner : ServerId) (part : Part) → IsTablet tablets owner part →
+pub ranged : {tablets : List Tablet} {owner : ServerId} {part : Part} → IsTablet tablets owner part →
     has_range part.range tablets ≡ true
-ranged tablets owner part is = in-ranged part.range tablets is.tablet is.among (its-range tablets owner part is)
+ranged {tablets} {part} is = in-ranged part.range tablets is.tablet is.among (its-range is)
 
 -- it is one of other tablets in which it stands
 pub tablet-in : (tablets now : List Tablet) (owner : ServerId) (part : Part) → (is : IsTablet tablets owner part) →
@@ -224,16 +223,14 @@ marked-other id m (row ∷ rows) differs e =
 -- another than who crashes stays up
 pub up-crashed : (id m : ServerId) (servers : ServerList) → same_id id m ≡ false → is_up servers m ≡ true →
     is_up (crashed id servers) m ≡ true
-up-crashed id m servers differs e =
-    either (λ (now : ServerList). is_up now m ≡ true) (is_up servers id)
+up-crashed id m servers differs e = either (λ (now : ServerList). is_up now m ≡ true) (is_up servers id)
     (record { version = servers.version + 1; rows = id_crashed id servers.rows }) servers
     (λ _. marked-other id m servers.rows differs e) (λ _. e)
 
 marked-elsewhere : (index : ℕ) (m : ServerId) (rows more : List (ServerId × Bool)) → nat_eq m.index index ≡ false →
     marked_up rows m ≡ true → marked_up (index_crashed index rows ++ more) m ≡ true
 marked-elsewhere index m [] more differs e = true_false (sym e)
-marked-elsewhere index m (row ∷ rows) more differs e =
-    by (same_id m row.0) (nat_eq row.0.index index)
+marked-elsewhere index m (row ∷ rows) more differs e = by (same_id m row.0) (nat_eq row.0.index index)
     (λ here. ap (λ (x : ServerId). nat_eq x.index index) (sym (same_id-true m row.0 here)) ∙ differs)
     (marked-elsewhere index m rows more differs) e
   where
@@ -277,9 +274,9 @@ order-in y (id ∷ ids) (inl same) = insert-in y id (ids_in_order ids) (inl same
 order-in y (id ∷ ids) (inr rest) = insert-in y id (ids_in_order ids) (inr (order-in y ids rest))
 
 -- an id that is up is the one of its host that is found
-pub up-of_host : (servers : ServerList) (m : ServerId) (index : ℕ) → OnDifferentHosts (up_rows servers.rows) →
+pub up-of_host : (servers : ServerList) {m : ServerId} (index : ℕ) → OnDifferentHosts (up_rows servers.rows) →
     is_up servers m ≡ true → nat_eq m.index index ≡ true → up_of_host index servers ≡ Some m
-up-of_host servers m index apart e same = by (up_of_host index servers) refl
+up-of_host servers {m} index apart e same = by (up_of_host index servers) refl
   where
     there : In m (up_rows servers.rows)
     there = In-up m servers.rows e
@@ -289,6 +286,6 @@ up-of_host servers m index apart e same = by (up_of_host index servers) refl
         (order-in m (up_rows servers.rows) there) same)
     by (Some x) is =
         let one : In x (up servers) × (nat_eq x.index index ≡ true) =
-        find-one (λ (id : ServerId). nat_eq id.index index) (up servers) x is in
-        ap Some (apart-same x m (up_rows servers.rows) apart (order-In x (up_rows servers.rows) one.0) there
+        find-one (λ (id : ServerId). nat_eq id.index index) (up servers) is in
+        ap Some (apart-same (up_rows servers.rows) apart (order-In x (up_rows servers.rows) one.0) there
         (eqb-true x.index index one.1 ∙ sym (eqb-true m.index index same)))

@@ -27,9 +27,9 @@ abbrev pub OfWorld : World → Type 0
 OfWorld world = GrantsWorld world.sent world.coordinator
 
 -- another node than the coordinator sends no Own and no Plan
-others : (sent : List Message) (c : Coordinator) (messages : List Message) → GrantsWorld sent c → OwnSays c messages →
+others : {sent : List Message} {c : Coordinator} (messages : List Message) → GrantsWorld sent c → OwnSays c messages →
     GrantsWorld (sent ++ messages) c
-others sent c messages p says = record { good = p.good; kept = kept-others sent c p.kept messages says }
+others {sent} {c} messages p says = record { good = p.good; kept = kept-others sent c p.kept messages says }
 
 by_master : (c : Coordinator) (sent sent_now : List Message) (m : ServerId) (old log : Log) (to : Addr) (says : Body) →
     body_said sent sent_now m old log to says → own_said c to says
@@ -74,19 +74,19 @@ later-coordinator world work good given = (coordinator-moved world work good giv
 grants-node : (world : World) (one : Event) (node : NodeName) (work : NodeWork) → GoodWorld world → OfWorld world →
     IsGiven world.sent node work → node_can world node work ≡ true → OfWorld (node_done world one node work)
 grants-node world one TheOutside work good p given can =
-    others world.sent world.coordinator (outside_sends work) p (says-outside world.coordinator work can)
+    others (outside_sends work) p (says-outside world.coordinator work can)
 grants-node world one TheCoordinator work good p given can = record {
   good = (moved world.sent world.coordinator good.coordinator p.good work).good;
   kept = kept-step world.sent world.coordinator p.kept (coordinator_step world.coordinator work)
       (later-coordinator world work good given) (moved world.sent world.coordinator good.coordinator p.good work);
 }
 grants-node world one (TheHost i) work good p given can =
-    others world.sent world.coordinator (host_step (world.hosts i) work).1 p (says-host world one i good work given)
+    others (host_step (world.hosts i) work).1 p (says-host world one i good work given)
 
 grants-job : (world : World) (one : Event) (found : Option Job) → job_of world.sent one ≡ found → GoodWorld world →
     OfWorld world → is_possible_job world found ≡ true → OfWorld (job_done world one found)
 grants-job world one None is good p can = p
-grants-job world one (Some job) is good p can = grants-node world one job.node job.work good p (job_of-given world.sent one job is) can
+grants-job world one (Some job) is good p can = grants-node world one job.node job.work good p (job_of-given world.sent one is) can
 
 pub grants-step : (world : World) (one : Event) → GoodWorld world → OfWorld world → OfWorld (step world one)
 grants-step world one good p =

@@ -50,37 +50,37 @@ module _ (sent : List Message) (c : Coordinator) (base : GoodCoordinator sent c)
   Moved after = GrantsMoved c after
 
   -- no grant is made
-  quiet : (new : Coordinator) (messages : List Message) → GoodGrants new → new.grants ≡ c.grants →
+  quiet : {new : Coordinator} {messages : List Message} → GoodGrants new → new.grants ≡ c.grants →
       Each (OwnSaid new) messages → Moved (new, messages)
-  quiet new messages is same says = record {
+  quiet is same says = record {
     good = is;
     remembers = λ grant at. subst (λ (grants : List Grant). In grant grants) (sym same) at;
     told = λ grant at. inl (subst (λ (grants : List Grant). In grant grants) same at);
     says = says;
   }
 
-  still : (message : Message) → OwnSaid c message → Moved (c, message ∷ [])
-  still message says = quiet c (message ∷ []) good refl (each-one (OwnSaid c) message says)
+  still : {message : Message} → OwnSaid c message → Moved (c, message ∷ [])
+  still {message} says = quiet good refl (each-one (OwnSaid c) message says)
 
   stays : Stays c Hears Moved
   stays = record {
-    refuses = λ fault. still (coordinator_refuses fault) tt;
-    denies = λ id fault other. still (refuses_server id fault) tt;
-    lists = λ id. still (from_coordinator id (list_body c.servers)) tt;
-    repeats = λ id term grant is found. still (from_coordinator id (own_body grant)) (record {
+    refuses = λ fault. still tt;
+    denies = λ id fault other. still tt;
+    lists = λ id. still tt;
+    repeats = λ id term grant is found. still (record {
       grant = grant;
-      among = (find-one (is_grant_to id term) c.grants grant found).0;
+      among = (find-one (is_grant_to id term) c.grants found).0;
       to_is = ap Server (sym (same_id-true grant.owner id (and_parts (nat_eq grant.term term) (same_id grant.owner id)
-          (find-one (is_grant_to id term) c.grants grant found).1).1));
+          (find-one (is_grant_to id term) c.grants found).1).1));
       body_is = refl;
     });
-    lacks = λ id number term part is none. still (refuses_server id NoTable) tt;
-    ticks = quiet c (coordinator_ticks c) good refl (each-ticks c (OwnSaid c) (record {
+    lacks = λ id number term part is none. still tt;
+    ticks = quiet good refl (each-ticks c (OwnSaid c) (record {
       lists = λ id. tt;
       gathers = λ number attempt id is. tt;
-      plans = λ number attempt decision is decided id part parts are. plan-said c number attempt.master decision (record {
+      plans = λ number attempt decision is decided id part parts are. plan-said (record {
         attempt = attempt;
-        numbered = numbered-at c number attempt is;
+        numbered = numbered-at c attempt is;
         master_is = refl;
         decided = decided;
       }) id part parts are;
@@ -90,13 +90,11 @@ module _ (sent : List Message) (c : Coordinator) (base : GoodCoordinator sent c)
   -- Coming and going
 
   -- other servers, and tablets marked
-  changed : (servers : ServerList) (ready : ServerId → Bool) (tablets : List Tablet) (least : ServerId → Pair) → TabletsApart tablets →
+  changed : {servers : ServerList} {ready : ServerId → Bool} {tablets : List Tablet} {least : ServerId → Pair} → TabletsApart tablets →
       ((table key : ℕ) → owner_at tablets table key ≡ owner_at c.tablets table key) →
       ((m : ServerId) → has_crashed c.servers m ≡ true → has_crashed servers m ≡ true) →
       GoodGrants (record c { servers = servers; ready = ready; tablets = tablets; least = least })
-  changed servers ready tablets least apart same crashes =
-      kept-good c good servers ready tablets least c.attempts c.current apart same crashes
-      (λ number master decision decided. (decided, λ e. e))
+  changed apart same crashes = kept-good good apart same crashes (λ number master decision decided. (decided, λ e. e))
 
   -- before an attempt may begin
   record Came (after : Coordinator × List Message) : Type 0 where
@@ -104,31 +102,28 @@ module _ (sent : List Message) (c : Coordinator) (base : GoodCoordinator sent c)
     same : after.0.grants ≡ c.grants
     says : (new : Coordinator) → Each (OwnSaid new) after.1
 
-  came : (servers : ServerList) (tablets : List Tablet) → TabletsApart tablets →
+  came : {servers : ServerList} {tablets : List Tablet} → TabletsApart tablets →
       ((table key : ℕ) → owner_at tablets table key ≡ owner_at c.tablets table key) →
       ((m : ServerId) → has_crashed c.servers m ≡ true → has_crashed servers m ≡ true) →
       Came (record c { servers = servers; tablets = tablets }, spreads_list servers)
-  came servers tablets apart owners crashes = record {
-    kept = changed servers c.ready tablets c.least apart owners crashes;
+  came {servers} apart owners crashes = record {
+    kept = changed apart owners crashes;
     same = refl;
     says = λ new. each-to (OwnSaid new) (list_body servers) (λ id. tt) (up servers);
   }
 
   answered : (from : ServerId) (number : ℕ) (rows : List Row) (attempt : Attempt) → attempt.decided ≡ None →
       GoodGrants (with_attempt c number (with_answer from rows attempt))
-  answered from number rows attempt undecided =
-      kept-good c good c.servers c.ready c.tablets c.least
-      (slice_set c.attempts (number - 1) (with_answer from rows attempt)) c.current good.apart
-      (λ table key. refl) (λ m e. e)
+  answered from number rows attempt undecided = kept-good good good.apart (λ table key. refl) (λ m e. e)
       (λ other master decision decided. (answered-decided c from number rows attempt undecided other master decision decided, λ e. e))
 
   -- Decisions
 
   -- the decision on an attempt that is gathering: its parts are the tablets of its master
-  decided-good : (number : ℕ) (attempt : Attempt) (plan : Plan) (id : ServerId) (ids : List ServerId) →
+  decided-good : {number : ℕ} {attempt : Attempt} (plan : Plan) (id : ServerId) (ids : List ServerId) →
       IsNumbered c.attempts number attempt →
       GoodGrants (decides_on c number attempt (decision_of c number attempt.master plan (id ∷ ids)) (id ∷ ids)).0
-  decided-good number attempt plan id ids numbered = record {
+  decided-good {number} {attempt} plan id ids numbered = record {
     apart = good.apart;
     issued = λ table key. (let one : term_at c.tablets table key ≤ c.last_term = good.issued table key in omega (arith, one));
     chains = good.chains;
@@ -151,13 +146,12 @@ module _ (sent : List Message) (c : Coordinator) (base : GoodCoordinator sent c)
       new = record attempt { decided = Some (decision_of c number attempt.master plan (id ∷ ids)) }
 
       -- a decision that was there, or this one
-      which : (other : ℕ) (master : ServerId) (decision : Decision) →
-          IsDecided (slice_set c.attempts (number - 1)
+      which : (other : ℕ) (master : ServerId) (decision : Decision) → IsDecided (slice_set c.attempts (number - 1)
           (record attempt { decided = Some (decision_of c number attempt.master plan (id ∷ ids)) })) other master
           decision →
           IsDecided c.attempts other master decision ⊎
           ((master ≡ attempt.master) × (decision ≡ decision_of c number attempt.master plan (id ∷ ids)))
-      which = newly-decided c number attempt (decision_of c number attempt.master plan (id ∷ ids))
+      which = newly-decided c number attempt
 
       of_tablet : (given : GivenPart) →
           In given (gives_parts (id ∷ ids) (number - 1) (c.last_term + 1) (tablets_of attempt.master c.tablets)) →
@@ -183,8 +177,7 @@ module _ (sent : List Message) (c : Coordinator) (base : GoodCoordinator sent c)
           IsDecided c.attempts other master decision ⊎
           ((master ≡ attempt.master) × (decision ≡ decision_of c number attempt.master plan (id ∷ ids))) →
           (given.part.term ≤ c.last_term + length (gives_parts (id ∷ ids) (number - 1) (c.last_term + 1)
-          (tablets_of attempt.master c.tablets))) ×
-          ((table key : ℕ) → in_range given.part.range table key ≡ true →
+          (tablets_of attempt.master c.tablets))) × ((table key : ℕ) → in_range given.part.range table key ≡ true →
           given.part.previous < given.part.term)
       fresh_by other master decision given at (inl old) = (
         (let one : given.part.term ≤ c.last_term = (good.fresh other master decision old given at).0 in
@@ -210,8 +203,7 @@ module _ (sent : List Message) (c : Coordinator) (base : GoodCoordinator sent c)
           ((master ≡ attempt.master) × (decision ≡ decision_of c number attempt.master plan (id ∷ ids))) →
           PartsApart decision.parts
       parted_by other master decision (inl old) = good.parted other master decision old
-      parted_by other master decision (inr (p, q)) =
-          subst (λ (one : Decision). PartsApart one.parts) (sym q)
+      parted_by other master decision (inr (p, q)) = subst (λ (one : Decision). PartsApart one.parts) (sym q)
           (parts-apart (id ∷ ids) (number - 1) (c.last_term + 1) (tablets_of attempt.master c.tablets)
           (apart-of_owner attempt.master c.tablets good.apart))
 
@@ -227,16 +219,14 @@ module _ (sent : List Message) (c : Coordinator) (base : GoodCoordinator sent c)
           owned given (of_tablet given (subst (λ (one : Decision). In given one.parts) q at)) table key within ∙
           ap (λ (m : ServerId). Some (m, given.part.previous)) (sym p)
 
-  decided-moved : (number : ℕ) (attempt : Attempt) (plan : Plan) (id : ServerId) (ids : List ServerId) →
+  decided-moved : {number : ℕ} {attempt : Attempt} (plan : Plan) (id : ServerId) (ids : List ServerId) →
       IsNumbered c.attempts number attempt →
       Moved (decides_on c number attempt (decision_of c number attempt.master plan (id ∷ ids)) (id ∷ ids))
-  decided-moved number attempt plan id ids numbered =
-      quiet (decides_on c number attempt decision (id ∷ ids)).0 (plan_messages number attempt.master decision (id ∷ ids))
-      (decided-good number attempt plan id ids numbered) refl
+  decided-moved {number} {attempt} plan id ids numbered = quiet (decided-good plan id ids numbered) refl
       (each-plans (OwnSaid (decides_on c number attempt decision (id ∷ ids)).0) number attempt.master decision
-      (plan-said (decides_on c number attempt decision (id ∷ ids)).0 number attempt.master decision (record {
+      (plan-said (record {
         attempt = record attempt { decided = Some decision };
-        numbered = numbered-set c.attempts number attempt (record attempt { decided = Some decision }) numbered;
+        numbered = numbered-set numbered;
         master_is = refl;
         decided = refl;
       })) (id ∷ ids))
@@ -247,13 +237,12 @@ module _ (sent : List Message) (c : Coordinator) (base : GoodCoordinator sent c)
   -- Grants
 
   -- a grant is made, and sent
-  granted : (tablets : List Tablet) (grant : Grant) (last : ℕ) → IsNewGrant c tablets grant last →
-      GrantsMoved c (
-        record c { tablets = tablets; grants = c.grants ++ grant ∷ []; last_term = last },
-        from_coordinator grant.owner (own_body grant) ∷ [],
-      )
-  granted tablets grant last new = record {
-    good = granted-good c good tablets grant last new;
+  granted : {tablets : List Tablet} {grant : Grant} {last : ℕ} → IsNewGrant c tablets grant last → GrantsMoved c (
+    record c { tablets = tablets; grants = c.grants ++ grant ∷ []; last_term = last },
+    from_coordinator grant.owner (own_body grant) ∷ [],
+  )
+  granted {tablets} {grant} {last} new = record {
+    good = granted-good good new;
     remembers = λ one at. In-left one c.grants (grant ∷ []) at;
     told = λ one at. told one (In-append one c.grants (grant ∷ []) at);
     says = each-one (OwnSaid (record c { tablets = tablets; grants = c.grants ++ grant ∷ []; last_term = last }))
@@ -272,12 +261,12 @@ module _ (sent : List Message) (c : Coordinator) (base : GoodCoordinator sent c)
       told one (inr (inl same)) = inr (inl (ap (λ (g : Grant). from_coordinator g.owner (own_body g)) same))
       told one (inr (inr never)) = absurd never
 
-  pub new-grant : (id : ServerId) (number term : ℕ) (part : Part) → IsSenders c id number term part →
+  pub new-grant : {id : ServerId} {number term : ℕ} {part : Part} → IsSenders c id number term part →
       is_up c.servers id ≡ true → grant_to c id term ≡ None → has_range part.range c.tablets ≡ true →
       IsNewGrant c (assigned part.range id part.term c.tablets) (grant_of number id part) c.last_term
-  new-grant id number term part mine is_up_now none has = record {
+  new-grant {id} {number} {term} {part} mine is_up_now none has = record {
     apart = apart-assigned part.range id part.term c.tablets good.apart;
-    within = λ table key e. assigned-within part.range id part.term c.tablets table key good.apart has e;
+    within = λ table key e. assigned-within part.range c.tablets table key good.apart has e;
     beside = λ table key e. ap (option_map owner_of) (assigned-beside part.range id part.term c.tablets table key e);
     previous = λ table key e. sym (ap term_in (waits table key e));
     rises = λ table key e. (good.fresh number mine.attempt.master mine.decision is_decided (gives id part) mine.among).1 table key e;
@@ -291,15 +280,15 @@ module _ (sent : List Message) (c : Coordinator) (base : GoodCoordinator sent c)
         clash other master decision decided current given at not_given table key within e
         (first_same master mine.attempt.master given.part.previous part.previous
         (sym (good.waiting other master decision decided current given at
-        (λ old. not_given (given-more c.grants (grant_of number id part) given old)) table key
+        (λ old. not_given (given-more (grant_of number id part) given old)) table key
         within) ∙ waits table key e));
   }
     where
       is_decided : IsDecided c.attempts number mine.attempt.master mine.decision
-      is_decided = senders-decided c id number term part mine
+      is_decided = senders-decided c mine
 
       not_yet : IsGiven c.grants (gives id part) → ⊥
-      not_yet = senders-open c id number term part mine none
+      not_yet = senders-open c mine none
 
       waits : (table key : ℕ) → in_range part.range table key ≡ true →
           owner_at c.tablets table key ≡ Some (mine.attempt.master, part.previous)
@@ -329,7 +318,7 @@ module _ (sent : List Message) (c : Coordinator) (base : GoodCoordinator sent c)
           number_same = sym current ∙ (ap c.current same ∙ mine.current)
 
           attempt_same : decided.attempt ≡ mine.attempt
-          attempt_same = numbered-same c.attempts number decided.attempt mine.attempt
+          attempt_same = numbered-same
               (subst (λ n. IsNumbered c.attempts n decided.attempt) number_same decided.numbered) mine.numbered
 
           decision_same : decision ≡ mine.decision
@@ -344,11 +333,11 @@ module _ (sent : List Message) (c : Coordinator) (base : GoodCoordinator sent c)
               (good.parted number mine.attempt.master mine.decision is_decided)
               (subst (λ (one : Decision). In given one.parts) decision_same at) mine.among within e
 
-  pub new-table : (table : ℕ) (owner : ServerId) → is_up c.servers owner ≡ true → has_table c.tablets table ≡ false →
+  pub new-table : {table : ℕ} {owner : ServerId} → is_up c.servers owner ≡ true → has_table c.tablets table ≡ false →
       IsNewGrant c (with_table table owner (c.last_term + 1) c.tablets) (first_grant table owner (c.last_term + 1)) (c.last_term + 1)
-  new-table table owner is_up_now fresh = record {
+  new-table {table} {owner} is_up_now fresh = record {
     apart = apart-new table (c.last_term + 1) owner c.tablets fresh good.apart;
-    within = λ other key e. owner_at-new table (c.last_term + 1) other key owner c.tablets fresh e;
+    within = λ other key e. owner_at-new table other key c.tablets fresh e;
     beside = λ other key e. owner_at-beside table (c.last_term + 1) other key owner c.tablets e;
     previous = λ other key e. sym (ap term_in (before other key e));
     rises = λ other key e. omega arith;
@@ -358,7 +347,7 @@ module _ (sent : List Message) (c : Coordinator) (base : GoodCoordinator sent c)
     up = λ gone. true_false (sym is_up_now ∙ crashed-not-up c.servers owner gone);
     elsewhere = λ number master decision decided current given at not_given other key within e.
         some-none (sym (good.waiting number master decision decided current given at
-        (λ old. not_given (given-more c.grants (first_grant table owner (c.last_term + 1)) given old))
+        (λ old. not_given (given-more (first_grant table owner (c.last_term + 1)) given old))
         other key within) ∙ before other key e);
   }
     where
@@ -370,39 +359,28 @@ module _ (sent : List Message) (c : Coordinator) (base : GoodCoordinator sent c)
   moves : Moves c Hears Came Moved
   moves = record {
     same = record { kept = good; same = refl; says = λ new. each-none (OwnSaid new) };
-    crashes = λ id is. came (crashed id c.servers) (marked_crashed id c.tablets) (apart-marked id c.tablets good.apart)
+    crashes = λ id is. came (apart-marked id c.tablets good.apart)
         (owner_at-marked id c.tablets) (λ m e. crashed-stays-crashed id m c.servers e);
-    enlists = λ id is. came (enlisted id c.servers) c.tablets good.apart (λ table key. refl)
-        (λ m e. crashed-stays-enlisted id m c.servers e);
-    replaces = λ id older is. came (enlisted id c.servers) (marked_crashed older c.tablets) (apart-marked older c.tablets good.apart)
+    enlists = λ id is. came good.apart (λ table key. refl) (λ m e. crashed-stays-enlisted id m c.servers e);
+    replaces = λ id older is. came (apart-marked older c.tablets good.apart)
         (owner_at-marked older c.tablets) (λ m e. crashed-stays-enlisted id m c.servers e);
-    done = λ new messages p. quiet new messages p.kept p.same (p.says new);
-    begins = λ new messages master p crashed. quiet (begins_attempt new master).0 (messages ++ (begins_attempt new master).1)
-        (begun-good new p.kept master) p.same
+    done = λ new messages p. quiet p.kept p.same (p.says new);
+    begins = λ new messages master p crashed. quiet (begun-good p.kept master) p.same
         (each-both (OwnSaid (begins_attempt new master).0) messages (begins_attempt new master).1 (p.says (begins_attempt new master).0)
         (each-to (OwnSaid (begins_attempt new master).0) (Gather (length new.attempts + 1) master) (λ id. tt) (up new.servers)));
-    readies = λ id. quiet (record c { ready = put_id c.ready id true }) []
-        (changed c.servers (put_id c.ready id true) c.tablets c.least good.apart (λ table key. refl) (λ m e. e)) refl
+    readies = λ id. quiet (changed good.apart (λ table key. refl) (λ m e. e)) refl
         (each-none (OwnSaid (record c { ready = put_id c.ready id true })));
-    commits = λ id pair heard is. quiet (record c { least = put_id c.least id (greater_pair (c.least id) pair) })
-        (from_coordinator id (CommitOk pair.seg pair.epoch) ∷ [])
-        (changed c.servers c.ready c.tablets (put_id c.least id (greater_pair (c.least id) pair)) good.apart
-        (λ table key. refl) (λ m e. e)) refl
+    commits = λ id pair heard is. quiet (changed good.apart (λ table key. refl) (λ m e. e)) refl
         (each-one (OwnSaid (record c { least = put_id c.least id (greater_pair (c.least id) pair) }))
         (from_coordinator id (CommitOk pair.seg pair.epoch)) tt);
-    answers = λ from number rows attempt heard is undecided. quiet (with_attempt c number (with_answer from rows attempt)) []
-        (answered from number rows attempt undecided) refl
+    answers = λ from number rows attempt heard is undecided. quiet (answered from number rows attempt undecided) refl
         (each-none (OwnSaid (with_attempt c number (with_answer from rows attempt))));
-    decides = λ master attempt plan id ids is undecided picked.
-        decided-moved (c.current master) attempt plan id ids (numbered-at c (c.current master) attempt is);
-    grants = λ id number term part is has. granted (assigned part.range id part.term c.tablets) (grant_of number id part) c.last_term
-        (new-grant id number term part (senders c id number term part (attempt_at c number) (numbered-at c number) is.found)
+    decides = λ master attempt plan id ids is undecided picked. decided-moved plan id ids (numbered-at c attempt is);
+    grants = λ id number term part is has. granted
+        (new-grant (senders c (attempt_at c number) (numbered-at c) is.found)
         is.up is.ungranted has);
-    creates = λ table owner is fresh room. granted (with_table table owner (c.last_term + 1) c.tablets)
-        (first_grant table owner (c.last_term + 1)) (c.last_term + 1) (new-table table owner is fresh);
-    splits = λ table at tablet is held inside unmarked room. quiet (record c { tablets = split_at table at c.tablets })
-        (coordinator_tells (SplitOk table at) ∷ [])
-        (changed c.servers c.ready (split_at table at c.tablets) c.least
+    creates = λ table owner is fresh room. granted (new-table is fresh);
+    splits = λ table at tablet is held inside unmarked room. quiet (changed
         (apart-split table at c.tablets (above-first table at tablet held inside) good.apart) (owner_at-split table at c.tablets)
         (λ m e. e)) refl
         (each-one (OwnSaid (record c { tablets = split_at table at c.tablets })) (coordinator_tells (SplitOk table at)) tt);

@@ -14,20 +14,20 @@ use Rattle.rc_owner_laws.proofs.Keeping.{decided-later}
 
 -- What was sent
 
-said-later : (old new : Coordinator) → CoordinatorLater old new →
+said-later : {old new : Coordinator} → CoordinatorLater old new →
     ((grant : Grant) → In grant old.grants → In grant new.grants) → (to : Addr) (body : Body) → own_said old to body →
     own_said new to body
-said-later old new later more to (Own range term before attempt) is =
+said-later later more to (Own range term before attempt) is =
     record { grant = is.grant; among = more is.grant is.among; to_is = is.to_is; body_is = is.body_is }
-said-later old new later more to (PlanBody head number master rows parts) is = record {
+said-later later more to (PlanBody head number master rows parts) is = record {
   id = is.id;
   to_is = is.to_is;
   decision = is.decision;
-  decided = decided-later old new later number master is.decision is.decided;
+  decided = decided-later later number master is.decision is.decided;
   rows_are = is.rows_are;
   given = is.given;
 }
-said-later old new later more to _ is = tt
+said-later later more to _ is = tt
 
 pub kept-step : (sent : List Message) (c : Coordinator) → GrantsKept sent c → (after : Coordinator × List Message) →
     CoordinatorLater c after.0 → GrantsMoved c after → GrantsKept (sent ++ after.1) after.0
@@ -42,7 +42,7 @@ kept-step sent c kept after later moved = record {
     told grant (inr new) = In-right (from_coordinator grant.owner (own_body grant)) sent after.1 new
 
     known : (message : Message) → In message sent ⊎ In message after.1 → own_said after.0 message.to message.body
-    known message (inl old) = said-later c after.0 later moved.remembers message.to message.body (kept.known message old)
+    known message (inl old) = said-later later moved.remembers message.to message.body (kept.known message old)
     known message (inr new) = moved.says message new
 
 pub kept-others : (sent : List Message) (c : Coordinator) → GrantsKept sent c → (messages : List Message) →
@@ -114,11 +114,11 @@ chain-rises start last (first ∷ grants) chain grant (inl same) =
     subst (λ (g : Grant). g.previous < g.term) (sym same) (subst (λ n. n < first.term) (sym chain.0) chain.1)
 chain-rises start last (first ∷ grants) chain grant (inr rest) = chain-rises first.term last grants chain.2 grant rest
 
-before-less : (all : List Granted) → ((one : Granted) → In one all → one.previous < one.term) → (earlier later : ℕ) →
+before-less : {all : List Granted} → ((one : Granted) → In one all → one.previous < one.term) → {earlier later : ℕ} →
     IsBefore all earlier later → earlier < later
-before-less all rises earlier later (previous k grant at) = rises grant (In-get all k grant at)
-before-less all rises earlier later (onward from k grant at way) =
-    (let one : earlier < grant.previous = before-less all rises earlier grant.previous way in
+before-less {all} rises (previous k grant at) = rises grant (In-get all k grant at)
+before-less {all} rises {earlier} (onward from k grant at way) =
+    (let one : earlier < grant.previous = before-less rises way in
     let two : grant.previous < grant.term = rises grant (In-get all k grant at) in omega (arith, one, two))
 
 -- two grants to one owner are one
@@ -177,7 +177,7 @@ module _ (sent : List Message) (c : Coordinator) (good : GoodGrants c) (kept : G
       (good.chains table key) all-among a.grant b.grant a.among b.among))
 
   pub earlier-less : (earlier later : ℕ) → IsEarlier sent table key earlier later → earlier < later
-  earlier-less earlier later before = before-less (grants_of sent table key) rises earlier later before
+  earlier-less earlier later before = before-less rises before
     where
       rises : (one : Granted) → In one (grants_of sent table key) → one.previous < one.term
       rises one at =

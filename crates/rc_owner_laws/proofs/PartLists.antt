@@ -24,25 +24,25 @@ under-append term (x ∷ xs) ys = by (nat_eq x.term term) (under-append term xs 
     by true rec = ap (λ rest. x ∷ rest) rec
     by false rec = rec
 
-pub under-here : (term : ℕ) (x : Entry) (xs : List Entry) → x.term ≡ term → under term (x ∷ xs) ≡ x ∷ under term xs
-under-here term x xs e = ap (λ b. cond b (x ∷ under term xs) (under term xs)) (eq-eqb x.term term e)
+pub under-here : {term : ℕ} {x : Entry} (xs : List Entry) → x.term ≡ term → under term (x ∷ xs) ≡ x ∷ under term xs
+under-here {term} {x} xs e = ap (λ b. cond b (x ∷ under term xs) (under term xs)) (eq-eqb x.term term e)
 
-pub under-beside : (term : ℕ) (x : Entry) (xs : List Entry) → (x.term ≡ term → ⊥) → under term (x ∷ xs) ≡ under term xs
-under-beside term x xs differs = ap (λ b. cond b (x ∷ under term xs) (under term xs)) (ne_eqb x.term term differs)
+pub under-beside : {term : ℕ} (x : Entry) (xs : List Entry) → (x.term ≡ term → ⊥) → under term (x ∷ xs) ≡ under term xs
+under-beside {term} x xs differs = ap (λ b. cond b (x ∷ under term xs) (under term xs)) (ne_eqb x.term term differs)
 
-pub under-none : (term : ℕ) (xs : List Entry) → ((x : Entry) → In x xs → x.term ≡ term → ⊥) → under term xs ≡ []
-under-none term [] none = refl
-under-none term (x ∷ xs) none = under-beside term x xs (none x (inl refl)) ∙ under-none term xs (λ y at. none y (inr at))
+pub under-none : {term : ℕ} (xs : List Entry) → ((x : Entry) → In x xs → x.term ≡ term → ⊥) → under term xs ≡ []
+under-none [] none = refl
+under-none (x ∷ xs) none = under-beside x xs (none x (inl refl)) ∙ under-none xs (λ y at. none y (inr at))
 
 pub under-all : (term : ℕ) (xs : List Entry) → under term (map (under_term term) xs) ≡ map (under_term term) xs
 under-all term [] = refl
-under-all term (x ∷ xs) = under-here term (under_term term x) (map (under_term term) xs) refl ∙
+under-all term (x ∷ xs) = under-here (map (under_term term) xs) refl ∙
     ap (λ rest. under_term term x ∷ rest) (under-all term xs)
 
 pub In-under : (term : ℕ) (x : Entry) (xs : List Entry) → In x xs → x.term ≡ term → In x (under term xs)
 In-under term x [] at e = absurd at
 In-under term x (y ∷ xs) (inl same) e =
-    subst (λ l. In x l) (sym (under-here term y xs (ap (λ (one : Entry). one.term) (sym same) ∙ e))) (inl same)
+    subst (λ l. In x l) (sym (under-here xs (ap (λ (one : Entry). one.term) (sym same) ∙ e))) (inl same)
 In-under term x (y ∷ xs) (inr rest) e =
     either (λ l. In x l) (nat_eq y.term term) (y ∷ under term xs) (under term xs) (λ _. inr (In-under term x xs rest e))
     (λ _. In-under term x xs rest e)
@@ -84,9 +84,9 @@ count-grows term (suc d) (suc e) (x ∷ xs) ys less =
     count-step term d x (take d xs) (take e (xs ++ ys)) (count-grows term d e xs ys (omega arith))
 
 -- one more entry counts where it is under the term
-pub count-first : (term : ℕ) (x : Entry) (xs : List Entry) (b : Bool) → nat_eq x.term term ≡ b →
+pub count-first : (term : ℕ) (x : Entry) (xs : List Entry) {b : Bool} → nat_eq x.term term ≡ b →
     count_under term (x ∷ xs) ≡ cond b (count_under term xs + 1) (count_under term xs)
-count-first term x xs b is = ap (λ v. length (cond v (x ∷ under term xs) (under term xs))) is ∙ by b
+count-first term x xs {b} is = ap (λ v. length (cond v (x ∷ under term xs) (under term xs))) is ∙ by b
   where
     by : (b : Bool) → length (cond b (x ∷ under term xs) (under term xs)) ≡ cond b (count_under term xs + 1) (count_under term xs)
     by true = omega arith
@@ -127,8 +127,8 @@ cons-head e = cc
 cons-tail : {X : Type 0} {x y : X} {xs ys : List X} → x ∷ xs ≡ y ∷ ys → xs ≡ ys
 cons-tail e = cc
 
-pub begins-more : {X : Type 0} (xs ys zs : List X) → Begins xs ys → Begins xs (ys ++ zs)
-begins-more xs ys zs p = (p.0 ++ zs, sym (append_assoc xs p.0 zs) ∙ ap (λ l. l ++ zs) p.1)
+pub begins-more : {X : Type 0} (xs : List X) {ys : List X} (zs : List X) → Begins xs ys → Begins xs (ys ++ zs)
+begins-more xs zs p = (p.0 ++ zs, sym (append_assoc xs p.0 zs) ∙ ap (λ l. l ++ zs) p.1)
 
 -- where the first of two is no shorter than the beginning of both, the beginning is the first's
 pub begins-within : {X : Type 0} (xs ys zs : List X) → Begins xs (ys ++ zs) → length xs ≤ length ys → Begins xs ys
@@ -140,9 +140,9 @@ begins-within (x ∷ xs) (y ∷ ys) zs p less =
     (rest.0, ap (λ z. z ∷ (xs ++ rest.0)) heads ∙ ap (λ l. y ∷ l) rest.1)
 
 -- where it is as long as all, there is nothing more
-pub nothing-more : {X : Type 0} (xs ys zs : List X) → ys ++ zs ≡ xs → length xs ≤ length ys → (zs ≡ []) × (ys ≡ xs)
-nothing-more xs ys [] e less = (refl, sym (append-nil ys) ∙ e)
-nothing-more xs ys (z ∷ zs) e less =
+pub nothing-more : {X : Type 0} {xs ys : List X} (zs : List X) → ys ++ zs ≡ xs → length xs ≤ length ys → (zs ≡ []) × (ys ≡ xs)
+nothing-more {ys} [] e less = (refl, sym (append-nil ys) ∙ e)
+nothing-more {xs} {ys} (z ∷ zs) e less =
     let long : length (ys ++ z ∷ zs) ≡ length ys + length (z ∷ zs) = length-append ys (z ∷ zs) in
     let same : length (ys ++ z ∷ zs) ≡ length xs = ap length e in
     absurd (omega arith)
@@ -159,24 +159,23 @@ pub record IsBefore {X : Type 0} (xs : List X) (x : X) (before : List X) (y : X)
   pub rest_is : after ≡ rest ++ x ∷ []
   pub whole : xs ≡ before ++ y ∷ rest
 
-too-short : {X : Type 0} {P : Type 0} (x b y : X) (before after : List X) → x ∷ [] ≡ b ∷ (before ++ y ∷ after) → P
-too-short x b y before after e =
+too-short : {X : Type 0} {P : Type 0} {x b : X} (y : X) (before after : List X) → x ∷ [] ≡ b ∷ (before ++ y ∷ after) → P
+too-short {x} {b} y before after e =
     let n : length (x ∷ []) ≡ length (b ∷ (before ++ y ∷ after)) = ap length e in
     let m : length (before ++ y ∷ after) ≡ length before + length (y ∷ after) = length-append before (y ∷ after) in
     absurd (omega arith)
 
-last-further : {X : Type 0} (xs : List X) (x z b : X) (before : List X) (y : X) (after : List X) → z ≡ b →
+last-further : {X : Type 0} {xs : List X} {x z b : X} {before : List X} {y : X} {after : List X} → z ≡ b →
     IsLast xs x before y after ⊎ IsBefore xs x before y after
     → IsLast (z ∷ xs) x (b ∷ before) y after ⊎ IsBefore (z ∷ xs) x (b ∷ before) y after
-last-further xs x z b before y after same (inl p) =
+last-further {z} {before} same (inl p) =
     inl (record { none = p.none; before_is = ap (λ w. w ∷ before) (sym same) ∙ ap (λ l. z ∷ l) p.before_is; is = p.is })
-last-further xs x z b before y after same (inr p) =
+last-further {xs} {b} same (inr p) =
     inr (record { rest = p.rest; rest_is = p.rest_is; whole = ap (λ w. w ∷ xs) same ∙ ap (λ l. b ∷ l) p.whole })
 
-pub last-or-before : {X : Type 0} (xs : List X) (x : X) (before : List X) (y : X) (after : List X) →
+pub last-or-before : {X : Type 0} (xs : List X) {x : X} (before : List X) {y : X} {after : List X} →
     xs ++ x ∷ [] ≡ before ++ y ∷ after → IsLast xs x before y after ⊎ IsBefore xs x before y after
-last-or-before [] x [] y after e = inl (record { none = sym (cons-tail e); before_is = refl; is = sym (cons-head e) })
-last-or-before [] x (b ∷ before) y after e = too-short x b y before after e
-last-or-before (z ∷ xs) x [] y after e = inr (record { rest = xs; rest_is = sym (cons-tail e); whole = ap (λ w. w ∷ xs) (cons-head e) })
-last-or-before (z ∷ xs) x (b ∷ before) y after e =
-    last-further xs x z b before y after (cons-head e) (last-or-before xs x before y after (cons-tail e))
+last-or-before [] [] e = inl (record { none = sym (cons-tail e); before_is = refl; is = sym (cons-head e) })
+last-or-before [] (b ∷ before) {y} {after} e = too-short y before after e
+last-or-before (z ∷ xs) [] e = inr (record { rest = xs; rest_is = sym (cons-tail e); whole = ap (λ w. w ∷ xs) (cons-head e) })
+last-or-before (z ∷ xs) (b ∷ before) e = last-further (cons-head e) (last-or-before xs before (cons-tail e))

@@ -32,9 +32,9 @@ use Rattle.rc_model.proofs.Tests.{either}
 
 -- What only grows
 
-later-places : (v : PartView) (more : List LogPlace) (own : Ownership) → own.grants ≡ v.own.grants →
+later-places : {v : PartView} (more : List LogPlace) {own : Ownership} → own.grants ≡ v.own.grants →
     own.parts ≡ v.own.parts → PartsLater v (record v { places = v.places ++ more; own = own })
-later-places v more own grants parts = record {
+later-places more grants parts = record {
   places = (more, refl);
   durable = omega arith;
   grants = λ one at. subst (In one) (sym grants) at;
@@ -52,8 +52,7 @@ module _ (sent : List Message) (m : ServerId) where
   -- A write
 
   parts-refused : (master : Master) (fault : Fault) → Kept sent m master (refused master fault)
-  parts-refused master fault head good = quiet sent m master master (refuses master.log.own fault ∷ []) good head refl
-      (plain-one (refuses master.log.own fault) tt)
+  parts-refused master fault head good = quiet good head refl (plain-one tt)
 
   appended-view : (master : Master) (entry : Entry) (client : Bool) → HasHead master.log → is_writing master.log.phase ≡ true →
       part_view (appends_entry master entry client).0 ≡ with_place
@@ -68,18 +67,16 @@ module _ (sent : List Message) (m : ServerId) where
       (places-push master.log.segments master.log.head entry client (head writing))
 
   -- a client's entry is appended
-  parts-write : (master : Master) (term table key : ℕ) (value : Option (List ℕ)) →
+  parts-write : {master : Master} {term : ℕ} (table key : ℕ) (value : Option (List ℕ)) →
       term_of master.ownership table key ≡ Some term → is_writing master.log.phase ≡ true →
       Kept sent m master (appends_entry master (written master term table key value) true)
-  parts-write master term table key value owned writing head good =
+  parts-write {master} {term} table key value owned writing head good =
       let now : part_view (appends_entry master entry true).0 ≡ with_place place (part_view master) =
       appended-view master entry true head writing in
       record {
         head = head;
-        good = subst (GoodParts sent m) (sym now)
-            (good-client sent m (part_view master) place refl good (owns-point master.ownership table key term owned) refl);
-        later = subst (PartsLater (part_view master)) (sym now)
-            (later-places (part_view master) (place ∷ []) master.ownership refl refl);
+        good = subst (GoodParts sent m) (sym now) (good-client place refl good (owns-point owned) refl);
+        later = subst (PartsLater (part_view master)) (sym now) (later-places (place ∷ []) refl refl);
         says = plain-says (part_view (appends_entry master entry true).0) (appends_entry master entry true).1
             (plain-to_ids master.log.own (ids_of (not_lost (master.log.segments master.log.head).config.members))
             (body.Append master.log.head (length (head_of master.log).entries) (entry ∷ [])) tt);
@@ -104,7 +101,7 @@ module _ (sent : List Message) (m : ServerId) where
       let more : master.log.durable < durable_now master.log = ltb-true master.log.durable (durable_now master.log) e in
       record {
         head = head;
-        good = good-durable sent m (part_view master) (durable_now master.log) good (omega arith);
+        good = good-durable good (omega arith);
         later = record {
           places = ([], append-nil (places_of master.log));
           durable = omega arith;
@@ -138,14 +135,13 @@ module _ (sent : List Message) (m : ServerId) where
 
   -- Replaying
 
-  parts-replays : (master : Master) (entry : Entry) (entries : List Entry) → master.ownership.replay ≡ entry ∷ entries →
+  parts-replays : {master : Master} {entry : Entry} {entries : List Entry} → master.ownership.replay ≡ entry ∷ entries →
       is_writing master.log.phase ≡ true →
       Kept sent m master (appends_entry (record master { ownership = after_replay master.ownership }) entry false)
-  parts-replays master entry entries waits writing head good = record {
+  parts-replays {master} {entry} {entries} waits writing head good = record {
     head = head;
-    good = subst (GoodParts sent m) (sym now) (good-replayed sent m (part_view master) place entries good waits refl);
-    later = subst (PartsLater (part_view master)) (sym now)
-        (later-places (part_view master) (place ∷ []) (record master.ownership { replay = entries }) refl refl);
+    good = subst (GoodParts sent m) (sym now) (good-replayed place good waits refl);
+    later = subst (PartsLater (part_view master)) (sym now) (later-places (place ∷ []) refl refl);
     says = plain-says (part_view (appends_entry next entry false).0) (appends_entry next entry false).1
         (plain-to_ids master.log.own (ids_of (not_lost (master.log.segments master.log.head).config.members))
         (body.Append master.log.head (length (head_of master.log).entries) (entry ∷ [])) tt);
@@ -168,8 +164,8 @@ module _ (sent : List Message) (m : ServerId) where
 
   -- The end of a part
 
-  later-answered : (v : PartView) (durable : List Entry) → PartsLater v (with_own (after_answer durable v.own) v)
-  later-answered v durable = record {
+  later-answered : {v : PartView} (durable : List Entry) → PartsLater v (with_own (after_answer durable v.own) v)
+  later-answered {v} durable = record {
     places = ([], append-nil v.places);
     durable = omega arith;
     grants = λ one at. at;
@@ -202,13 +198,13 @@ module _ (sent : List Message) (m : ServerId) where
       told state at is same =
           let complete : IsComplete (part_view master) state.part.term =
           complete-is (part_view master) state at (and_parts (is_complete (durable_replayed master) state) (not state.answered) is).0 in
-          let later : PartsLater (part_view master) v_now = later-answered (part_view master) (durable_replayed master) in
+          let later : PartsLater (part_view master) v_now = later-answered {v = (part_view master)} (durable_replayed master) in
           record {
             head = head;
-            good = good-answered sent m (part_view master) (durable_replayed master) good;
+            good = good-answered {sent = sent} {m = m} {v = (part_view master)} (durable_replayed master) good;
             later = later;
             says = λ message one. one-says message one (record {
-              complete = Rattle.rc_owner_laws.proofs.PartViews.complete-later (part_view master) v_now term later
+              complete = Rattle.rc_owner_laws.proofs.PartViews.complete-later later
                   (subst (IsComplete (part_view master)) same complete);
               attempt_is = refl;
             });
@@ -229,7 +225,7 @@ module _ (sent : List Message) (m : ServerId) where
             to_coordinator master.log.own (body.Recovered (attempt_of term master.tasks) term) ∷ [],
           )
       by None is none = cc
-      by (Some state) is found = let p = find-one (is_to_answer (durable_replayed master)) master.ownership.parts state
+      by (Some state) is found = let p = find-one (is_to_answer (durable_replayed master)) master.ownership.parts {x = state}
           is in told state p.0 p.1 (some-same found)
         where
           some-same : Some state.part.term ≡ Some term → state.part.term ≡ term
@@ -237,9 +233,9 @@ module _ (sent : List Message) (m : ServerId) where
 
   -- A plan
 
-  asked : (v : PartView) (task : Task) (row : PlanRow) → In task v.tasks → In row task.rows →
+  asked : {v : PartView} (task : Task) {row : PlanRow} → In task v.tasks → In row task.rows →
       part_said v (Server row.holder) (body.Fetch task.attempt task.master row.seg row.len task.part)
-  asked v task row among row_among = record {
+  asked task {row} among row_among = record {
     task = task;
     among = among;
     attempt_is = refl;
@@ -252,9 +248,9 @@ module _ (sent : List Message) (m : ServerId) where
     len_is = refl;
   }
 
-  later-begun : (v : PartView) (good : GoodParts sent m v) (task : Task) (was : WasPlanned sent m task)
+  later-begun : {v : PartView} (good : GoodParts sent m v) {task : Task} (was : WasPlanned sent m task)
       (unknown : knows_term v.own task.part.term ≡ false) → PartsLater v (begun sent m v good task was unknown)
-  later-begun v good task was unknown = record {
+  later-begun {v} good {task} was unknown = record {
     places = ([], append-nil v.places);
     durable = omega arith;
     grants = λ one at. at;
@@ -263,9 +259,9 @@ module _ (sent : List Message) (m : ServerId) where
     joined = λ state at rows. record { now = state; among = In-left state v.own.parts _ at; part_is = refl; rows = rows; size = refl };
   }
 
-  parts-begins : (task : Task) (master : Master) → WasPlanned sent m task → knows_term master.ownership task.part.term ≡ false →
+  parts-begins : {task : Task} {master : Master} → WasPlanned sent m task → knows_term master.ownership task.part.term ≡ false →
       Kept sent m master (begun_master task master, map (fetch_of master.log.own task) task.rows)
-  parts-begins task master was unknown head good =
+  parts-begins {task} {master} was unknown head good =
       let now : part_view (begun_master task master) ≡ begun sent m (part_view master) good task was unknown =
       ap (λ b. record {
         places = places_of master.log;
@@ -280,10 +276,10 @@ module _ (sent : List Message) (m : ServerId) where
       record {
         head = head;
         good = subst (GoodParts sent m) (sym now) (good-begun sent m (part_view master) good task was unknown);
-        later = subst (PartsLater (part_view master)) (sym now) (later-begun (part_view master) good task was unknown);
+        later = subst (PartsLater (part_view master)) (sym now) (later-begun good was unknown);
         says = each-map (λ message. part_said (part_view (begun_master task master)) message.to message.body)
             (fetch_of master.log.own task) task.rows
-            (λ row at. asked (part_view (begun_master task master)) task row (In-right task master.tasks (task ∷ []) (inl refl)) at);
+            (λ row at. asked task (In-right task master.tasks (task ∷ []) (inl refl)) at);
       }
 
   -- A row, and a grant
@@ -303,8 +299,7 @@ module _ (sent : List Message) (m : ServerId) where
       attempts = λ task there. refl;
       joined = λ state there rows. record {
         now = state;
-        among = data-stays term seg from entries master.ownership.parts
-            state there rows;
+        among = data-stays term seg from entries master.ownership.parts state there rows;
         part_is = refl;
         rows = rows;
         size = refl;
@@ -313,15 +308,15 @@ module _ (sent : List Message) (m : ServerId) where
     says = λ message never. absurd never;
   }
 
-  parts-grant : (granted : GrantedRange) (master : Master) → HasHead master.log → GoodParts sent m (part_view master) →
+  parts-grant : {granted : GrantedRange} {master : Master} → HasHead master.log → GoodParts sent m (part_view master) →
       RangeWasGranted sent m granted →
       ((state : PartState) → In state master.ownership.parts → state.part.term ≡ granted.term →
       IsComplete (part_view master) granted.term) →
       PartsMoved sent m master (record master { ownership = grant granted master.ownership }, [])
-  parts-grant granted master head good was ended =
+  parts-grant {granted} {master} head good was ended =
       either (λ (own : Ownership). PartsMoved sent m master (record master { ownership = own }, []))
       (owns_term master.ownership granted.term) master.ownership (owning granted master.ownership)
-      (λ _. quiet sent m master (record master { ownership = master.ownership }) [] good head refl plain-none)
+      (λ _. quiet good head refl plain-none)
       (λ new. record {
         head = head;
         good = good-owning sent m (part_view master) good granted was new ended;
@@ -342,13 +337,13 @@ module _ (sent : List Message) (m : ServerId) where
   parts-reminds before master head good = record {
     head = head;
     good = good;
-    later = later-refl (part_view master);
+    later = later-refl;
     says = each-reminds (λ message. part_said (part_view master) message.to message.body) before master (record {
       place = λ member seg closed at shut among. tt;
       append = λ member seg len at. tt;
       close = λ member seg at old. tt;
     }) (λ seg awaits. tt) (record {
-      fetch = λ task row given among. asked (part_view master) task row given among;
+      fetch = λ task row given among. asked task given among;
       recovered = λ state among awaits. record {
         complete = complete-is (part_view master) state among (and_parts (is_complete (durable_replayed master) state)
             (not (owns_term master.ownership state.part.term)) awaits).0;
@@ -379,36 +374,33 @@ module _ (sent : List Message) (m : ServerId) where
       hears Coordinator p = p
       hears Outside p = p
 
-  own-heard : (from : Addr) (v : PartView) (range : KeyRange) (term before attempt : ℕ) →
+  own-heard : (from : Addr) {v : PartView} (range : KeyRange) {term : ℕ} (before attempt : ℕ) →
       PartsHear sent m v from (body.Own range term before attempt) →
       In (record { from = from; to = Server m; body = body.Own range term before attempt }) sent ×
       ((state : PartState) → In state v.own.parts → state.part.term ≡ term → IsComplete v term)
-  own-heard (Server x) v range term before attempt p = p
-  own-heard Coordinator v range term before attempt p = p
-  own-heard Outside v range term before attempt p = p
+  own-heard (Server x) range before attempt p = p
+  own-heard Coordinator range before attempt p = p
+  own-heard Outside range before attempt p = p
 
-  parts-taken : (master : Master) (from : Addr) (says : Body) → PartsHear sent m (part_view master) from says →
+  parts-taken : {master : Master} {from : Addr} {says : Body} → PartsHear sent m (part_view master) from says →
       Taken (Kept sent m) master from says
-  parts-taken master from says hear = record {
+  parts-taken {master} {from} {says} hear = record {
     refuses = parts-refused;
     rolls = parts-rolls sent m master;
-    writes = λ term table key value is owned writing room. parts-write master term table key value owned writing;
-    reads = λ term table key is owned head good.
-        quiet sent m master master (reads_under master term table key).1 good head refl (plain-one _ tt);
-    lists = λ version rows is newer head good. quiet sent m master (record master { known = from_rows version rows })
-        [] good head refl plain-none;
-    stores = λ teller seg epoch len closed is told head good. quiet-log sent m master (stored seg teller epoch len closed master.log) []
-        head good (same-stored seg teller epoch len closed master.log) plain-none;
-    commits = λ seg epoch is head good. quiet-log sent m master (commit_noted seg epoch master.log) [] head good
-        (same-committed seg epoch master.log) plain-none;
-    deposes = λ head good. quiet sent m master (record master { deposed = true }) [] good head refl plain-none;
-    begins = λ one attempt crashed seg rows parts part is at new. parts-begins (task_of attempt crashed rows part) one
+    writes = λ term table key value is owned writing room. parts-write table key value owned writing;
+    reads = λ term table key is owned head good. quiet good head refl (plain-one tt);
+    lists = λ version rows is newer head good. quiet good head refl plain-none;
+    stores = λ teller seg epoch len closed is told head good. quiet-log
+        head good (same-stored seg teller epoch len closed) plain-none;
+    commits = λ seg epoch is head good. quiet-log head good (same-committed seg epoch) plain-none;
+    deposes = λ head good. quiet good head refl plain-none;
+    begins = λ one attempt crashed seg rows parts part is at new. parts-begins
         (planned-heard from (part_view master) attempt crashed seg rows parts (heard is) part at) new;
     comes = λ holder attempt seg term entries is told head good. parts-data attempt seg term holder entries master head good
         (subst (λ (sender : Addr). PartsHear sent m (part_view master) sender (body.Data attempt seg term entries)) is (heard told));
     owns = λ range term before attempt is head good. (
-        let p = own-heard from (part_view master) range term before attempt (heard is) in
-        parts-grant (record { range = range; term = term }) master head good
+        let p = own-heard from range before attempt (heard is) in
+        parts-grant head good
         (record {
           message = record { from = from; to = Server m; body = body.Own range term before attempt };
           among = p.0;
@@ -424,34 +416,28 @@ module _ (sent : List Message) (m : ServerId) where
 
   parts-ticked : Ticked (Kept sent m)
   parts-ticked = record {
-    enlists = λ master head good. quiet sent m master master (to_coordinator master.log.own body.Enlist ∷ []) good head refl
-        (plain-one (to_coordinator master.log.own body.Enlist) tt);
+    enlists = λ master head good. quiet good head refl (plain-one tt);
     reminds = parts-reminds;
   }
 
   parts-followed : Followed (Kept sent m)
   parts-followed = record {
-    marks = λ master is head good. quiet-log sent m master _ [] head good
-        (same-segment master.log (master.log.head - 1) (record (old_head_of master.log) { shut = true }) refl) plain-none;
-    starts = λ master may head good. quiet-log sent m master (starts master.log) (to_coordinator master.log.own body.Ready ∷ []) head good
-        (same-starts master.log may) (plain-one (to_coordinator master.log.own body.Ready) tt);
-    places = λ master may head good. quiet-log sent m master (closes_old master.log) [] head good (same-closes master.log) plain-none;
-    closes = λ master due head good. quiet-log sent m master (close_marked master.log) _ head good
-        (same-segment master.log (master.log.head - 1) (with_closes_sent (old_head_of master.log)) refl)
+    marks = λ master is head good. quiet-log head good
+        (same-segment (master.log.head - 1) (record (old_head_of master.log) { shut = true }) refl) plain-none;
+    starts = λ master may head good. quiet-log head good (same-starts may) (plain-one tt);
+    places = λ master may head good. quiet-log head good (same-closes) plain-none;
+    closes = λ master due head good. quiet-log head good
+        (same-segment (master.log.head - 1) (with_closes_sent (old_head_of master.log)) refl)
         (plain-to_ids master.log.own
         (ids_of (filter (is_unclosed (old_head_of master.log)) (old_head_of master.log).config.members))
         (body.Close (master.log.head - 1) (length (old_head_of master.log).entries)) tt);
-    shuts = λ master may head good. quiet-log sent m master (writes_on master.log) (frees_segments master.log (left_out master.log))
-        head good (same-writes master.log may)
+    shuts = λ master may head good. quiet-log head good (same-writes may)
         (each-frees (λ message. IsPlain message.body) master.log (left_out master.log) (λ seg id at. tt));
-    commits = λ master seg open_one wants head good.
-        quiet-log sent m master (with_segment seg (record (master.log.segments seg) { commit_sent = true }) master.log)
-        (to_coordinator master.log.own (body.Commit seg (master.log.segments seg).config.epoch) ∷ []) head good
-        (same-segment master.log seg (record (master.log.segments seg) { commit_sent = true }) refl)
-        (plain-one (to_coordinator master.log.own (body.Commit seg (master.log.segments seg).config.epoch)) tt);
+    commits = λ master seg open_one wants head good. quiet-log head good
+        (same-segment seg (record (master.log.segments seg) { commit_sent = true }) refl) (plain-one tt);
     counts = parts-counts;
     rolls = parts-rolls sent m;
-    replays = λ master entry entries is writing room. parts-replays master entry entries is writing;
+    replays = λ master entry entries is writing room. parts-replays is writing;
     answers = parts-answers;
   }
 
@@ -460,7 +446,7 @@ module _ (sent : List Message) (m : ServerId) where
 pub takes-keep-parts : TakesKeepParts
 takes-keep-parts sent m master from says head good hear =
     kept-takes (Kept sent m) (parts-joined sent m) (parts-listed sent m) (parts-followed sent m) master from says
-    (parts-taken sent m master from says hear) head good
+    (parts-taken sent m hear) head good
 
 pub ticks-keep-parts : TicksKeepParts
 ticks-keep-parts sent m = kept-ticks (Kept sent m) (parts-joined sent m) (parts-listed sent m) (parts-followed sent m) (parts-ticked sent m)

@@ -13,9 +13,9 @@ use Rattle.rc_owner_laws.proofs.PartLists.{count-grows, logged-append}
 
 -- Later views
 
-pub later-refl : (v : PartView) → PartsLater v v
-later-refl v = record {
-  places = begins-refl v.places;
+pub later-refl : {v : PartView} → PartsLater v v
+later-refl = record {
+  places = begins-refl;
   durable = omega arith;
   grants = λ grant at. at;
   tasks = λ task at. at;
@@ -23,50 +23,50 @@ later-refl v = record {
   joined = λ state at rows. record { now = state; among = at; part_is = refl; rows = rows; size = refl };
 }
 
-state-trans : (v w : PartView) (state : PartState) → StateLater v state → PartsLater v w → StateLater w state
-state-trans v w state p later =
+state-trans : {v w : PartView} {state : PartState} → StateLater v state → PartsLater v w → StateLater w state
+state-trans {w} p later =
     let q : StateLater w p.now = later.joined p.now p.among p.rows in
     record { now = q.now; among = q.among; part_is = q.part_is ∙ p.part_is; rows = q.rows; size = q.size ∙ p.size }
 
-pub later-trans : (u v w : PartView) → PartsLater u v → PartsLater v w → PartsLater u w
-later-trans u v w p q = record {
-  places = begins-trans u.places v.places w.places p.places q.places;
+pub later-trans : {u v w : PartView} → PartsLater u v → PartsLater v w → PartsLater u w
+later-trans {u} p q = record {
+  places = begins-trans u.places p.places q.places;
   durable = (let a = p.durable in let b = q.durable in omega arith);
   grants = λ grant at. q.grants grant (p.grants grant at);
   tasks = λ task at. q.tasks task (p.tasks task at);
   attempts = λ task at. q.attempts task (p.tasks task at) ∙ p.attempts task at;
-  joined = λ state at rows. state-trans v w state (p.joined state at rows) q;
+  joined = λ state at rows. state-trans (p.joined state at rows) q;
 }
 
-pub durable-later : (v w : PartView) (term : ℕ) → PartsLater v w → durable_under term v ≤ durable_under term w
-durable-later v w term later =
+pub durable-later : {v w : PartView} (term : ℕ) → PartsLater v w → durable_under term v ≤ durable_under term w
+durable-later {v} {w} term later =
     let whole : logged v.places ++ logged later.places.0 ≡ logged w.places =
     sym (logged-append v.places later.places.0) ∙ ap logged later.places.1 in
     subst (λ entries. durable_under term v ≤ count_under term (take w.durable entries)) whole
     (count-grows term v.durable w.durable (logged v.places) (logged later.places.0) later.durable)
 
-pub complete-later : (v w : PartView) (term : ℕ) → PartsLater v w → IsComplete v term → IsComplete w term
-complete-later v w term later p =
+pub complete-later : {v w : PartView} {term : ℕ} → PartsLater v w → IsComplete v term → IsComplete w term
+complete-later {w} {term} later p =
     let q : StateLater w p.state = later.joined p.state p.among p.rows in
     record {
       state = q.now;
       among = q.among;
       term_is = ap (λ (part : Part). part.term) q.part_is ∙ p.term_is;
       rows = q.rows;
-      durable = (let a = p.durable in let b = durable-later v w term later in let c = q.size in omega arith);
+      durable = (let a = p.durable in let b = durable-later term later in let c = q.size in omega arith);
     }
 
-pub said-later : (sent : List Message) (m : ServerId) (v w : PartView) → GoodParts sent m v → PartsLater v w →
+pub said-later : {sent : List Message} {m : ServerId} {v w : PartView} → GoodParts sent m v → PartsLater v w →
     (to : Addr) (says : Body) → part_said v to says → part_said w to says
-said-later sent m v w good later to (body.Recovered attempt term) said =
+said-later {sent} {m} {v} {w} good later to (body.Recovered attempt term) said =
     let state : PartState = said.complete.state in
     let part : IsPart sent m v said.complete.state = good.parts_are said.complete.state said.complete.among in
     let same : part.task.part.term ≡ term = ap (λ (one : Part). one.term) part.part_is ∙ said.complete.term_is in
     record {
-      complete = complete-later v w term later said.complete;
+      complete = complete-later later said.complete;
       attempt_is = subst (λ t. attempt_of t w.tasks ≡ attempt_of t v.tasks) same (later.attempts part.task part.among) ∙ said.attempt_is;
     }
-said-later sent m v w good later to (body.WriteOk seg offset term table key version) said = record {
+said-later {v} good later to (body.WriteOk seg offset term table key version) said = record {
   place = said.place;
   among = subst (λ places. In said.place places) later.places.1 (In-left said.place v.places later.places.0 said.among);
   client = said.client;
@@ -77,7 +77,7 @@ said-later sent m v w good later to (body.WriteOk seg offset term table key vers
   key_is = said.key_is;
   version_is = said.version_is;
 }
-said-later sent m v w good later to (body.Fetch attempt master seg len part) said = record {
+said-later good later to (body.Fetch attempt master seg len part) said = record {
   task = said.task;
   among = later.tasks said.task said.among;
   attempt_is = said.attempt_is;
@@ -89,7 +89,7 @@ said-later sent m v w good later to (body.Fetch attempt master seg len part) sai
   seg_is = said.seg_is;
   len_is = said.len_is;
 }
-said-later sent m v w good later to _ said = tt
+said-later good later to _ said = tt
 
 -- Messages that say nothing of parts
 
@@ -115,9 +115,9 @@ plain-says v messages all message at = plain-said v message.to message.body (all
 pub plain-none : AllPlain []
 plain-none message at = absurd at
 
-pub plain-one : (one : Message) → IsPlain one.body → AllPlain (one ∷ [])
-plain-one one is message (inl e) = subst (λ (some : Message). IsPlain some.body) (sym e) is
-plain-one one is message (inr rest) = absurd rest
+pub plain-one : {one : Message} → IsPlain one.body → AllPlain (one ∷ [])
+plain-one is message (inl e) = subst (λ (some : Message). IsPlain some.body) (sym e) is
+plain-one is message (inr rest) = absurd rest
 
 pub plain-mapped : {X : Type 0} (f : X → Message) (xs : List X) → ((x : X) → IsPlain (f x).body) → AllPlain (map f xs)
 plain-mapped f xs all message at =
@@ -128,41 +128,39 @@ plain-to_ids own ids says is = plain-mapped (λ (id : ServerId). between own id 
 
 -- Moves
 
-pub quiet : (sent : List Message) (m : ServerId) (old new : Master) (messages : List Message) →
+pub quiet : {sent : List Message} {m : ServerId} {old new : Master} {messages : List Message} →
     GoodParts sent m (part_view old) → HasHead new.log → part_view new ≡ part_view old → AllPlain messages
     → PartsMoved sent m old (new, messages)
-quiet sent m old new messages good head same all = record {
+quiet {sent} {m} {old} {new} {messages} good head same all = record {
   head = head;
   good = subst (GoodParts sent m) (sym same) good;
-  later = subst (PartsLater (part_view old)) (sym same) (later-refl (part_view old));
+  later = subst (PartsLater (part_view old)) (sym same) (later-refl);
   says = plain-says (part_view new) messages all;
 }
 
 pub still : (sent : List Message) (m : ServerId) (master : Master) → HasHead master.log →
     GoodParts sent m (part_view master) → PartsMoved sent m master (master, [])
-still sent m master head good = quiet sent m master master [] good head refl plain-none
+still sent m master head good = quiet good head refl plain-none
 
-pub moved-then : (sent : List Message) (m : ServerId) (one : Master) (done after : Master × List Message) →
-    PartsMoved sent m one done → PartsMoved sent m done.0 after
-    → PartsMoved sent m one (after.0, done.1 ++ after.1)
-moved-then sent m one done after p q = record {
+pub moved-then : {sent : List Message} {m : ServerId} {one : Master} {done after : Master × List Message} →
+    PartsMoved sent m one done → PartsMoved sent m done.0 after → PartsMoved sent m one (after.0, done.1 ++ after.1)
+moved-then {done} {after} p q = record {
   head = q.head;
   good = q.good;
-  later = later-trans (part_view one) (part_view done.0) (part_view after.0) p.later q.later;
+  later = later-trans p.later q.later;
   says = λ message at. by message (In-append message done.1 after.1 at);
 }
   where
     by : (message : Message) → In message done.1 ⊎ In message after.1 → part_said (part_view after.0) message.to message.body
-    by message (inl there) = said-later sent m (part_view done.0) (part_view after.0) p.good q.later message.to
-        message.body (p.says message there)
+    by message (inl there) = said-later p.good q.later message.to message.body (p.says message there)
     by message (inr there) = q.says message there
 
 -- More was sent
 
-sent-more : (sent sent_now : List Message) → More sent sent_now →
-    (m holder : ServerId) (term seg : ℕ) (entries : List Entry) → HasSent sent m holder term seg entries →
+sent-more : {sent sent_now : List Message} → More sent sent_now →
+    {m holder : ServerId} {term seg : ℕ} {entries : List Entry} → HasSent sent m holder term seg entries →
     HasSent sent_now m holder term seg entries
-sent-more sent sent_now more m holder term seg entries p =
+sent-more more {m} {holder} {term} {seg} {entries} p =
     record { attempt = p.attempt; among = more (between holder m (body.Data p.attempt seg term entries)) p.among }
 
 some-more : (sent sent_now : List Message) → More sent sent_now →
@@ -174,7 +172,7 @@ some-more sent sent_now more m term (was ∷ rows) [] p = absurd p
 some-more sent sent_now more m term (was ∷ rows) (row ∷ others) p = (
   p.0,
   p.1,
-  λ entries came. sent-more sent sent_now more m row.holder term row.seg entries (p.2 entries came),
+  λ entries came. sent-more more (p.2 entries came),
   some-more sent sent_now more m term rows others p.3,
 )
 
@@ -183,20 +181,20 @@ all-more : (sent sent_now : List Message) → More sent sent_now →
     AllCame sent_now m term rows entries
 all-more sent sent_now more m term [] entries p = p
 all-more sent sent_now more m term (row ∷ rows) entries p =
-    (p.0, p.1, sent-more sent sent_now more m row.holder term row.seg p.0 p.2, all-more sent sent_now more m term rows p.1 p.3, p.4)
+    (p.0, p.1, sent-more more p.2, all-more sent sent_now more m term rows p.1 p.3, p.4)
 
-how-more : (sent sent_now : List Message) → More sent sent_now →
-    (m : ServerId) (v : PartView) (task : Task) (state : PartState) →
+how-more : {sent sent_now : List Message} → More sent sent_now →
+    {m : ServerId} {v : PartView} {task : Task} {state : PartState} →
     IsWaiting sent m v task state ⊎ HasJoined sent m v task state
     → IsWaiting sent_now m v task state ⊎ HasJoined sent_now m v task state
-how-more sent sent_now more m v task state (inl p) = inl (record {
+how-more {sent} {sent_now} more {m} {task} {state} (inl p) = inl (record {
   rows = some-more sent sent_now more m state.part.term (Rattle.rc_owner_laws.specs.Parts.rows_of_task task) state.rows p.rows;
   some = p.some;
   none_logged = p.none_logged;
   none_waits = p.none_waits;
   unowned = p.unowned;
 })
-how-more sent sent_now more m v task state (inr p) = inr (record {
+how-more {sent} {sent_now} more {m} {task} {state} (inr p) = inr (record {
   rows = p.rows;
   entries = p.entries;
   came = all-more sent sent_now more m state.part.term (Rattle.rc_owner_laws.specs.Parts.rows_of_task task) p.entries p.came;
@@ -205,9 +203,9 @@ how-more sent sent_now more m v task state (inr p) = inr (record {
   owned = p.owned;
 })
 
-pub good-more : (sent sent_now : List Message) → More sent sent_now → (m : ServerId) (v : PartView) →
+pub good-more : {sent sent_now : List Message} → More sent sent_now → {m : ServerId} {v : PartView} →
     GoodParts sent m v → GoodParts sent_now m v
-good-more sent sent_now more m v good = record {
+good-more more good = record {
   granted = λ grant at. (let p = good.granted grant at in
       record { message = p.message; among = more p.message p.among; to = p.to; previous = p.previous; attempt = p.attempt; says = p.says });
   planned = λ task at. (let p = good.planned task at in
@@ -228,7 +226,7 @@ good-more sent sent_now more m v good = record {
         among = p.among;
         part_is = p.part_is;
         attempt_is = p.attempt_is;
-        how = how-more sent sent_now more m v p.task state p.how;
+        how = how-more more p.how;
       });
   logged_known = good.logged_known;
   waiting_part = good.waiting_part;

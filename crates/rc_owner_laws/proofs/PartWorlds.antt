@@ -33,14 +33,14 @@ record Its (sent : List Message) (m : ServerId) (master : Master) : Type 0 where
   good : GoodParts sent m (part_view master)
   said : (message : Message) → In message sent → message.from ≡ Server m → part_said (part_view master) message.to message.body
 
-its-of : (sent : List Message) (masters : ServerId → Master) → PartsHold sent masters → (m : ServerId) → Its sent m (masters m)
-its-of sent masters p m = record {
+its-of : {sent : List Message} {masters : ServerId → Master} → PartsHold sent masters → {m : ServerId} → Its sent m (masters m)
+its-of {masters} p {m} = record {
   good = p.each m;
   said = λ message at from. subst (λ (addr : Addr). parts_fine masters addr message.to message.body) from (p.said message at);
 }
 
-of-all : (sent : List Message) (masters : ServerId → Master) → ((m : ServerId) → Its sent m (masters m)) → PartsHold sent masters
-of-all sent masters its = record { each = λ m. (its m).good; said = λ message at. by message at message.from refl }
+of-all : {sent : List Message} {masters : ServerId → Master} → ((m : ServerId) → Its sent m (masters m)) → PartsHold sent masters
+of-all {sent} {masters} its = record { each = λ m. (its m).good; said = λ message at. by message at message.from refl }
   where
     by : (message : Message) → In message sent → (from : Addr) → message.from ≡ from → parts_fine masters from message.to message.body
     by message at (Server m) is = (its m).said message at is
@@ -54,24 +54,23 @@ fine-others v to (body.Fetch attempt master seg len part) e = true_false (sym e)
 fine-others v to _ e = tt
 
 -- its parts are later, and it says more of them
-its-later : (sent messages : List Message) (m : ServerId) (old new : Master) → Its sent m old → GoodParts sent m (part_view new) →
+its-later : {sent : List Message} (messages : List Message) {m : ServerId} {old new : Master} → Its sent m old → GoodParts sent m (part_view new) →
     PartsLater (part_view old) (part_view new) →
     ((message : Message) → In message messages → message.from ≡ Server m → part_said (part_view new) message.to message.body) →
     Its (sent ++ messages) m new
-its-later sent messages m old new its good later says = record {
-  good = good-more sent (sent ++ messages) (more-left sent messages) m (part_view new) good;
+its-later {sent} messages {m} {new} its good later says = record {
+  good = good-more (more-left sent messages) good;
   said = λ message at from. by message from (In-append message sent messages at);
 }
   where
     by : (message : Message) → message.from ≡ Server m → In message sent ⊎ In message messages →
         part_said (part_view new) message.to message.body
-    by message from (inl there) =
-        said-later sent m (part_view old) (part_view new) its.good later message.to message.body (its.said message there from)
+    by message from (inl there) = said-later its.good later message.to message.body (its.said message there from)
     by message from (inr here) = says message here from
 
 -- a head that writes is one
-has-head : (sent : List Message) (m : ServerId) (master : Master) → GoodMaster sent m master → HasHead master.log
-has-head sent m master good writes = good.writing_opened (writing-is master.log.phase writes)
+has-head : {sent : List Message} {m : ServerId} {master : Master} → GoodMaster sent m master → HasHead master.log
+has-head {master} good writes = good.writing_opened (writing-is master.log.phase writes)
 
 -- A world
 
@@ -135,8 +134,7 @@ module _ (world : World) (grants : OfWorld world) (terms : GoodTerms world.sent 
         ended m term state there same said.grant said.among (owner-is said.grant said.to_is) (term-is said.grant said.body_is)),
   )
     where
-      owner-is : (grant : Grant) → ◌≡◌ {A = Addr} (Server m) (Server grant.owner) →
-          grant.owner ≡ m
+      owner-is : (grant : Grant) → ◌≡◌ {A = Addr} (Server m) (Server grant.owner) → grant.owner ≡ m
       owner-is grant same = cc
 
       term-is : (grant : Grant) → body.Own range term before attempt ≡ own_body grant → grant.term ≡ term
@@ -157,28 +155,25 @@ module _ (world : World) (grants : OfWorld world) (terms : GoodTerms world.sent 
       (hears-parts m from says
       (subst (λ (all : List Message). In (record { from = from; to = Server m; body = says }) all) was.sent_is at)))
 
-  moved : (sent : List Message) (m : ServerId) (master : Master) (after : Master × List Message) → Was sent m master →
+  moved : {sent : List Message} {m : ServerId} {master : Master} {after : Master × List Message} → Was sent m master →
       PartsMoved sent m master after → Its (sent ++ after.1) m after.0
-  moved sent m master after was done =
-      its-later sent after.1 m master after.0 was.its done.good done.later (λ message here from. done.says message here)
+  moved {after} was done = its-later after.1 was.its done.good done.later (λ message here from. done.says message here)
 
   parts-led : IsLed Was Its
   parts-led = record {
     same = λ sent m master was. was.its;
-    others = λ sent messages m master was others. its-later sent messages m master master was.its was.its.good
-        (later-refl (part_view master))
+    others = λ sent messages m master was others. its-later messages was.its was.its.good (later-refl)
         (λ message here from. fine-others (part_view master) message.to message.body (others message here from));
-    takes = λ sent m master from says good was at. moved sent m master (master_takes master from says) was
-        (takes-keep-parts sent m master from says (has-head sent m master good) was.its.good
+    takes = λ sent m master from says good was at. moved was
+        (takes-keep-parts sent m master from says (has-head good) was.its.good
         (hears-its sent m master was from says at));
-    ticks = λ sent m master good was. moved sent m master (master_ticks master) was
-        (ticks-keep-parts sent m master (has-head sent m master good) was.its.good);
+    ticks = λ sent m master good was. moved was (ticks-keep-parts sent m master (has-head good) was.its.good);
   }
 
   -- an event
   parts-step : (one : Event) → GoodWorld world → PartsOf (step world one)
-  parts-step one good = of-all (step world one).sent (step world one).masters (led-by Was Its parts-led world one good
-      (λ m. record { sent_is = refl; master_is = refl; its = its-of world.sent world.masters parts m }))
+  parts-step one good = of-all (led-by Was Its parts-led world one good
+      (λ m. record { sent_is = refl; master_is = refl; its = its-of parts }))
 
 -- where the terms of every world are good
 module _ (terms : (setup : Setup) (events : List Event) → GoodTerms (replay setup events).sent (replay setup events).coordinator) where
@@ -188,8 +183,7 @@ module _ (terms : (setup : Setup) (events : List Event) → GoodTerms (replay se
   parts-from setup before (one ∷ events) p =
       let same : replay setup (before ++ one ∷ []) ≡ step (replay setup before) one =
       replay_from-append (opening setup) before (one ∷ []) in
-      subst (λ (world : World). PartsOf (replay_from world events)) same
-      (parts-from setup (before ++ one ∷ []) events
+      subst (λ (world : World). PartsOf (replay_from world events)) same (parts-from setup (before ++ one ∷ []) events
       (subst PartsOf (sym same) (parts-step (replay setup before) (grants-world setup before) (terms setup before) p
       one (good-world setup before))))
 

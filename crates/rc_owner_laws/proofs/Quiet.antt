@@ -17,27 +17,23 @@ module _ (sent : List Message) (m : ServerId) where
   parts-joined = record {
     still = still sent m;
     both = λ one two first after p q head good. (let done : PartsMoved sent m one (two, first) = p head good in
-        moved-then sent m one (two, first) after done (q done.head done.good));
+        moved-then done (q done.head done.good));
   }
 
   -- a head is opened, and placed on its members
-  parts-opens : (master : Master) (digest : List ℕ) (ids : List ServerId) →
+  parts-opens : {master : Master} (digest : List ℕ) (ids : List ServerId) →
       Kept sent m master (with_log master (opens_head master.log digest ids), places_head (opens_head master.log digest ids))
-  parts-opens master digest ids head good =
-      quiet-log sent m master (opens_head master.log digest ids) (places_head (opens_head master.log digest ids)) head good
-      (same-opens master.log digest ids)
+  parts-opens {master} digest ids head good = quiet-log head good (same-opens digest ids)
       (plain-to_ids master.log.own (ids_of (head_of (opens_head master.log digest ids)).config.members)
       (place_of (opens_head master.log digest ids) (opens_head master.log digest ids).head false) tt)
 
   pub parts-rolls : (master : Master) → Rolls (Kept sent m) master
-  parts-rolls master ids writing room chosen = parts-opens master (next_digest master.log (dead_segments master)) ids
+  parts-rolls master ids writing room chosen = parts-opens (next_digest master.log (dead_segments master)) ids
 
   pub parts-listed : Listed (Kept sent m)
   parts-listed = record {
-    replaces = λ master seg ids isn't head good. quiet-log sent m master (loses master.known seg master.log).0
-        (to_ids _ ids (place_of (loses master.known seg master.log).0 seg ((loses master.known seg master.log).0.segments seg).shut))
-        head good (same-loses master.known seg master.log)
+    replaces = λ master seg ids isn't head good. quiet-log head good (same-loses master.known seg)
         (plain-to_ids _ ids (place_of (loses master.known seg master.log).0 seg
         ((loses master.known seg master.log).0.segments seg).shut) tt);
-    opens = λ master ids none chosen. parts-opens master (1 ∷ []) ids;
+    opens = λ master ids none chosen. parts-opens (1 ∷ []) ids;
   }

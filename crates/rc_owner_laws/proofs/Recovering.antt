@@ -44,21 +44,20 @@ module _ (sent : List Message) (m : ServerId) (v : PartView) (good : GoodParts s
       ap (λ l. under t v.own.replay ++ l) none ∙ append-nil (under t v.own.replay)
 
   -- a part to which nothing came
-  beside : (state : PartState) (task : Task) →
+  beside : {state : PartState} {task : Task} →
       under state.part.term (replay_in term seg from entries v.own.parts) ≡ [] →
       IsWaiting sent m v task state ⊎ HasJoined sent m v task state →
       IsWaiting sent m (with_own (put_data term seg from entries v.own) v) task state ⊎
       HasJoined sent m (with_own (put_data term seg from entries v.own) v) task state
-  beside state task none (inl p) =
+  beside {state} none (inl p) =
       inl (record {
         rows = p.rows;
         some = p.some;
         none_logged = p.none_logged;
-        none_waits = under-data state.part.term
-            none ∙ p.none_waits;
+        none_waits = under-data state.part.term none ∙ p.none_waits;
         unowned = p.unowned;
       })
-  beside state task none (inr p) = inr (record {
+  beside {state} none (inr p) = inr (record {
     rows = p.rows;
     entries = p.entries;
     came = p.came;
@@ -76,12 +75,12 @@ module _ (sent : List Message) (m : ServerId) (v : PartView) (good : GoodParts s
         among = q.among;
         part_is = q.part_is;
         attempt_is = q.attempt_is;
-        how = beside state q.task (none p.beside) q.how;
+        how = beside (none p.beside) q.how;
       }
     where
       none : (state.part.term ≡ term → ⊥) ⊎ (replay_in term seg from entries v.own.parts ≡ []) →
           under state.part.term (replay_in term seg from entries v.own.parts) ≡ []
-      none (inl differs) = under-none state.part.term (replay_in term seg from entries v.own.parts)
+      none (inl differs) = under-none (replay_in term seg from entries v.own.parts)
           (λ x at same. differs (sym same ∙ (replay-term term seg from entries v.own.parts x at).0))
       none (inr empty) = ap (under state.part.term) empty
 
@@ -104,17 +103,15 @@ module _ (sent : List Message) (m : ServerId) (v : PartView) (good : GoodParts s
       rows_now = with_row seg from entries state.rows
 
       rows : SomeCame sent m state.part.term (rows_of_task task) rows_now
-      rows = some-with_row sent m state.part.term seg from entries (rows_of_task task) state.rows
-          (subst (λ t. HasSent sent m from t seg entries) (sym (awaits-term term seg from state awaited)) was) p.rows
+      rows = some-with_row (rows_of_task task) state.rows
+          (subst (λ t. HasSent sent m from t seg entries) (sym (awaits-term seg from state awaited)) was) p.rows
 
-      joins : (b : Bool) → all_came rows_now ≡ b →
-          replay_in term seg from entries v.own.parts ≡ cond b
+      joins : (b : Bool) → all_came rows_now ≡ b → replay_in term seg from entries v.own.parts ≡ cond b
           (map (under_term state.part.term) (entries_that_came rows_now)) []
       joins b e = replay_is ∙ ap (λ c. cond c (map (under_term state.part.term) (entries_that_came rows_now)) []) e
 
       by : (b : Bool) → all_came rows_now ≡ b → How (joined (part_with_row seg from entries state))
-      by true e =
-          subst How (sym (ap (λ c. cond c
+      by true e = subst How (sym (ap (λ c. cond c
           (record (part_with_row seg from entries state) { rows = []; size = length (entries_that_came rows_now) })
           (part_with_row seg from entries state)) e))
           (inr (record {
@@ -126,12 +123,10 @@ module _ (sent : List Message) (m : ServerId) (v : PartView) (good : GoodParts s
                 ap (λ l. l ++ under state.part.term (v.own.replay ++ replay_in term seg from entries v.own.parts)) p.none_logged
                 ∙ under-append state.part.term v.own.replay (replay_in term seg from entries v.own.parts)
                 ∙ ap (λ l. l ++ under state.part.term (replay_in term seg from entries v.own.parts)) p.none_waits
-                ∙ ap (under state.part.term) (joins true e)
-                ∙ under-all state.part.term (entries_that_came rows_now);
+                ∙ ap (under state.part.term) (joins true e) ∙ under-all state.part.term (entries_that_came rows_now);
             owned = λ owns. true_false (sym owns ∙ p.unowned);
           }))
-      by false e =
-          subst How (sym (ap (λ c. cond c
+      by false e = subst How (sym (ap (λ c. cond c
           (record (part_with_row seg from entries state) { rows = []; size = length (entries_that_came rows_now) })
           (part_with_row seg from entries state)) e))
           (inl (record {
@@ -142,9 +137,9 @@ module _ (sent : List Message) (m : ServerId) (v : PartView) (good : GoodParts s
             unowned = p.unowned;
           }))
 
-  taker : (now : PartState) → IsTaker term seg from entries v.own.parts (replay_in term seg from entries v.own.parts)
+  taker : {now : PartState} → IsTaker term seg from entries v.own.parts (replay_in term seg from entries v.own.parts)
       now → IsPart sent m (with_own (put_data term seg from entries v.own) v) now
-  taker now p =
+  taker {now} p =
       let q = good.parts_are p.state p.among in
       let part : now.part ≡ p.state.part =
       ap (λ (one : PartState). one.part) p.now_is ∙ joined-part (part_with_row seg from entries p.state) in
@@ -157,12 +152,12 @@ module _ (sent : List Message) (m : ServerId) (v : PartView) (good : GoodParts s
       }
 
   -- a client's entry has all of its part before it
-  client_after : (before : List LogPlace) (entry : Entry) → IsClients v before entry → (now : PartState) →
+  client_after : {before : List LogPlace} {entry : Entry} → IsClients v before entry → {now : PartState} →
       IsOther term v.own.parts (replay_in term seg from entries v.own.parts) now ⊎ IsTaker term seg from entries
       v.own.parts (replay_in term seg from entries v.own.parts) now →
       now.part.term ≡ entry.term → (now.rows ≡ []) × (now.size ≤ count_under entry.term (logged before))
-  client_after before entry p now (inl q) same = p.after now q.among same
-  client_after before entry p now (inr q) same =
+  client_after p {now} (inl q) same = p.after now q.among same
+  client_after p {now} (inr q) same =
       let part : now.part ≡ q.state.part =
       ap (λ (one : PartState). one.part) q.now_is ∙ joined-part (part_with_row seg from entries q.state) in
       absurd (awaits-some term seg from q.state q.awaited (p.after q.state q.among (ap (λ (one : Part). one.term) (sym part) ∙ same)).0)
@@ -193,8 +188,7 @@ module _ (sent : List Message) (m : ServerId) (v : PartView) (good : GoodParts s
           term_is = p.term_is;
           holds = p.holds;
           rises = p.rises;
-          after = λ now at same. client_after before place.entry p now
-              (data-cases term seg from entries v.own.parts now good.differ at) same;
+          after = λ now at same. client_after p (data-cases term seg from entries v.own.parts now good.differ at) same;
         });
   }
     where
@@ -202,7 +196,7 @@ module _ (sent : List Message) (m : ServerId) (v : PartView) (good : GoodParts s
           IsTaker term seg from entries v.own.parts (replay_in term seg from entries v.own.parts) now →
           IsPart sent m (with_own (put_data term seg from entries v.own) v) now
       parts now (inl p) = other now p
-      parts now (inr p) = taker now p
+      parts now (inr p) = taker p
 
       waits : (entry : Entry) → In entry v.own.replay ⊎ In entry (replay_in term seg from entries v.own.parts) →
           has_part v.own entry.term ≡ true
@@ -295,9 +289,8 @@ module _ (sent : List Message) (m : ServerId) (v : PartView) (good : GoodParts s
           count-take state.part.term v.durable (logged v.places) in
           let long : length base ≡ length p.entries = length-map p.entries (under_term state.part.term) in
           let size : state.size ≡ length p.entries = p.size in
-          let all = nothing-more base (under state.part.term (logged v.places)) (under state.part.term v.own.replay)
-          (p.fresh unowned) (omega arith) in
-          (subst (Begins base) (sym all.1) (begins-refl base), all.0, durable)
+          let all = nothing-more (under state.part.term v.own.replay) (p.fresh unowned) (omega arith) in
+          (subst (Begins base) (sym all.1) (begins-refl), all.0, durable)
 
       by : (b : Bool) → owns_term v.own state.part.term ≡ b → (c : Bool) → nat_eq granted.term state.part.term ≡ c →
           (owns_term v.own state.part.term || nat_eq granted.term state.part.term) ≡ true → Owned
@@ -347,14 +340,14 @@ attempt-stays term (first ∷ tasks) new task at e = by (nat_eq first.part.term 
     by false is (inl same) rec = true_false (sym (eq-eqb first.part.term term (ap (λ (one : Task). one.part.term) (sym same) ∙ e)) ∙ is)
     by false is (inr rest) rec = rec rest e
 
-attempt-new : (term : ℕ) (tasks : List Task) (new : Task) →
+attempt-new : {term : ℕ} (tasks : List Task) (new : Task) →
     ((task : Task) → In task tasks → task.part.term ≡ term → ⊥) → new.part.term ≡ term →
     attempt_of term (tasks ++ new ∷ []) ≡ new.attempt
-attempt-new term [] new none e = ap (λ b. cond b new.attempt 0) (eq-eqb new.part.term term e)
-attempt-new term (first ∷ tasks) new none e =
+attempt-new {term} [] new none e = ap (λ b. cond b new.attempt 0) (eq-eqb new.part.term term e)
+attempt-new {term} (first ∷ tasks) new none e =
     either (λ n. n ≡ new.attempt) (nat_eq first.part.term term) first.attempt (attempt_of term (tasks ++ new ∷ []))
     (λ is. absurd (none first (inl refl) (eqb-true first.part.term term is)))
-    (λ _. attempt-new term tasks new (λ task at. none task (inr at)) e)
+    (λ _. attempt-new tasks new (λ task at. none task (inr at)) e)
 
 -- rows that nothing has come of
 abbrev NoneCame : List PartRow → Type 0
@@ -362,8 +355,7 @@ NoneCame rows = (row : PartRow) → In row rows → row.came ≡ None
 
 In-insert : (row new : PartRow) (rows : List PartRow) → In row (insert_row new rows) → (row ≡ new) ⊎ In row rows
 In-insert row new [] at = at
-In-insert row new (other ∷ rows) at =
-    either (λ (l : List PartRow). In row l → (row ≡ new) ⊎ In row (other ∷ rows))
+In-insert row new (other ∷ rows) at = either (λ (l : List PartRow). In row l → (row ≡ new) ⊎ In row (other ∷ rows))
     (Rattle.std.specs.Prelude.nat_lt other.seg new.seg) (other ∷ insert_row new rows) (new ∷ other ∷ rows)
     (λ _ now. further (In-insert row new rows) now) (λ _ now. now) at
   where
@@ -406,8 +398,7 @@ module _ (sent : List Message) (m : ServerId) (v : PartView) (good : GoodParts s
   begun = record v {
     own = record v.own
         { parts = v.own.parts ++ new_part task.part (map (λ row. (row.seg, row.holder)) task.rows) ∷ [] };
-    tasks =
-        v.tasks ++ task ∷ [];
+    tasks = v.tasks ++ task ∷ [];
   }
 
   tests : (has_part v.own task.part.term ≡ false) × (owns_term v.own task.part.term ≡ false)
@@ -418,15 +409,14 @@ module _ (sent : List Message) (m : ServerId) (v : PartView) (good : GoodParts s
 
   no-entry : (entries : List Entry) → ((entry : Entry) → In entry entries → knows_term v.own entry.term ≡ true) →
       under task.part.term entries ≡ []
-  no-entry entries known = under-none task.part.term entries (λ x at e. true_false (sym (known x at) ∙ (ap (knows_term v.own) e ∙ unknown)))
+  no-entry entries known = under-none entries (λ x at e. true_false (sym (known x at) ∙ (ap (knows_term v.own) e ∙ unknown)))
 
   has-more : (term : ℕ) (states : List PartState) → has_term term states ≡ true →
       has_term term (states ++ new_part task.part (map (λ row. (row.seg, row.holder)) task.rows) ∷ []) ≡ true
   has-more term [] e = true_false (sym e)
   has-more term (state ∷ states) e = by (nat_eq state.part.term term) e (has-more term states)
     where
-      by : (b : Bool) → (b || has_term term states) ≡ true →
-          (has_term term states ≡ true →
+      by : (b : Bool) → (b || has_term term states) ≡ true → (has_term term states ≡ true →
           has_term term (states ++ new_part task.part (map (λ row. (row.seg, row.holder)) task.rows) ∷ []) ≡ true) →
           (b || has_term term (states ++ new_part task.part (map (λ row. (row.seg, row.holder)) task.rows) ∷ [])) ≡ true
       by true p rec = refl
@@ -446,9 +436,9 @@ module _ (sent : List Message) (m : ServerId) (v : PartView) (good : GoodParts s
       by true has p = or_left (has_part begun.own term) (owns_term v.own term) (has-more term v.own.parts has)
       by false has p = or_right (has_part begun.own term) (owns_term v.own term) p
 
-  how-begun : (state : PartState) (one : Task) → IsWaiting sent m v one state ⊎ HasJoined sent m v one state →
+  how-begun : {state : PartState} {one : Task} → IsWaiting sent m v one state ⊎ HasJoined sent m v one state →
       IsWaiting sent m begun one state ⊎ HasJoined sent m begun one state
-  how-begun state one (inl p) =
+  how-begun (inl p) =
       inl (record {
         rows = p.rows;
         some = p.some;
@@ -456,7 +446,7 @@ module _ (sent : List Message) (m : ServerId) (v : PartView) (good : GoodParts s
         none_waits = p.none_waits;
         unowned = p.unowned;
       })
-  how-begun state one (inr p) =
+  how-begun (inr p) =
       inr (record {
         rows = p.rows;
         entries = p.entries;
@@ -526,13 +516,13 @@ module _ (sent : List Message) (m : ServerId) (v : PartView) (good : GoodParts s
             among = In-left p.task v.tasks (task ∷ []) p.among;
             part_is = p.part_is;
             attempt_is = attempt-stays state.part.term v.tasks task p.task p.among (ap (λ (one : Part). one.term) p.part_is) ∙ p.attempt_is;
-            how = how-begun state p.task p.how;
+            how = how-begun p.how;
           })
       part state (inr (inl same)) = subst (IsPart sent m begun) (sym same) (record {
         task = task;
         among = In-right task v.tasks (task ∷ []) (inl refl);
         part_is = refl;
-        attempt_is = attempt-new task.part.term v.tasks task no-task refl;
+        attempt_is = attempt-new v.tasks task no-task refl;
         how = how-new (rows_of_task task) refl;
       })
       part state (inr (inr never)) = absurd never
@@ -549,9 +539,9 @@ module _ (sent : List Message) (m : ServerId) (v : PartView) (good : GoodParts s
 
 -- The end of a part is told
 
-pub good-answered : (sent : List Message) (m : ServerId) (v : PartView) (durable : List Entry) → GoodParts sent m v →
+pub good-answered : {sent : List Message} {m : ServerId} {v : PartView} (durable : List Entry) → GoodParts sent m v →
     GoodParts sent m (with_own (after_answer durable v.own) v)
-good-answered sent m v durable good = record {
+good-answered {sent} {m} {v} durable good = record {
   granted = good.granted;
   planned = good.planned;
   task_known = λ task at. has_term-same task.part.term v.own.parts (answered_in durable v.own.parts)
@@ -595,8 +585,7 @@ good-answered sent m v durable good = record {
 
     -- by the part, the rows and the size alone
     like : (task : Task) (old now : PartState) → SameState old now → How task old → How task now
-    like task old now same p =
-        subst (λ (part : Part). How task
+    like task old now same p = subst (λ (part : Part). How task
         (record { part = part; rows = now.rows; size = now.size; answered = now.answered })) (sym same.part)
         (subst (λ rows. How task (record { part = old.part; rows = rows; size = now.size; answered = now.answered })) (sym same.rows)
         (subst (λ size. How task (record { part = old.part; rows = old.rows; size = size; answered = now.answered }))

@@ -49,8 +49,7 @@ In-taken (suc n) (y ∷ xs) (suc k) x less e = inr (In-taken n xs k x (omega ari
 
 range-holds : (part : Part) (entry : Entry) → entry.term ≡ part.previous →
     in_range part.range entry.table entry.key ≡ true → is_in_part part entry ≡ true
-range-holds part entry e holds =
-    and_from (nat_eq entry.term part.previous) _ (eq-eqb entry.term part.previous e) holds
+range-holds part entry e holds = and_from (nat_eq entry.term part.previous) _ (eq-eqb entry.term part.previous e) holds
 
 -- Grants that were sent
 
@@ -115,9 +114,9 @@ has-of k = record {
 }
 
 -- at a safe place it has the entry itself
-pub has-itself : {Freed : Type 0} (sent : List Message) (m : ServerId) (log : Log) (s o : ℕ) (entry : Entry) →
+pub has-itself : {Freed : Type 0} {sent : List Message} {m : ServerId} {log : Log} {s o : ℕ} {entry : Entry} →
     IsSafe sent m log s o → slice_get (log_in log s) o ≡ Some entry → Has Freed sent m log entry.term entry
-has-itself sent m log s o entry safe holds = record {
+has-itself {s} {o} {entry} safe holds = record {
   seg = s;
   offset = o;
   entry = entry;
@@ -168,9 +167,9 @@ module _ (sent : List Message) (masters : ServerId → Master) (hosts : ℕ → 
       pub keeps : IsKeptBy Freed was entry
 
     -- so its owner has that version
-    pub starts-keeps : (grant : Grant) (was : Entry) → StartsWith grant was →
+    pub starts-keeps : {grant : Grant} {was : Entry} → StartsWith grant was →
         Keeps Freed sent grant.owner (masters grant.owner).log grant.term was
-    starts-keeps grant was p =
+    starts-keeps {grant} p =
         let s : IsStarted sent masters hosts c all grant p.given = started sent masters hosts c all grant p.given in
         let found = In-map (under_term s.state.part.term) p.entry s.joined.entries p.among in
         record {
@@ -183,9 +182,9 @@ module _ (sent : List Message) (masters : ServerId → Master) (hosts : ℕ → 
     -- The handover
 
     -- what the master before has at a safe place of the range, the base has in this or a greater version
-    pub hands-over : (grant : Grant) (given : IsGivenBy sent c grant) (was : Entry) → in_range grant.range was.table was.key ≡ true →
+    pub hands-over : {grant : Grant} (given : IsGivenBy sent c grant) {was : Entry} → in_range grant.range was.table was.key ≡ true →
         Has Freed sent given.master (masters given.master).log grant.previous was → StartsWith grant was
-    hands-over grant given was holds has = record {
+    hands-over {grant} given {was} holds has = record {
       given = given;
       entry = under_term T there.other;
       among = map-In (under_term T) there.other s.joined.entries (came.among there.other (subst (In there.other) (sym cut.0) in_cut));
@@ -205,9 +204,7 @@ module _ (sent : List Message) (masters : ServerId → Master) (hosts : ℕ → 
         has_it = subst (λ m. Has Freed sent m (masters m).log grant.previous was) (sym s.master_is) has
 
         kept : IsKeptIn Freed s.task.master (masters s.task.master).log s.task.rows has_it.seg has_it.offset has_it.entry
-        kept = covers_it s.task.master s.task.rows
-            (accepted-is sent masters hosts c all.good
-            (record { attempt = s.task.attempt; master = s.task.master; rows = s.task.rows }) of_task.accepted)
+        kept = covers_it s.task.master s.task.rows (accepted-is all.good of_task.accepted)
             has_it.seg has_it.offset has_it.entry has_it.safe has_it.holds
 
         there : IsCovered s.task.master (masters s.task.master).log s.task.rows has_it.seg has_it.offset has_it.entry
@@ -280,9 +277,9 @@ module _ (sent : List Message) (masters : ServerId → Master) (hosts : ℕ → 
     OwnersHave term was = (old : Grant) → In old c.grants → old.term ≡ term → Has Freed sent old.owner (masters old.owner).log term was
 
     -- over one grant, from its previous term
-    step-over : (grant : Grant) (was : Entry) → In grant c.grants → in_range grant.range was.table was.key ≡ true →
+    step-over : (grant : Grant) {was : Entry} → In grant c.grants → in_range grant.range was.table was.key ≡ true →
         0 < grant.previous → OwnersHave grant.previous was → GoesTo grant.term was
-    step-over grant was among holds above has = by (all.terms.origin grant among)
+    step-over grant {was} among holds above has = by (all.terms.origin grant among)
       where
         by : ((grant.attempt ≡ 0) × (grant.previous ≡ 0)) ⊎ IsGivenBy sent c grant → GoesTo grant.term was
         by (inl created) = let none : grant.previous ≡ 0 = created.1 in absurd (omega arith)
@@ -293,47 +290,47 @@ module _ (sent : List Message) (masters : ServerId → Master) (hosts : ℕ → 
               among = among;
               term_is = refl;
               holds = holds;
-              starts = hands-over grant given was holds
+              starts = hands-over given holds
                   (subst (λ m. Has Freed sent m (masters m).log grant.previous was) before.owner_is
                   (has before.grant before.among before.term_is));
             }
 
     -- a grant of the point among those that were sent
-    pub at-point : (table key : ℕ) (k : ℕ) (one : Granted) → slice_get (grants_of sent table key) k ≡ Some one →
+    pub at-point : (table key : ℕ) (k : ℕ) {one : Granted} → slice_get (grants_of sent table key) k ≡ Some one →
         (grant : Grant) × (In grant c.grants) × (one ≡ granted_of grant) × (in_range grant.range table key ≡ true)
-    at-point table key k one e =
+    at-point table key k {one} e =
         let was = In-filter (covers table key) one (granted sent) (In-get (grants_of sent table key) k one e) in
         let r : IsRemembered c one = remembered c sent all.kept.known one was.0 in
         (r.grant, r.among, r.is, ap (covers table key) (sym r.is) ∙ was.1)
 
-    pub goes-on : (was : Entry) (earlier later : ℕ) → IsBefore (grants_of sent was.table was.key) earlier later →
+    pub goes-on : {was : Entry} {earlier later : ℕ} → IsBefore (grants_of sent was.table was.key) earlier later →
         0 < earlier → OwnersHave earlier was → GoesTo later was
-    goes-on was earlier later (previous k one e) above has =
-        let p = at-point was.table was.key k one e in
+    goes-on {was} (previous k one e) above has =
+        let p = at-point was.table was.key k e in
         let before : one.previous ≡ p.0.previous = ap (λ (g : Granted). g.previous) p.2 in
         subst (λ n. GoesTo n was) (ap (λ (g : Granted). g.term) (sym p.2))
-        (step-over p.0 was p.1 p.3 (subst (λ n. 0 < n) before above) (subst (λ n. OwnersHave n was) before has))
-    goes-on was earlier later (onward from k one e way) above has =
-        let rest : GoesTo one.previous was = goes-on was earlier one.previous way above has in
-        let p = at-point was.table was.key k one e in
+        (step-over p.0 p.1 p.3 (subst (λ n. 0 < n) before above) (subst (λ n. OwnersHave n was) before has))
+    goes-on {was} (onward from k one e way) above has =
+        let rest : GoesTo one.previous was = goes-on way above has in
+        let p = at-point was.table was.key k e in
         let before : one.previous ≡ p.0.previous = ap (λ (g : Granted). g.previous) p.2 in
         let over : 0 < one.previous = subst (λ n. 0 < n) rest.term_is (all.terms.issued rest.grant rest.among).0 in
         subst (λ n. GoesTo n was) (ap (λ (g : Granted). g.term) (sym p.2))
-        (step-over p.0 was p.1 p.3 (subst (λ n. 0 < n) before over) (subst (λ n. OwnersHave n was) before (owners rest)))
+        (step-over p.0 p.1 p.3 (subst (λ n. 0 < n) before over) (subst (λ n. OwnersHave n was) before (owners rest)))
       where
         owners : GoesTo one.previous was → OwnersHave one.previous was
         owners rest old among same =
             let is : rest.grant ≡ old = all.terms.grant_once rest.grant old rest.among among (rest.term_is ∙ sym same) in
             subst (λ (g : Grant). Has Freed sent g.owner (masters g.owner).log one.previous was) is
             (subst (λ n. Has Freed sent rest.grant.owner (masters rest.grant.owner).log n was) rest.term_is
-            (has-of (starts-keeps rest.grant was rest.starts)))
+            (has-of (starts-keeps rest.starts)))
 
     -- A client's entry comes after the base, with a greater version
-    pub above-base : (grant : Grant) (was : Entry) → StartsWith grant was → (before after : List LogPlace) (place : LogPlace) →
+    pub above-base : {grant : Grant} {was : Entry} → StartsWith grant was → (before after : List LogPlace) (place : LogPlace) →
         places_of (masters grant.owner).log ≡ before ++ place ∷ after → place.client ≡ true →
         place.entry.term ≡ grant.term → place.entry.table ≡ was.table → place.entry.key ≡ was.key →
         was.version < place.entry.version
-    above-base grant was p before after place whole client term_is table_is key_is = above p.keeps.kept
+    above-base {grant} {was} p before after place whole client term_is table_is key_is = above p.keeps.kept
       where
         s : IsStarted sent masters hosts c all grant p.given
         s = started sent masters hosts c all grant p.given
@@ -362,8 +359,7 @@ module _ (sent : List Message) (masters : ServerId → Master) (hosts : ℕ → 
 
         taken : Begins base (under T logged_all)
         taken = subst (Begins base) (sym (under-append T (take d logged_all) (drop d logged_all)) ∙
-            ap (under T) (take-append-drop d logged_all))
-            (begins-more base (under T (take d logged_all)) (under T (drop d logged_all))
+            ap (under T) (take-append-drop d logged_all)) (begins-more base (under T (drop d logged_all))
             (joined-begins sent masters hosts c all grant.owner s.task s.state s.joined s.durable))
           where
             d : ℕ
@@ -392,23 +388,22 @@ module _ (sent : List Message) (masters : ServerId → Master) (hosts : ℕ → 
     pub write : IsWriteOk sent m (masters m).log ack.seg ack.offset ack.term ack.table ack.key ack.version
     pub written : HasWritten (part_view (masters m)) ack.seg ack.offset ack.term ack.table ack.key ack.version
 
-  pub acked : (m : ServerId) (ack : Ack) → HasAcknowledged sent m ack → IsAcked m ack
-  acked m ack was = record {
-    write = acknowledged-is sent masters hosts c all.good m ack was;
+  pub acked : {m : ServerId} {ack : Ack} → HasAcknowledged sent m ack → IsAcked m ack
+  acked {m} was = record {
+    write = acknowledged-is all.good was;
     written = subst (parts_fine masters (Server m) was.message.to) was.says
         (subst (λ (from : Addr). parts_fine masters from was.message.to was.message.body) was.from (all.parts.said was.message was.among));
   }
 
   -- a master has sent it
-  pub acknowledger : (ack : Ack) → WasAcknowledged sent ack → (m : ServerId) × HasAcknowledged sent m ack
-  acknowledger ack was = by was.message.from refl
+  pub acknowledger : {ack : Ack} → WasAcknowledged sent ack → (m : ServerId) × HasAcknowledged sent m ack
+  acknowledger {ack} was = by was.message.from refl
       (subst (λ (says : Body). body_fine sent masters hosts c was.message.from was.message.to says) was.says
       (all.good.messages was.message was.among))
     where
       by : (from : Addr) → was.message.from ≡ from →
           body_fine sent masters hosts c from was.message.to (body.WriteOk ack.seg ack.offset ack.term ack.table ack.key
-          ack.version) →
-          (m : ServerId) × HasAcknowledged sent m ack
+          ack.version) → (m : ServerId) × HasAcknowledged sent m ack
       by (Server m) e write = (m, record { message = was.message; among = was.among; from = e; says = was.says })
       by AtCoordinator e write = absurd write
       by Outside e write = absurd write
@@ -435,9 +430,7 @@ module _ (sent : List Message) (masters : ServerId → Master) (hosts : ℕ → 
       was = (all.parts.each m).granted granted at
 
       own : IsOwn c (Server m) (body.Own granted.range granted.term was.previous was.attempt)
-      own = subst (λ (to : Addr).
-          own_said c to (body.Own granted.range granted.term was.previous
-          was.attempt)) was.to
+      own = subst (λ (to : Addr). own_said c to (body.Own granted.range granted.term was.previous was.attempt)) was.to
           (subst (own_said c was.message.to) was.says (all.kept.known was.message was.among))
 
       owner : ◌≡◌ {A = Addr} (Server m) (Server own.grant.owner) → m ≡ own.grant.owner
@@ -453,21 +446,20 @@ module _ (sent : List Message) (masters : ServerId → Master) (hosts : ℕ → 
 
   -- Versions rise
 
-  pub written-at : (m : ServerId) (ack : Ack) (is : IsAcked m ack) → Stands is.written.place (places_of (masters m).log)
-  written-at m ack is = stands is.written.place (places_of (masters m).log) is.written.among
+  pub written-at : {m : ServerId} {ack : Ack} (is : IsAcked m ack) → Stands is.written.place (places_of (masters m).log)
+  written-at {m} is = stands is.written.place (places_of (masters m).log) is.written.among
 
-  pub clients : (m : ServerId) (ack : Ack) (is : IsAcked m ack) →
-      IsClients (part_view (masters m)) (written-at m ack is).before is.written.place.entry
-  clients m ack is = (all.parts.each m).clients (written-at m ack is).before (written-at m ack is).after
-      is.written.place (written-at m ack is).whole is.written.client
+  pub clients : {m : ServerId} {ack : Ack} (is : IsAcked m ack) →
+      IsClients (part_view (masters m)) (written-at is).before is.written.place.entry
+  clients {m} is = (all.parts.each m).clients (written-at is).before (written-at is).after
+      is.written.place (written-at is).whole is.written.client
 
   pub owner : (m : ServerId) (ack : Ack) (is : IsAcked m ack) → IsOwned m ack.term ack.table ack.key
-  owner m ack is =
-      subst (λ k. IsOwned m ack.term ack.table k) is.written.key_is
+  owner m ack is = subst (λ k. IsOwned m ack.term ack.table k) is.written.key_is
       (subst (λ t. IsOwned m ack.term t is.written.place.entry.key) is.written.table_is
-      (subst (λ n. IsOwned m n is.written.place.entry.table is.written.place.entry.key) ((clients m ack is).term_is ∙ is.written.term_is)
-      (owned m (clients m ack is).grant is.written.place.entry.table is.written.place.entry.key (clients m ack is).among
-      (clients m ack is).holds)))
+      (subst (λ n. IsOwned m n is.written.place.entry.table is.written.place.entry.key) ((clients is).term_is ∙ is.written.term_is)
+      (owned m (clients is).grant is.written.place.entry.table is.written.place.entry.key (clients is).among
+      (clients is).holds)))
 
   module _ (x m : ServerId) (later earlier : Ack) (p : IsAcked x later) (q : IsAcked m earlier)
       (tables : earlier.table ≡ later.table) (keys : earlier.key ≡ later.key)
@@ -482,11 +474,10 @@ module _ (sent : List Message) (masters : ServerId → Master) (hosts : ℕ → 
     has : Has MayFree sent old.grant.owner (masters old.grant.owner).log earlier.term q.write.entry
     has = subst (λ k. Has MayFree sent k (masters k).log earlier.term q.write.entry) old.owner_is
         (subst (λ n. Has MayFree sent m (masters m).log n q.write.entry) q.write.term_is
-        (has-itself sent m (masters m).log earlier.seg earlier.offset q.write.entry q.write.safe q.write.holds))
+        (has-itself q.write.safe q.write.holds))
 
     goes : GoesTo MayFree covers-anyhow later.term q.write.entry
-    goes = goes-on MayFree covers-anyhow q.write.entry earlier.term later.term way
-        (subst (λ n. 0 < n) old.term_is (all.terms.issued old.grant old.among).0)
+    goes = goes-on MayFree covers-anyhow way (subst (λ n. 0 < n) old.term_is (all.terms.issued old.grant old.among).0)
         (λ one among same. subst (λ (g : Grant). Has MayFree sent g.owner (masters g.owner).log earlier.term q.write.entry)
         (all.terms.grant_once old.grant one old.among among (old.term_is ∙ sym same)) has)
 
@@ -500,17 +491,17 @@ module _ (sent : List Message) (masters : ServerId → Master) (hosts : ℕ → 
 
     pub rises : earlier.version < later.version
     rises =
-        let at : Stands p.written.place (places_of (masters x).log) = written-at x later p in
+        let at : Stands p.written.place (places_of (masters x).log) = written-at p in
         let whole : places_of (masters goes.grant.owner).log ≡ at.before ++ p.written.place ∷ at.after =
         ap (λ m. places_of (masters m).log) (sym same_owner) ∙ at.whole in
         let less : q.write.entry.version < p.written.place.entry.version =
-        above-base MayFree covers-anyhow goes.grant q.write.entry goes.starts at.before at.after p.written.place whole p.written.client
+        above-base MayFree covers-anyhow goes.starts at.before at.after p.written.place whole p.written.client
         (p.written.term_is ∙ sym goes.term_is) (p.written.table_is ∙ sym (q.write.table_is ∙ tables))
         (p.written.key_is ∙ sym (q.write.key_is ∙ keys)) in
         subst (λ n. n < later.version) q.write.version_is (subst (λ n. q.write.entry.version < n) p.written.version_is less)
 
   pub versions-rise : VersionsRise sent
   versions-rise later p earlier q tables keys before =
-      let x : (x : ServerId) × HasAcknowledged sent x later = acknowledger later p in
-      let m : (m : ServerId) × HasAcknowledged sent m earlier = acknowledger earlier q in
-      rises x.0 m.0 later earlier (acked x.0 later x.1) (acked m.0 earlier m.1) tables keys before
+      let x : (x : ServerId) × HasAcknowledged sent x later = acknowledger p in
+      let m : (m : ServerId) × HasAcknowledged sent m earlier = acknowledger q in
+      rises x.0 m.0 later earlier (acked x.1) (acked m.1) tables keys before

@@ -16,9 +16,9 @@ abbrev pub segs_of : List PlanRow → List ℕ
 segs_of rows = map (λ row. row.seg) rows
 
 -- a picked plan's rows ascend
-pub rows-ascend : (least : Pair) (replies : List (ServerId × List Row)) (plan : Plan) → pick least replies ≡ Ok plan →
+pub rows-ascend : (least : Pair) (replies : List (ServerId × List Row)) {plan : Plan} → pick least replies ≡ Ok plan →
     IsAscending (segs_of plan.rows)
-rows-ascend least replies plan e =
+rows-ascend least replies {plan} e =
     let is : IsPickable least replies plan = pickable-from_picked least replies plan e in
     subst IsAscending (sym (segs-taken least replies is.head (ascending is.head.row.digest) plan.rows is.taken))
     (IsAscending-ascending is.head.row.digest)
@@ -83,6 +83,5 @@ came-for sent m term (first ∷ rows) row entries came (inr rest) =
     record {
       first = p.first;
       was = p.was;
-      among = λ entry there. subst (In entry) (sym came.4)
-          (In-right entry came.0 came.1 (p.among entry there));
+      among = λ entry there. subst (In entry) (sym came.4) (In-right entry came.0 came.1 (p.among entry there));
     }

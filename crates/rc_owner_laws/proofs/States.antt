@@ -79,10 +79,10 @@ none-without term (state ∷ states) e = by (nat_eq state.part.term term) refl (
     by true is rec never = true_false never
     by false is rec rest = (λ same. true_false (sym (eq-eqb state.part.term term same) ∙ is), rec rest)
 
-none-append : (term : ℕ) (states : List PartState) (new : PartState) → NoneUnder term states →
+none-append : {term : ℕ} (states : List PartState) (new : PartState) → NoneUnder term states →
     (new.part.term ≡ term → ⊥) → NoneUnder term (states ++ new ∷ [])
-none-append term [] new none differs = (differs, tt)
-none-append term (state ∷ states) new none differs = (none.0, none-append term states new none.1 differs)
+none-append [] new none differs = (differs, tt)
+none-append (state ∷ states) new none differs = (none.0, none-append states new none.1 differs)
 
 pub differ-append : (states : List PartState) (new : PartState) → TermsDiffer states →
     has_term new.part.term states ≡ false → TermsDiffer (states ++ new ∷ [])
@@ -90,7 +90,7 @@ differ-append states new differ without = by states differ (none-without new.par
   where
     by : (some : List PartState) → TermsDiffer some → NoneUnder new.part.term some → TermsDiffer (some ++ new ∷ [])
     by [] p none = (tt, tt)
-    by (state ∷ some) p none = (none-append state.part.term some new p.0 (λ e. none.0 (sym e)), by some p.1 none.1)
+    by (state ∷ some) p none = (none-append some new p.0 (λ e. none.0 (sym e)), by some p.1 none.1)
 
 -- A row comes
 
@@ -100,8 +100,8 @@ awaits-some term seg from state e none =
     true_false (sym (and_parts (nat_eq state.part.term term) (list_any (is_awaited seg from) state.rows) e).1 ∙
     ap (λ (rows : List PartRow). list_any (is_awaited seg from) rows) none)
 
-pub awaits-term : (term seg : ℕ) (from : ServerId) (state : PartState) → awaits term seg from state ≡ true → state.part.term ≡ term
-awaits-term term seg from state e = eqb-true state.part.term term
+pub awaits-term : {term : ℕ} (seg : ℕ) (from : ServerId) (state : PartState) → awaits term seg from state ≡ true → state.part.term ≡ term
+awaits-term {term} seg from state e = eqb-true state.part.term term
     (and_parts (nat_eq state.part.term term) (list_any (is_awaited seg from) state.rows) e).0
 
 pub joined-part : (state : PartState) → (joined state).part ≡ state.part
@@ -111,8 +111,7 @@ joined-part state = either (λ (now : PartState). now.part ≡ state.part) (all_
 pub same-data : (term seg : ℕ) (from : ServerId) (entries : List Entry) (states : List PartState) →
     SameParts states (data_in term seg from entries states)
 same-data term seg from entries [] = tt
-same-data term seg from entries (state ∷ states) =
-    either (SameParts (state ∷ states)) (awaits term seg from state)
+same-data term seg from entries (state ∷ states) = either (SameParts (state ∷ states)) (awaits term seg from state)
     (joined (part_with_row seg from entries state) ∷ states) (state ∷ data_in term seg from entries states)
     (λ _. (joined-part (part_with_row seg from entries state), same-refl states)) (λ _. (refl, same-data term seg from entries states))
 
@@ -125,8 +124,7 @@ joining-term state entry at =
     ap (λ (one : Entry). one.term) found.2)) (λ _ never. absurd never) at
 
 pub replay-term : (term seg : ℕ) (from : ServerId) (entries : List Entry) (states : List PartState) (entry : Entry) →
-    In entry (replay_in term seg from entries states) →
-    (entry.term ≡ term) × (has_term term states ≡ true)
+    In entry (replay_in term seg from entries states) → (entry.term ≡ term) × (has_term term states ≡ true)
 replay-term term seg from entries [] entry at = absurd at
 replay-term term seg from entries (state ∷ states) entry at =
     by (awaits term seg from state) refl at (replay-term term seg from entries states entry)
@@ -136,10 +134,9 @@ replay-term term seg from entries (state ∷ states) entry at =
         (In entry (replay_in term seg from entries states) → (entry.term ≡ term) × (has_term term states ≡ true)) →
         (entry.term ≡ term) × ((nat_eq state.part.term term || has_term term states) ≡ true)
     by true is now rec =
-        let same : state.part.term ≡ term = awaits-term term seg from state is in (
+        let same : state.part.term ≡ term = awaits-term seg from state is in (
           joining-term (part_with_row seg from entries state) entry now ∙ same,
-          ap (λ b. b || has_term term states)
-              (eq-eqb state.part.term term same),
+          ap (λ b. b || has_term term states) (eq-eqb state.part.term term same),
         )
     by false is now rec = (let p = rec now in (p.0, or_right (nat_eq state.part.term term) (has_term term states) p.1))
 
@@ -162,7 +159,7 @@ no-replay term seg from entries [] none = refl
 no-replay term seg from entries (state ∷ states) none =
     either (λ (replay : List Entry). replay ≡ []) (awaits term seg from state)
     (joining (part_with_row seg from entries state)) (replay_in term seg from entries states)
-    (λ e. absurd (none.0 (awaits-term term seg from state e))) (λ _. no-replay term seg from entries states none.1)
+    (λ e. absurd (none.0 (awaits-term seg from state e))) (λ _. no-replay term seg from entries states none.1)
 
 pub data-cases : (term seg : ℕ) (from : ServerId) (entries : List Entry) (states : List PartState) (now : PartState) →
     TermsDiffer states → In now (data_in term seg from entries states) →
@@ -210,7 +207,7 @@ data-cases term seg from entries (state ∷ states) now differ at =
         inl (record {
           among = inr rest;
           beside = inl (λ e. none-In state.part.term states now differ.0 rest
-              (e ∙ sym (awaits-term term seg from state is)));
+              (e ∙ sym (awaits-term seg from state is)));
         })
     by false is (inl same) rec = first same (nat_eq state.part.term term) refl
     by false is (inr rest) rec = later (replay_in term seg from entries states) (rec rest)
@@ -236,23 +233,22 @@ data-stays term seg from entries (first ∷ states) state at none =
 
 -- Rows
 
-awaited-is : (seg : ℕ) (from : ServerId) (row : PartRow) → is_awaited seg from row ≡ true → (row.seg ≡ seg) × (row.holder ≡ from)
-awaited-is seg from row e =
+awaited-is : {seg : ℕ} {from : ServerId} (row : PartRow) → is_awaited seg from row ≡ true → (row.seg ≡ seg) × (row.holder ≡ from)
+awaited-is {seg} {from} row e =
     let both = and_parts (nat_eq row.seg seg) _ e in
     (eqb-true row.seg seg both.0, same_id-true row.holder from (and_parts (same_id row.holder from) _ both.1).0)
 
 -- the row that has come was sent
-pub some-with_row : (sent : List Message) (m : ServerId) (term seg : ℕ) (from : ServerId) (entries : List Entry)
+pub some-with_row : {sent : List Message} {m : ServerId} {term seg : ℕ} {from : ServerId} {entries : List Entry}
     (rows others : List PartRow) → HasSent sent m from term seg entries →
     SomeCame sent m term rows others → SomeCame sent m term rows (with_row seg from entries others)
-some-with_row sent m term seg from entries [] [] was p = tt
-some-with_row sent m term seg from entries [] (row ∷ others) was p = absurd p
-some-with_row sent m term seg from entries (first ∷ rows) [] was p = absurd p
-some-with_row sent m term seg from entries (first ∷ rows) (row ∷ others) was p =
+some-with_row [] [] was p = tt
+some-with_row [] (row ∷ others) was p = absurd p
+some-with_row (first ∷ rows) [] was p = absurd p
+some-with_row {sent} {m} {term} {seg} {from} {entries} (first ∷ rows) (row ∷ others) was p =
     either (SomeCame sent m term (first ∷ rows)) (is_awaited seg from row) (record row { came = Some entries } ∷ others)
-    (row ∷ with_row seg from entries others)
-    (λ e. (p.0, p.1, λ some came. now (awaited-is seg from row e) some came, p.3))
-    (λ _. (p.0, p.1, p.2, some-with_row sent m term seg from entries rows others was p.3))
+    (row ∷ with_row seg from entries others) (λ e. (p.0, p.1, λ some came. now (awaited-is row e) some came, p.3))
+    (λ _. (p.0, p.1, p.2, some-with_row rows others was p.3))
   where
     now : (row.seg ≡ seg) × (row.holder ≡ from) → (some : List Entry) → Some entries ≡ Some some →
         HasSent sent m row.holder term row.seg some
@@ -303,15 +299,14 @@ pub record SameState (old now : PartState) : Type 0 where
   pub rows : now.rows ≡ old.rows
   pub size : now.size ≡ old.size
 
-pub same-state : (state : PartState) → SameState state state
-same-state state = record { part = refl; rows = refl; size = refl }
+pub same-state : {state : PartState} → SameState state state
+same-state = record { part = refl; rows = refl; size = refl }
 
 pub same-answered : (durable : List Entry) (states : List PartState) → SameParts states (answered_in durable states)
 same-answered durable [] = tt
 same-answered durable (state ∷ states) =
     either (SameParts (state ∷ states)) (is_to_answer durable state) (record state { answered = true } ∷ states)
-    (state ∷ answered_in durable states)
-    (λ _. (refl, same-refl states)) (λ _. (refl, same-answered durable states))
+    (state ∷ answered_in durable states) (λ _. (refl, same-refl states)) (λ _. (refl, same-answered durable states))
 
 pub answered-was : (durable : List Entry) (states : List PartState) (now : PartState) →
     In now (answered_in durable states) → (old : PartState) × (In old states) × SameState old now
@@ -327,12 +322,12 @@ answered-was durable (state ∷ states) now at =
     marked : (now ≡ record state { answered = true }) ⊎ In now states →
         (old : PartState) × ((old ≡ state) ⊎ In old states) × SameState old now
     marked (inl e) = (state, inl refl, same (record state { answered = true }) (record { part = refl; rows = refl; size = refl }) e)
-    marked (inr rest) = (now, inr rest, same-state now)
+    marked (inr rest) = (now, inr rest, same-state)
 
     beside : (In now (answered_in durable states) → (old : PartState) × (In old states) × SameState old now) →
         (now ≡ state) ⊎ In now (answered_in durable states) → (old : PartState) × ((old ≡ state) ⊎ In old states) ×
         SameState old now
-    beside rec (inl e) = (now, inl e, same-state now)
+    beside rec (inl e) = (now, inl e, same-state)
     beside rec (inr rest) = (let p = rec rest in (p.0, inr p.1, p.2))
 
 pub was-answered : (durable : List Entry) (states : List PartState) (old : PartState) → In old states →
@@ -351,10 +346,10 @@ was-answered durable (state ∷ states) old at =
       subst (λ (one : PartState). SameState one (record state { answered = true })) (sym e)
           (record { part = refl; rows = refl; size = refl }),
     )
-    marked (inr rest) = (old, inr rest, same-state old)
+    marked (inr rest) = (old, inr rest, same-state)
 
     beside : (In old states → (now : PartState) × (In now (answered_in durable states)) × SameState old now) →
         (old ≡ state) ⊎ In old states → (now : PartState) × ((now ≡ state) ⊎ In now (answered_in durable states)) ×
         SameState old now
-    beside rec (inl e) = (old, inl e, same-state old)
+    beside rec (inl e) = (old, inl e, same-state)
     beside rec (inr rest) = (let p = rec rest in (p.0, inr p.1, p.2))

@@ -11,9 +11,9 @@ use Rattle.rc_model.proofs.Tests.{true_false, either}
 use Rattle.rc_step_laws.proofs.Copies.{split}
 
 -- a tablet that holds the point, before others, or the first of the others
-first-holds : (tablet : Tablet) (tablets : List Tablet) (table key : ℕ) → holds tablet table key ≡ true →
+first-holds : {tablet : Tablet} (tablets : List Tablet) (table key : ℕ) → holds tablet table key ≡ true →
     tablet_of (tablet ∷ tablets) table key ≡ Some tablet
-first-holds tablet tablets table key e = ap (λ b. cond b (Some tablet) (tablet_of tablets table key)) e
+first-holds {tablet} tablets table key e = ap (λ b. cond b (Some tablet) (tablet_of tablets table key)) e
 
 first-lacks : (tablet : Tablet) (tablets : List Tablet) (table key : ℕ) → holds tablet table key ≡ false →
     tablet_of (tablet ∷ tablets) table key ≡ tablet_of tablets table key
@@ -36,10 +36,9 @@ mark-holds owner tablet table key = either (λ (now : Tablet). holds now table k
 pub marked-tablet : (owner : ServerId) (tablets : List Tablet) (table key : ℕ) →
     tablet_of (marked_crashed owner tablets) table key ≡ option_map (mark_if_owned owner) (tablet_of tablets table key)
 marked-tablet owner [] table key = refl
-marked-tablet owner (tablet ∷ tablets) table key =
-    split (holds tablet table key)
-    (λ e. first-holds (mark_if_owned owner tablet) (marked_crashed owner tablets) table key (mark-holds owner tablet table key ∙ e)
-    ∙ sym (ap (option_map (mark_if_owned owner)) (first-holds tablet tablets table key e)))
+marked-tablet owner (tablet ∷ tablets) table key = split (holds tablet table key)
+    (λ e. first-holds (marked_crashed owner tablets) table key (mark-holds owner tablet table key ∙ e)
+    ∙ sym (ap (option_map (mark_if_owned owner)) (first-holds tablets table key e)))
     (λ e. first-lacks (mark_if_owned owner tablet) (marked_crashed owner tablets) table key (mark-holds owner tablet table key ∙ e)
     ∙ (marked-tablet owner tablets table key ∙ sym (ap (option_map (mark_if_owned owner)) (first-lacks tablet tablets table key e))))
 
@@ -91,8 +90,8 @@ owner_at-split table at (tablet ∷ tablets) other key =
     rest : owner_at (split_at table at tablets) other key ≡ owner_at tablets other key →
         owner_at (tablet ∷ split_at table at tablets) other key ≡ owner_at (tablet ∷ tablets) other key
     rest rec = split (holds tablet other key)
-        (λ e. ap (option_map owner_of) (first-holds tablet (split_at table at tablets) other key e ∙
-        sym (first-holds tablet tablets other key e)))
+        (λ e. ap (option_map owner_of) (first-holds (split_at table at tablets) other key e ∙
+        sym (first-holds tablets other key e)))
         (λ e. ap (option_map owner_of) (first-lacks tablet (split_at table at tablets) other key e)
         ∙ (rec ∙ sym (ap (option_map owner_of) (first-lacks tablet tablets other key e))))
 
@@ -100,14 +99,13 @@ owner_at-split table at (tablet ∷ tablets) other key =
         owner_at (lower_half at tablet ∷ upper_half at tablet ∷ tablets) other key ≡ owner_at
         (tablet ∷ tablets) other key
     halves e = split (holds (lower_half at tablet) other key)
-        (λ here. ap (option_map owner_of) (first-holds (lower_half at tablet) (upper_half at tablet ∷ tablets) other key here)
-        ∙ sym (ap (option_map owner_of) (first-holds tablet tablets other key (lower-within tablet table at other key e here))))
+        (λ here. ap (option_map owner_of) (first-holds (upper_half at tablet ∷ tablets) other key here)
+        ∙ sym (ap (option_map owner_of) (first-holds tablets other key (lower-within tablet table at other key e here))))
         (λ not_here. ap (option_map owner_of)
         (first-lacks (lower_half at tablet) (upper_half at tablet ∷ tablets) other key not_here)
-        ∙ split (holds tablet other key)
-        (λ whole. ap (option_map owner_of) (first-holds (upper_half at tablet) tablets other key
+        ∙ split (holds tablet other key) (λ whole. ap (option_map owner_of) (first-holds tablets other key
         (lower-lacks tablet at other key not_here whole))
-        ∙ sym (ap (option_map owner_of) (first-holds tablet tablets other key whole)))
+        ∙ sym (ap (option_map owner_of) (first-holds tablets other key whole)))
         (λ none. ap (option_map owner_of) (first-lacks (upper_half at tablet) tablets other key
         (split (holds (upper_half at tablet) other key)
         (λ up. true_false (sym (upper-within tablet table at other key e up) ∙ none)) (λ no. no)))
@@ -127,8 +125,7 @@ pub apart-split : (table at : ℕ) (tablets : List Tablet) → 0 < at → Tablet
 apart-split table at [] above apart = tt
 apart-split table at (tablet ∷ tablets) above apart =
     either (λ (now : List Tablet). TabletsApart now) (holds tablet table at)
-    (lower_half at tablet ∷ upper_half at tablet ∷ tablets) (tablet ∷ split_at table at tablets)
-    (λ e. (
+    (lower_half at tablet ∷ upper_half at tablet ∷ tablets) (tablet ∷ split_at table at tablets) (λ e. (
       λ other key here. first-lacks (upper_half at tablet) tablets other key
           (upper-lacks tablet at other key above here) ∙
           apart.0 other key (lower-within tablet table at other key e here),
@@ -153,16 +150,14 @@ none-of_table (tablet ∷ tablets) table key e =
         rec (sym (ap (λ b. b || has_table tablets table) is) ∙ e)
 
 -- a new tablet owns its points, if nobody did, and no other point changes
-inserted : (new : Tablet) (tablets : List Tablet) (table key : ℕ) → holds new table key ≡ true →
+inserted : {new : Tablet} (tablets : List Tablet) (table key : ℕ) → holds new table key ≡ true →
     tablet_of tablets table key ≡ None → tablet_of (insert_tablet new tablets) table key ≡ Some new
-inserted new [] table key e none = first-holds new [] table key e
-inserted new (tablet ∷ tablets) table key e none =
+inserted [] table key e none = first-holds [] table key e
+inserted {new} (tablet ∷ tablets) table key e none =
     either (λ (now : List Tablet). tablet_of now table key ≡ Some new) (nat_lt new.range.table tablet.range.table)
-    (new ∷ tablet ∷ tablets) (tablet ∷ insert_tablet new tablets)
-    (λ _. first-holds new (tablet ∷ tablets) table key e)
-    (λ _. split (holds tablet table key)
-    (λ here. some-none (sym (first-holds tablet tablets table key here) ∙ none))
-    (λ lacks. first-lacks tablet (insert_tablet new tablets) table key lacks ∙ inserted new tablets table key e
+    (new ∷ tablet ∷ tablets) (tablet ∷ insert_tablet new tablets) (λ _. first-holds (tablet ∷ tablets) table key e)
+    (λ _. split (holds tablet table key) (λ here. some-none (sym (first-holds tablets table key here) ∙ none))
+    (λ lacks. first-lacks tablet (insert_tablet new tablets) table key lacks ∙ inserted tablets table key e
     (sym (first-lacks tablet tablets table key lacks) ∙ none)))
 
 beside : (new : Tablet) (tablets : List Tablet) (table key : ℕ) → holds new table key ≡ false →
@@ -171,9 +166,8 @@ beside new [] table key e = first-lacks new [] table key e
 beside new (tablet ∷ tablets) table key e =
     either (λ (now : List Tablet). tablet_of now table key ≡ tablet_of (tablet ∷ tablets) table key)
     (nat_lt new.range.table tablet.range.table) (new ∷ tablet ∷ tablets) (tablet ∷ insert_tablet new tablets)
-    (λ _. first-lacks new (tablet ∷ tablets) table key e)
-    (λ _. split (holds tablet table key)
-    (λ here. first-holds tablet (insert_tablet new tablets) table key here ∙ sym (first-holds tablet tablets table key here))
+    (λ _. first-lacks new (tablet ∷ tablets) table key e) (λ _. split (holds tablet table key)
+    (λ here. first-holds (insert_tablet new tablets) table key here ∙ sym (first-holds tablets table key here))
     (λ lacks. first-lacks tablet (insert_tablet new tablets) table key lacks ∙
     (beside new tablets table key e ∙ sym (first-lacks tablet tablets table key lacks))))
 
@@ -183,30 +177,27 @@ apart-inserted : (new : Tablet) (tablets : List Tablet) →
 apart-inserted new [] none apart = (λ table key e. refl, tt)
 apart-inserted new (tablet ∷ tablets) none apart =
     either (λ (now : List Tablet). TabletsApart now) (nat_lt new.range.table tablet.range.table) (new ∷ tablet ∷ tablets)
-    (tablet ∷ insert_tablet new tablets)
-    (λ _. (none, (apart.0, apart.1)))
-    (λ _. (
+    (tablet ∷ insert_tablet new tablets) (λ _. (none, (apart.0, apart.1))) (λ _. (
       λ table key here. split (holds new table key)
-          (λ both. some-none (sym (first-holds tablet tablets table key here) ∙ none table key both))
+          (λ both. some-none (sym (first-holds tablets table key here) ∙ none table key both))
           (λ lacks. beside new tablets table key lacks ∙ apart.0 table key here),
       apart-inserted new tablets (λ table key e. later table key e) apart.1,
     ))
   where
     later : (table key : ℕ) → holds new table key ≡ true → tablet_of tablets table key ≡ None
     later table key e = split (holds tablet table key)
-        (λ here. some-none (sym (first-holds tablet tablets table key here) ∙ none table key e))
+        (λ here. some-none (sym (first-holds tablets table key here) ∙ none table key e))
         (λ lacks. sym (first-lacks tablet tablets table key lacks) ∙ none table key e)
 
 -- a point of a whole table is one of that table
-whole-table : (table other key : ℕ) (owner : ServerId) (term : ℕ) → holds (whole_table table owner term) other key ≡ true → table ≡ other
-whole-table table other key owner term e = grind (arith, nat_tests)
+whole-table : {table other : ℕ} (key : ℕ) (owner : ServerId) (term : ℕ) → holds (whole_table table owner term) other key ≡ true → table ≡ other
+whole-table key owner term e = grind (arith, nat_tests)
 
-pub owner_at-new : (table term other key : ℕ) (owner : ServerId) (tablets : List Tablet) →
+pub owner_at-new : (table : ℕ) {term : ℕ} (other key : ℕ) {owner : ServerId} (tablets : List Tablet) →
     has_table tablets table ≡ false → holds (whole_table table owner term) other key ≡ true →
     owner_at (with_table table owner term tablets) other key ≡ Some (owner, term)
-owner_at-new table term other key owner tablets fresh e =
-    ap (option_map owner_of) (inserted (whole_table table owner term) tablets other key e
-    (subst (λ t. tablet_of tablets t key ≡ None) (whole-table table other key owner term e) (none-of_table tablets table key fresh)))
+owner_at-new table {term} other key {owner} tablets fresh e = ap (option_map owner_of) (inserted tablets other key e
+    (subst (λ t. tablet_of tablets t key ≡ None) (whole-table key owner term e) (none-of_table tablets table key fresh)))
 
 pub owner_at-beside : (table term other key : ℕ) (owner : ServerId) (tablets : List Tablet) →
     holds (whole_table table owner term) other key ≡ false →
@@ -217,14 +208,13 @@ pub owner_at-before : (table term other key : ℕ) (owner : ServerId) (tablets :
     has_table tablets table ≡ false → holds (whole_table table owner term) other key ≡ true →
     owner_at tablets other key ≡ None
 owner_at-before table term other key owner tablets fresh e =
-    ap (option_map owner_of) (subst (λ t. tablet_of tablets t key ≡ None) (whole-table table other key owner term e)
+    ap (option_map owner_of) (subst (λ t. tablet_of tablets t key ≡ None) (whole-table key owner term e)
     (none-of_table tablets table key fresh))
 
 pub apart-new : (table term : ℕ) (owner : ServerId) (tablets : List Tablet) → has_table tablets table ≡ false →
     TabletsApart tablets → TabletsApart (with_table table owner term tablets)
-apart-new table term owner tablets fresh apart =
-    apart-inserted (whole_table table owner term) tablets
-    (λ other key e. subst (λ t. tablet_of tablets t key ≡ None) (whole-table table other key owner term e)
+apart-new table term owner tablets fresh apart = apart-inserted (whole_table table owner term) tablets
+    (λ other key e. subst (λ t. tablet_of tablets t key ≡ None) (whole-table key owner term e)
     (none-of_table tablets table key fresh)) apart
 
 -- Grants
@@ -251,9 +241,9 @@ ranged-some range (tablet ∷ tablets) table key has e none = by (is_range range
     by : (here : Bool) → is_range range tablet ≡ here →
         (has_range range tablets ≡ true → in_range range table key ≡ true → tablet_of tablets table key ≡ None → ⊥) →
         (is_range range tablet || has_range range tablets) ≡ true → ⊥
-    by true is rec h = some-none (sym (first-holds tablet tablets table key (range-holds range tablet table key is ∙ e)) ∙ none)
+    by true is rec h = some-none (sym (first-holds tablets table key (range-holds range tablet table key is ∙ e)) ∙ none)
     by false is rec h = split (holds tablet table key)
-        (λ there. some-none (sym (first-holds tablet tablets table key there) ∙ none))
+        (λ there. some-none (sym (first-holds tablets table key there) ∙ none))
         (λ lacks. rec (sym (ap (λ b. b || has_range range tablets) is) ∙ h) e (sym (first-lacks tablet tablets table key lacks) ∙ none))
 
 -- a point outside the range keeps its tablet
@@ -268,21 +258,21 @@ assigned-beside range id term (tablet ∷ tablets) table key e =
     (range-holds range tablet table key is ∙ e)
     ∙ sym (first-lacks tablet tablets table key (range-holds range tablet table key is ∙ e)))
     (λ _. split (holds tablet table key)
-    (λ here. first-holds tablet (assigned range id term tablets) table key here ∙ sym (first-holds tablet tablets table key here))
+    (λ here. first-holds (assigned range id term tablets) table key here ∙ sym (first-holds tablets table key here))
     (λ lacks. first-lacks tablet (assigned range id term tablets) table key lacks ∙
     (assigned-beside range id term tablets table key e ∙ sym (first-lacks tablet tablets table key lacks))))
 
 -- a point within it is the new owner's
-pub assigned-within : (range : KeyRange) (id : ServerId) (term : ℕ) (tablets : List Tablet) (table key : ℕ) →
+pub assigned-within : (range : KeyRange) {id : ServerId} {term : ℕ} (tablets : List Tablet) (table key : ℕ) →
     TabletsApart tablets → has_range range tablets ≡ true → in_range range table key ≡ true →
     owner_at (assigned range id term tablets) table key ≡ Some (id, term)
-assigned-within range id term [] table key apart has e = true_false (sym has)
-assigned-within range id term (tablet ∷ tablets) table key apart has e =
+assigned-within range [] table key apart has e = true_false (sym has)
+assigned-within range {id} {term} (tablet ∷ tablets) table key apart has e =
     either (λ (now : List Tablet). owner_at now table key ≡ Some (id, term)) (is_range range tablet)
     (record tablet { owner = id; term = term; crashed = false } ∷ tablets) (tablet ∷ assigned range id term tablets)
-    (λ is. ap (option_map owner_of) (first-holds (record tablet { owner = id; term = term; crashed = false }) tablets
+    (λ is. ap (option_map owner_of) (first-holds tablets
     table key (range-holds range tablet table key is ∙ e)))
-    (λ is_not. later (λ rest. assigned-within range id term tablets table key apart.1 rest e)
+    (λ is_not. later (λ rest. assigned-within range tablets table key apart.1 rest e)
     (sym (ap (λ b. b || has_range range tablets) is_not) ∙ has))
   where
     later : (has_range range tablets ≡ true → owner_at (assigned range id term tablets) table key ≡ Some (id, term)) →
@@ -304,7 +294,7 @@ apart-assigned range id term (tablet ∷ tablets) apart =
         tablet_of (assigned range id term ts) table key ≡ None
     none-assigned [] table key e = refl
     none-assigned (one ∷ ts) table key e = split (holds one table key)
-        (λ here. some-none (sym (first-holds one ts table key here) ∙ e))
+        (λ here. some-none (sym (first-holds ts table key here) ∙ e))
         (λ lacks. either (λ (now : List Tablet). tablet_of now table key ≡ None) (is_range range one)
         (record one { owner = id; term = term; crashed = false } ∷ ts) (one ∷ assigned range id term ts)
         (λ _. first-lacks (record one { owner = id; term = term; crashed = false }) ts table key lacks ∙

@@ -15,23 +15,19 @@ TermsOf world = GoodTerms world.sent world.coordinator
 
 terms-node : (world : World) (one : Event) (node : NodeName) (work : NodeWork) → GoodWorld world → OfWorld world →
     TermsOf world → IsGiven world.sent node work → TermsOf (node_done world one node work)
-terms-node world one TheOutside work good grants terms given = terms-more world.sent (world.sent ++ outside_sends work)
-    world.coordinator (more-left world.sent (outside_sends work)) terms
+terms-node world one TheOutside work good grants terms given = terms-more (more-left world.sent (outside_sends work)) terms
 terms-node world one TheCoordinator work good grants terms given =
-    terms-more world.sent (world.sent ++ (coordinator_step world.coordinator work).1)
-    (coordinator_step world.coordinator work).0 (more-left world.sent (coordinator_step world.coordinator work).1)
-    (keeps-work world.sent world.coordinator grants.good terms work
-    (taken-at world.sent work given)
+    terms-more (more-left world.sent (coordinator_step world.coordinator work).1)
+    (keeps-work world.sent world.coordinator grants.good terms work (taken-at world.sent given)
     (later-coordinator world work good given))
-terms-node world one (TheHost i) work good grants terms given =
-    terms-more world.sent (world.sent ++ (host_step (world.hosts i) work).1) world.coordinator
+terms-node world one (TheHost i) work good grants terms given = terms-more
     (more-left world.sent (host_step (world.hosts i) work).1) terms
 
 terms-job : (world : World) (one : Event) (found : Option Job) → job_of world.sent one ≡ found → GoodWorld world →
     OfWorld world → TermsOf world → TermsOf (job_done world one found)
 terms-job world one None is good grants terms = terms
 terms-job world one (Some job) is good grants terms =
-    terms-node world one job.node job.work good grants terms (job_of-given world.sent one job is)
+    terms-node world one job.node job.work good grants terms (job_of-given world.sent one is)
 
 terms-step : (world : World) (one : Event) → GoodWorld world → OfWorld world → TermsOf world → TermsOf (step world one)
 terms-step world one good grants terms =
@@ -49,8 +45,7 @@ terms-from : (setup : Setup) (before events : List Event) → TermsOf (replay se
 terms-from setup before [] terms = terms
 terms-from setup before (one ∷ events) terms =
     let same : replay setup (before ++ one ∷ []) ≡ step (replay setup before) one = replay-one (opening setup) before one in
-    subst (λ (world : World). TermsOf (replay_from world events)) same
-    (terms-from setup (before ++ one ∷ []) events
+    subst (λ (world : World). TermsOf (replay_from world events)) same (terms-from setup (before ++ one ∷ []) events
     (subst TermsOf (sym same) (terms-step (replay setup before) one (good-world setup before)
     (grants-world setup before) terms)))
 

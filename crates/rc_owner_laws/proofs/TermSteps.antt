@@ -27,27 +27,27 @@ use Rattle.rc_owner_laws.proofs.Keeping.{granted-terms, decided-terms}
 
 -- Steps in which no term is issued
 
-same-begun : (c : Coordinator) (master : ServerId) → SameTerms c (begins_attempt c master).0
-same-begun c master = record {
+same-begun : {c : Coordinator} (master : ServerId) → SameTerms c (begins_attempt c master).0
+same-begun {c} master = record {
   grants = refl;
   last = refl;
   owners = λ table key. refl;
   back = λ number other decision decided. (begun-decided c master number other decision decided).0;
 }
 
-same-answer : (c : Coordinator) (from : ServerId) (number : ℕ) (rows : List Row) (attempt : Attempt) → attempt.decided ≡ None →
+same-answer : {c : Coordinator} (from : ServerId) (number : ℕ) (rows : List Row) (attempt : Attempt) → attempt.decided ≡ None →
     SameTerms c (with_attempt c number (with_answer from rows attempt))
-same-answer c from number rows attempt undecided = record {
+same-answer {c} from number rows attempt undecided = record {
   grants = refl;
   last = refl;
   owners = λ table key. refl;
   back = answered-decided c from number rows attempt undecided;
 }
 
-same-tablets : (c : Coordinator) (servers : ServerList) (ready : ServerId → Bool) (tablets : List Tablet) (least : ServerId → Pair) →
+same-tablets : {c : Coordinator} {servers : ServerList} {ready : ServerId → Bool} {tablets : List Tablet} {least : ServerId → Pair} →
     ((table key : ℕ) → owner_at tablets table key ≡ owner_at c.tablets table key) →
     SameTerms c (record c { servers = servers; ready = ready; tablets = tablets; least = least })
-same-tablets c servers ready tablets least owners = record {
+same-tablets owners = record {
   grants = refl;
   last = refl;
   owners = owners;
@@ -66,7 +66,7 @@ module _ (sent : List Message) (c : Coordinator) (grants : GoodGrants c) (good :
   Same after = SameTerms c after.0
 
   same : (new : Coordinator) (messages : List Message) → SameTerms c new → Keeps (new, messages)
-  same new messages is later = kept-terms sent c new later is good
+  same new messages is later = kept-terms later is good
 
   -- Grants
 
@@ -75,7 +75,7 @@ module _ (sent : List Message) (c : Coordinator) (grants : GoodGrants c) (good :
       In (to_coordinator id (Recovered number term)) sent →
       IsNewTerm sent c (assigned part.range id part.term c.tablets) (grant_of number id part) c.last_term
   new-term id number term part mine none has at = record {
-    within = λ table key e. assigned-within part.range id part.term c.tablets table key grants.apart has e;
+    within = λ table key e. assigned-within part.range c.tablets table key grants.apart has e;
     beside = λ table key e. ap (option_map owner_of) (assigned-beside part.range id part.term c.tablets table key e);
     above = good.part_issued number mine.attempt.master mine.decision is_decided (gives id part) mine.among;
     upto = (grants.fresh number mine.attempt.master mine.decision is_decided (gives id part) mine.among).0;
@@ -97,10 +97,10 @@ module _ (sent : List Message) (c : Coordinator) (grants : GoodGrants c) (good :
   }
     where
       is_decided : IsDecided c.attempts number mine.attempt.master mine.decision
-      is_decided = senders-decided c id number term part mine
+      is_decided = senders-decided c mine
 
       ungiven : IsGiven c.grants (gives id part) → ⊥
-      ungiven = senders-open c id number term part mine none
+      ungiven = senders-open c mine none
 
       fresh : (one : Grant) → In one c.grants → one.term ≡ part.term → ((one.attempt ≡ 0) × (one.previous ≡ 0)) ⊎ IsGivenBy sent c one → ⊥
       fresh one there e (inl created) = good.created_apart one there created.0 number mine.attempt.master mine.decision
@@ -118,11 +118,11 @@ module _ (sent : List Message) (c : Coordinator) (grants : GoodGrants c) (good :
 
   -- Tables
 
-  new-table : (table : ℕ) (owner : ServerId) → has_table c.tablets table ≡ false →
+  new-table : {table : ℕ} {owner : ServerId} → has_table c.tablets table ≡ false →
       IsNewTerm sent c (with_table table owner (c.last_term + 1) c.tablets) (first_grant table owner (c.last_term + 1))
       (c.last_term + 1)
-  new-table table owner fresh = record {
-    within = λ other key e. owner_at-new table (c.last_term + 1) other key owner c.tablets fresh e;
+  new-table {table} {owner} fresh = record {
+    within = λ other key e. owner_at-new table other key c.tablets fresh e;
     beside = λ other key e. owner_at-beside table (c.last_term + 1) other key owner c.tablets e;
     above = omega arith;
     upto = omega arith;
@@ -138,38 +138,30 @@ module _ (sent : List Message) (c : Coordinator) (grants : GoodGrants c) (good :
 
   moves : Moves c Hears Same Keeps
   moves = record {
-    same = same-refl c;
-    crashes = λ id is. same-tablets c (crashed id c.servers) c.ready (marked_crashed id c.tablets) c.least (owner_at-marked id c.tablets);
-    enlists = λ id is. same-tablets c (enlisted id c.servers) c.ready c.tablets c.least (λ table key. refl);
-    replaces = λ id older is. same-tablets c (enlisted id c.servers) c.ready (marked_crashed older c.tablets) c.least
-        (owner_at-marked older c.tablets);
+    same = same-refl;
+    crashes = λ id is. same-tablets (owner_at-marked id c.tablets);
+    enlists = λ id is. same-tablets (λ table key. refl);
+    replaces = λ id older is. same-tablets (owner_at-marked older c.tablets);
     done = same;
     begins = λ new messages master is crashed. same (begins_attempt new master).0 (messages ++ (begins_attempt new master).1)
-        (same-trans c new (begins_attempt new master).0 is (same-begun new master));
-    readies = λ id. same (record c { ready = put_id c.ready id true }) []
-        (same-tablets c c.servers (put_id c.ready id true) c.tablets c.least (λ table key. refl));
+        (same-trans is (same-begun master));
+    readies = λ id. same (record c { ready = put_id c.ready id true }) [] (same-tablets (λ table key. refl));
     commits = λ id pair heard is. same (record c { least = put_id c.least id (greater_pair (c.least id) pair) })
-        (from_coordinator id (CommitOk pair.seg pair.epoch) ∷ [])
-        (same-tablets c c.servers c.ready c.tablets (put_id c.least id (greater_pair (c.least id) pair)) (λ table key. refl));
+        (from_coordinator id (CommitOk pair.seg pair.epoch) ∷ []) (same-tablets (λ table key. refl));
     answers = λ from number rows attempt heard is undecided. same (with_attempt c number (with_answer from rows attempt)) []
-        (same-answer c from number rows attempt undecided);
+        (same-answer from number rows attempt undecided);
     decides = λ master attempt plan id ids is undecided picked later.
-        decided-terms sent c grants good (c.current master) attempt plan id ids (numbered-at c (c.current master) attempt is)
-        (decided-later c (decides_on c (c.current master) attempt
-        (decision_of c (c.current master) attempt.master plan (id ∷ ids)) (id ∷ ids)).0 later);
-    grants = λ id number term part is has later.
-        granted-terms sent c (assigned part.range id part.term c.tablets) (grant_of number id part) c.last_term
-        (new-term id number term part (senders c id number term part (attempt_at c number) (numbered-at c number) is.found)
+        decided-terms sent c grants good (c.current master) attempt plan id ids (numbered-at c attempt is)
+        (decided-later later);
+    grants = λ id number term part is has later. granted-terms
+        (new-term id number term part (senders c (attempt_at c number) (numbered-at c) is.found)
         is.ungranted has is.heard) good;
-    creates = λ table owner is fresh room later. granted-terms sent c (with_table table owner (c.last_term + 1) c.tablets)
-        (first_grant table owner (c.last_term + 1)) (c.last_term + 1) (new-table table owner fresh) good;
+    creates = λ table owner is fresh room later. granted-terms (new-table fresh) good;
     splits = λ table at tablet is held inside unmarked room. same (record c { tablets = split_at table at c.tablets })
-        (coordinator_tells (SplitOk table at) ∷ [])
-        (same-tablets c c.servers c.ready (split_at table at c.tablets) c.least (owner_at-split table at c.tablets));
+        (coordinator_tells (SplitOk table at) ∷ []) (same-tablets (owner_at-split table at c.tablets));
   }
 
-  pub keeps-work : (work : NodeWork) →
-      ((message : Message) → work ≡ Deliver message →
+  pub keeps-work : (work : NodeWork) → ((message : Message) → work ≡ Deliver message →
       In (record { from = message.from; to = AtCoordinator; body = message.body }) sent) →
       Keeps (coordinator_step c work)
   keeps-work work at = walked-step c Hears Same Keeps (any-stays c Hears Keeps (λ messages later. good)) moves work at

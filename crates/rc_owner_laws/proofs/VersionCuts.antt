@@ -24,10 +24,10 @@ use Rattle.rc_owner_laws.proofs.Rising.{granted_of, term-started}
 
 -- Lists
 
-take-more : {X : Type 0} (n : ℕ) (xs : List X) (x : X) → slice_get xs n ≡ Some x → take (suc n) xs ≡ take n xs ++ x ∷ []
-take-more n [] x e = cc
-take-more zero (y ∷ xs) x e = (let same : y ≡ x = cc in ap (λ z. z ∷ []) same)
-take-more (suc n) (y ∷ xs) x e = ap (λ l. y ∷ l) (take-more n xs x e)
+take-more : {X : Type 0} (n : ℕ) (xs : List X) {x : X} → slice_get xs n ≡ Some x → take (suc n) xs ≡ take n xs ++ x ∷ []
+take-more n [] e = cc
+take-more zero (y ∷ xs) {x} e = (let same : y ≡ x = cc in ap (λ z. z ∷ []) same)
+take-more (suc n) (y ∷ xs) e = ap (λ l. y ∷ l) (take-more n xs e)
 
 filter-append : {X : Type 0} (test : X → Bool) (xs ys : List X) → filter test (xs ++ ys) ≡ filter test xs ++ filter test ys
 filter-append test [] ys = refl
@@ -39,18 +39,18 @@ filter-append test (x ∷ xs) ys = filter-step test x xs ys (test x) (filter-app
     filter-step test x xs ys true rec = ap (λ l. x ∷ l) rec
     filter-step test x xs ys false rec = rec
 
-filter-same : {X : Type 0} (f g : X → Bool) (xs : List X) → ((x : X) → f x ≡ g x) → filter f xs ≡ filter g xs
-filter-same f g [] same = refl
-filter-same f g (x ∷ xs) same =
-    ap (λ b. cond b (x ∷ filter f xs) (filter f xs)) (same x) ∙ ap (λ l. cond (g x) (x ∷ l) l) (filter-same f g xs same)
+filter-same : {X : Type 0} {f g : X → Bool} (xs : List X) → ((x : X) → f x ≡ g x) → filter f xs ≡ filter g xs
+filter-same [] same = refl
+filter-same {f} {g} (x ∷ xs) same =
+    ap (λ b. cond b (x ∷ filter f xs) (filter f xs)) (same x) ∙ ap (λ l. cond (g x) (x ∷ l) l) (filter-same xs same)
 
 -- Plans
 
 -- accepted recoveries of one attempt are one
-pub one-plan : (sent : List Message) (masters : ServerId → Master) (hosts : ℕ → HostNode) (c : Coordinator) →
-    Good sent masters hosts c → (one other : Accepted) → WasAccepted sent one → WasAccepted sent other →
+pub one-plan : {sent : List Message} {masters : ServerId → Master} {hosts : ℕ → HostNode} {c : Coordinator} →
+    Good sent masters hosts c → {one other : Accepted} → WasAccepted sent one → WasAccepted sent other →
     one.attempt ≡ other.attempt → one ≡ other
-one-plan sent masters hosts c good one other was is same = joined one other same
+one-plan {sent} {masters} {hosts} {c} good {one} {other} was is same = joined one other same
     (sym p.master_is ∙ (ap (λ (attempt : Attempt). attempt.master) attempts ∙ q.master_is))
     (sym (ap (λ (plan : Plan). plan.rows) p.plan_is) ∙ (ap (λ (decision : Decision). decision.plan.rows) decisions ∙
     ap (λ (plan : Plan). plan.rows) q.plan_is))
@@ -64,8 +64,7 @@ one-plan sent masters hosts c good one other was is same = joined one other same
         (good.messages is.message is.among)
 
     attempts : p.attempt ≡ q.attempt
-    attempts = numbered-same c.attempts other.attempt p.attempt q.attempt
-        (subst (λ n. IsNumbered c.attempts n p.attempt) same p.numbered) q.numbered
+    attempts = numbered-same (subst (λ n. IsNumbered c.attempts n p.attempt) same p.numbered) q.numbered
 
     decisions : p.decision ≡ q.decision
     decisions = one_some p.decision q.decision (sym p.decided ∙ (ap (λ (attempt : Attempt). attempt.decided) attempts ∙ q.decided))
@@ -81,41 +80,36 @@ one-plan sent masters hosts c good one other was is same = joined one other same
 module _ (sent : List Message) (masters : ServerId → Master) (hosts : ℕ → HostNode) (c : Coordinator)
     (good : Good sent masters hosts c) where
   -- one entry was made for a place
-  pub one-made : (m : ServerId) (s o : ℕ) (entry : Entry) → slice_get (log_in (masters m).log s) o ≡ Some entry →
+  pub one-made : {m : ServerId} {s o : ℕ} {entry : Entry} → slice_get (log_in (masters m).log s) o ≡ Some entry →
       HasMade sent m s o entry → one_of (made sent m s o) ≡ entry ∷ []
-  one-made m s o entry stands was = by (made sent m s o) refl (HasMade-in sent m s o entry was)
+  one-made {m} {s} {o} {entry} stands was = by (made sent m s o) refl (HasMade-in sent m s o entry was)
     where
       by : (entries : List Entry) → made sent m s o ≡ entries → In entry entries → one_of entries ≡ entry ∷ []
       by [] e at = absurd at
       by (first ∷ rest) e at =
-          let there : slice_get (log_in (masters m).log s) o ≡ Some first = made-is sent masters hosts c good m s o
-          first (HasMade-from sent m s o first (subst (In first) (sym e) (inl refl))) in
+          let there : slice_get (log_in (masters m).log s) o ≡ Some first = made-is good (HasMade-from sent m s o first (subst (In first) (sym e) (inl refl))) in
           let same : first ≡ entry = cc in
           ap (λ one. one ∷ []) same
 
-  made-below : (m : ServerId) (s len : ℕ) →
+  made-below : {m : ServerId} {s : ℕ} (len : ℕ) →
       ((o : ℕ) → o < len → (entry : Entry) × (slice_get (log_in (masters m).log s) o ≡ Some entry) ×
       HasMade sent m s o entry) →
       made_below sent m s len ≡ take len (log_in (masters m).log s)
-  made-below m s zero each = refl
-  made-below m s (suc len) each =
+  made-below zero each = refl
+  made-below {m} {s} (suc len) each =
       let last = each len (omega arith) in
-      ap (λ l. l ++ one_of (made sent m s len)) (made-below m s len (λ o less. each o (omega arith)))
-      ∙ ap (λ l. take len (log_in (masters m).log s) ++ l) (one-made m s len last.0 last.1 last.2)
-      ∙ sym (take-more len (log_in (masters m).log s) last.0 last.1)
+      ap (λ l. l ++ one_of (made sent m s len)) (made-below len (λ o less. each o (omega arith)))
+      ∙ ap (λ l. take len (log_in (masters m).log s) ++ l) (one-made last.1 last.2)
+      ∙ sym (take-more len (log_in (masters m).log s) last.1)
 
 module _ (sent : List Message) (masters : ServerId → Master) (hosts : ℕ → HostNode) (c : Coordinator)
     (all : AllHold sent masters hosts c) where
   -- what a row of a task holds was made
   pub row-made : (x : ServerId) (task : Task) (row : PlanRow) → In task (masters x).tasks → In row task.rows →
       made_below sent task.master row.seg row.len ≡ take row.len (log_in (masters task.master).log row.seg)
-  row-made x task row at there =
-      made-below sent masters hosts c all.good task.master row.seg row.len (λ o less.
-      held-made sent masters hosts c task.master task.rows
-      (accepted-is sent masters hosts c all.good
-      (record { attempt = task.attempt; master = task.master; rows = task.rows })
-      (task-of sent masters hosts c all x task at).accepted)
-      row.seg o (record { row = row; among = there; seg = refl; below = less }))
+  row-made x task row at there = made-below sent masters hosts c all.good row.len (λ o less. held-made hosts
+      (accepted-is all.good
+      (task-of sent masters hosts c all x task at).accepted) (record { row = row; among = there; seg = refl; below = less }))
 
   cut-made : (x : ServerId) (task : Task) (row : PlanRow) → In task (masters x).tasks → In row task.rows →
       cut_of masters task row ≡ filter (is_in_part task.part) (made_below sent task.master row.seg row.len)
@@ -123,9 +117,9 @@ module _ (sent : List Message) (masters : ServerId → Master) (hosts : ℕ → 
 
   -- Data
 
-  cut-is : (y x : ServerId) (attempt seg term : ℕ) (entries : List Entry) → IsCut sent masters y x attempt seg term entries →
+  cut-is : {y x : ServerId} {attempt seg term : ℕ} {entries : List Entry} → IsCut sent masters y x attempt seg term entries →
       IsPlanCut sent (between y x (body.Data attempt seg term entries)) attempt seg term entries
-  cut-is y x attempt seg term entries cut = record {
+  cut-is {y} {x} {attempt} {seg} {term} cut = record {
     plan = plan.message;
     among = plan.among;
     to = plan.to;
@@ -166,7 +160,7 @@ module _ (sent : List Message) (masters : ServerId → Master) (hosts : ℕ → 
       by : (from to : Addr) → data_between sent masters from to attempt seg term entries →
           IsPlanCut sent (record { from = from; to = to; body = body.Data attempt seg term entries }) attempt seg term
           entries
-      by (Server y) (Server x) cut = cut-is y x attempt seg term entries cut
+      by (Server y) (Server x) cut = cut-is cut
       by (Server y) AtCoordinator cut = absurd cut
       by (Server y) Outside cut = absurd cut
       by AtCoordinator to cut = absurd cut
@@ -180,8 +174,7 @@ module _ (sent : List Message) (masters : ServerId → Master) (hosts : ℕ → 
       AllCame sent x task.part.term (waited rows) entries →
       entries ≡ filter (is_in_part task.part) (recovered_entries sent task.master rows)
   all-cut x task at [] among entries came = came
-  all-cut x task at (row ∷ rows) among entries came =
-      came.4
+  all-cut x task at (row ∷ rows) among entries came = came.4
       ∙ ap (λ l. l ++ came.1) ((row-cut sent masters hosts c all x task row came.0 at (among row (inl refl)) came.2).0 ∙
       cut-made x task row at (among row (inl refl)))
       ∙ ap (λ l. filter (is_in_part task.part) (made_below sent task.master row.seg row.len) ++ l)
@@ -204,15 +197,13 @@ module _ (sent : List Message) (masters : ServerId → Master) (hosts : ℕ → 
   }
 
   -- what joined of a grant's part is its base
-  pub base-is : (grant : Grant) (given : IsGivenBy sent c grant) →
+  pub base-is : {grant : Grant} (given : IsGivenBy sent c grant) →
       map (under_term (started sent masters hosts c all grant given).state.part.term)
       (started sent masters hosts c all grant given).joined.entries
       ≡ base sent (plan-of grant given) (granted_of grant)
-  base-is grant given =
-      ap (λ t. map (under_term t) s.joined.entries) same_term
+  base-is {grant} given = ap (λ t. map (under_term t) s.joined.entries) same_term
       ∙ ap (map (under_term grant.term)) (all-cut grant.owner s.task s.task_among s.task.rows (λ row there. there) s.joined.entries came)
-      ∙ ap (map (under_term grant.term)) (filter-same (is_in_part s.task.part) (is_carried (granted_of grant))
-      (recovered_entries sent s.task.master s.task.rows)
+      ∙ ap (map (under_term grant.term)) (filter-same (recovered_entries sent s.task.master s.task.rows)
       (carried grant s.task.part (given.range_is ∙ ap (λ (part : Part). part.range) (sym s.given_is))
       (given.previous_is ∙ ap (λ (part : Part). part.previous) (sym s.given_is))))
     where
@@ -231,24 +222,21 @@ module _ (sent : List Message) (masters : ServerId → Master) (hosts : ℕ → 
           (in-order s.task.rows (task-ascends sent masters hosts c all grant.owner s.task s.task_among))
           s.joined.came)
 
-  pub starts-from-base : (grant : Grant) (given : IsGivenBy sent c grant) →
+  pub starts-from-base : {grant : Grant} (given : IsGivenBy sent c grant) →
       StartsFromBase sent grant.owner (masters grant.owner).log (granted_of grant)
-  starts-from-base grant given = record {
+  starts-from-base {grant} given = record {
     plan = record { attempt = s.task.attempt; master = s.task.master; rows = s.task.rows };
     accepted = (task-of sent masters hosts c all grant.owner s.task s.task_among).accepted;
     attempt_is = s.attempt_is;
-    only = λ other accepted same.
-        one-plan sent masters hosts c all.good other
-        (record { attempt = s.task.attempt; master = s.task.master; rows = s.task.rows }) accepted
+    only = λ other accepted same. one-plan all.good accepted
         (task-of sent masters hosts c all grant.owner s.task s.task_among).accepted (same ∙ sym s.attempt_is);
-    begins = subst (λ entries.
-        Begins entries (under grant.term
-        (take (masters grant.owner).log.durable (logged (places_of (masters grant.owner).log))))) (base-is grant given)
+    begins = subst (λ entries. Begins entries (under grant.term
+        (take (masters grant.owner).log.durable (logged (places_of (masters grant.owner).log))))) (base-is given)
         (subst (λ t. Begins (map (under_term T) s.joined.entries)
         (under t (take (masters grant.owner).log.durable (logged (places_of (masters grant.owner).log))))) same_term
         (joined-begins sent masters hosts c all grant.owner s.task s.state s.joined s.durable));
     safe = λ entry at. base-safe sent masters hosts c all grant.owner s.task s.state s.joined s.durable entry
-        (subst (In entry) (sym (base-is grant given)) at);
+        (subst (In entry) (sym (base-is given)) at);
   }
     where
       s : IsStarted sent masters hosts c all grant given

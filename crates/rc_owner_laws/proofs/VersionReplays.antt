@@ -77,8 +77,7 @@ covers-where setup events m rows plan s o entry safe holds = by setup.free refl
 pub handovers-keep-acknowledged : HandoversKeepWhatWasAcknowledged
 handovers-keep-acknowledged setup events =
     later-keeps-acked (replay setup events).sent (replay setup events).masters (replay setup events).hosts
-    (replay setup events).coordinator (all-world setup events)
-    (Frees setup) (covers-where setup events)
+    (replay setup events).coordinator (all-world setup events) (Frees setup) (covers-where setup events)
 
 pub handovers-keep-durable : HandoversKeepWhatIsDurable
 handovers-keep-durable setup events m s o durable = (
@@ -91,7 +90,7 @@ handovers-keep-durable setup events m s o durable = (
 )
   where
     safe : IsSafe (replay setup events).sent m ((replay setup events).masters m).log s o
-    safe = (since-take setup events durable.moment m).safe s o (stored-is-safe setup (take durable.moment events) m s o durable.stored)
+    safe = (since-take setup events durable.moment).safe s o (stored-is-safe setup (take durable.moment events) m s o durable.stored)
 
     at : (entry : Entry) × (slice_get (log_in ((replay setup events).masters m).log s) o ≡ Some entry)
     at = get-below (log_in ((replay setup events).masters m).log s) o safe.logged
@@ -114,7 +113,7 @@ previous-is-earlier = previous-earlier
 pub versions-rise-with-the-place : VersionsAlwaysRiseWithThePlace
 versions-rise-with-the-place setup events m s o t k entry other here there earlier terms tables keys =
     logs-rise (replay setup events).sent (replay setup events).masters (replay setup events).hosts
-    (replay setup events).coordinator (all-world setup events) m entry.term s o t k entry other here there earlier
+    (replay setup events).coordinator (all-world setup events) m s o t k entry other here there earlier
     (record { term_one = terms; term_other = refl; table = tables; key = keys })
 
 pub no-version-is-acknowledged-twice : NoVersionIsAcknowledgedTwice

@@ -39,12 +39,11 @@ RisesUnder term (entry ∷ entries) = BelowAll term entry entries × RisesUnder 
 abbrev pub Crosses : ℕ → List Entry → List Entry → Type 0
 Crosses term xs ys = (x y : Entry) → In x xs → In y ys → IsSameKey term x y → x.version < y.version
 
-rises-append : (term : ℕ) (xs ys : List Entry) → RisesUnder term xs → RisesUnder term ys → Crosses term xs ys → RisesUnder term (xs ++ ys)
-rises-append term [] ys p q cross = q
-rises-append term (x ∷ xs) ys p q cross = (
+rises-append : {term : ℕ} (xs ys : List Entry) → RisesUnder term xs → RisesUnder term ys → Crosses term xs ys → RisesUnder term (xs ++ ys)
+rises-append [] ys p q cross = q
+rises-append {term} (x ∷ xs) ys p q cross = (
   λ other at same. by other same (In-append other xs ys at),
-  rises-append term xs ys p.1 q
-      (λ a b in_xs in_ys same. cross a b (inr in_xs) in_ys same),
+  rises-append xs ys p.1 q (λ a b in_xs in_ys same. cross a b (inr in_xs) in_ys same),
 )
   where
     by : (other : Entry) → IsSameKey term x other → In other xs ⊎ In other ys → x.version < other.version
@@ -53,17 +52,16 @@ rises-append term (x ∷ xs) ys p q cross = (
 
 rises-filter : (term : ℕ) (test : Entry → Bool) (xs : List Entry) → RisesUnder term xs → RisesUnder term (filter test xs)
 rises-filter term test [] p = tt
-rises-filter term test (x ∷ xs) p =
-    either (RisesUnder term) (test x) (x ∷ filter test xs) (filter test xs)
+rises-filter term test (x ∷ xs) p = either (RisesUnder term) (test x) (x ∷ filter test xs) (filter test xs)
     (λ _. (λ other at same. p.0 other (In-filter test other xs at).0 same, rises-filter term test xs p.1))
     (λ _. rises-filter term test xs p.1)
 
-rises-under : (old new : ℕ) (xs : List Entry) → ((x : Entry) → In x xs → x.term ≡ old) → RisesUnder old xs →
+rises-under : {old : ℕ} (new : ℕ) (xs : List Entry) → ((x : Entry) → In x xs → x.term ≡ old) → RisesUnder old xs →
     RisesUnder new (map (under_term new) xs)
-rises-under old new [] all p = tt
-rises-under old new (x ∷ xs) all p = (
+rises-under new [] all p = tt
+rises-under new (x ∷ xs) all p = (
   λ other at same. by other same (In-map (under_term new) other xs at),
-  rises-under old new xs (λ y at. all y (inr at)) p.1,
+  rises-under new xs (λ y at. all y (inr at)) p.1,
 )
   where
     by : (other : Entry) → IsSameKey new (under_term new x) other →
@@ -85,12 +83,12 @@ rises-middle term (first ∷ before) entry after p other (inl is) same =
     (p.0 entry (In-right entry before (entry ∷ after) (inl refl)) (subst (λ (one : Entry). IsSameKey term one entry) is same))
 rises-middle term (first ∷ before) entry after p other (inr rest) same = rises-middle term before entry after p.1 other rest same
 
-rises-by : (term : ℕ) (xs : List Entry) → ((j k : ℕ) (x y : Entry) → j < k → slice_get xs j ≡ Some x →
+rises-by : {term : ℕ} (xs : List Entry) → ((j k : ℕ) (x y : Entry) → j < k → slice_get xs j ≡ Some x →
     slice_get xs k ≡ Some y → IsSameKey term x y → x.version < y.version) → RisesUnder term xs
-rises-by term [] each = tt
-rises-by term (x ∷ xs) each = (
+rises-by [] each = tt
+rises-by (x ∷ xs) each = (
   λ other at same. (let found = place_of xs other at in each 0 (suc found.0) x other (omega arith) refl found.1 same),
-  rises-by term xs (λ j k a b less e f same. each (suc j) (suc k) a b (omega arith) e f same),
+  rises-by xs (λ j k a b less e f same. each (suc j) (suc k) a b (omega arith) e f same),
 )
 
 -- Places of a log
@@ -105,11 +103,11 @@ record SplitsAt (places : List LogPlace) (one : Entry × Bool) (Is : Entry → T
   client_is : place.client ≡ one.1
   has : (entry : Entry) → Is entry → In entry (logged before)
 
-splits-in : (seg offset : ℕ) (entries : List (Entry × Bool)) (o : ℕ) (one : Entry × Bool) → slice_get entries o ≡ Some one →
+splits-in : (seg offset : ℕ) (entries : List (Entry × Bool)) (o : ℕ) {one : Entry × Bool} → slice_get entries o ≡ Some one →
     SplitsAt (places_in seg offset entries) one (λ entry. (k : ℕ) × (k < o) ×
     (slice_get (map (λ (it : Entry × Bool). it.0) entries) k ≡ Some entry))
-splits-in seg offset [] o one e = cc
-splits-in seg offset (first ∷ entries) zero one e = record {
+splits-in seg offset [] o e = cc
+splits-in seg offset (first ∷ entries) zero {one} e = record {
   before = [];
   place = record { seg = seg; offset = offset; entry = first.0; client = first.1 };
   after = places_in seg (offset + 1) entries;
@@ -124,8 +122,8 @@ splits-in seg offset (first ∷ entries) zero one e = record {
 
     none : (entry : Entry) (k : ℕ) → k < 0 → In entry (logged [])
     none entry k less = absurd (omega (arith, less))
-splits-in seg offset (first ∷ entries) (suc o) one e =
-    let rest = splits-in seg (offset + 1) entries o one e in
+splits-in seg offset (first ∷ entries) (suc o) e =
+    let rest = splits-in seg (offset + 1) entries o e in
     record {
       before = record { seg = seg; offset = offset; entry = first.0; client = first.1 } ∷ rest.before;
       place = rest.place;
@@ -157,10 +155,10 @@ record StandsEarlier (segments : ℕ → Segment) (s o : ℕ) (entry : Entry) : 
   earlier : IsEarlierPlace seg offset s o
   holds : slice_get (map (λ (it : Entry × Bool). it.0) (segments seg).entries) offset ≡ Some entry
 
-splits-to : (segments : ℕ → Segment) (n s o : ℕ) (one : Entry × Bool) → 0 < s → s ≤ n →
+splits-to : {segments : ℕ → Segment} (n : ℕ) {s o : ℕ} {one : Entry × Bool} → 0 < s → s ≤ n →
     slice_get (segments s).entries o ≡ Some one → SplitsAt (places_to segments n) one (StandsEarlier segments s o)
-splits-to segments zero s o one above upto e = absurd (omega arith)
-splits-to segments (suc n) s o one above upto e = by (last-or s n upto) (λ less. splits-to segments n s o one above less e)
+splits-to zero above upto e = absurd (omega arith)
+splits-to {segments} (suc n) {s} {o} {one} above upto e = by (last-or s n upto) (λ less. splits-to n above less e)
   where
     last-or : (s n : ℕ) → s ≤ suc n → (s ≡ suc n) ⊎ (s ≤ n)
     last-or s n less = grind arith
@@ -168,8 +166,7 @@ splits-to segments (suc n) s o one above upto e = by (last-or s n upto) (λ less
     last : List LogPlace
     last = places_in (suc n) 0 (segments (suc n)).entries
 
-    earlier : (before : List LogPlace) → s ≡ suc n →
-        ((entry : Entry) → (k : ℕ) × (k < o) ×
+    earlier : (before : List LogPlace) → s ≡ suc n → ((entry : Entry) → (k : ℕ) × (k < o) ×
         (slice_get (map (λ (it : Entry × Bool). it.0) (segments (suc n)).entries) k ≡ Some entry) →
         In entry (logged before)) →
         (entry : Entry) → StandsEarlier segments s o entry → In entry (logged (places_to segments n ++ before))
@@ -179,18 +176,17 @@ splits-to segments (suc n) s o one above upto e = by (last-or s n upto) (λ less
         which (inl less) = In-left entry (logged (places_to segments n)) (logged before)
             (Rattle.rc_owner_laws.proofs.Kept.In-places segments n p.seg entry p.above (omega arith)
             (In-get (map (λ (it : Entry × Bool). it.0) (segments p.seg).entries) p.offset entry p.holds))
-        which (inr (at, less)) = In-right entry (logged (places_to segments n)) (logged before)
-            (has entry (
-              p.offset,
-              less,
-              subst (λ t. slice_get (map (λ (it : Entry × Bool). it.0) (segments t).entries)
-                  p.offset ≡ Some entry) (at ∙ same) p.holds,
-            ))
+        which (inr (at, less)) = In-right entry (logged (places_to segments n)) (logged before) (has entry (
+          p.offset,
+          less,
+          subst (λ t. slice_get (map (λ (it : Entry × Bool). it.0) (segments t).entries)
+              p.offset ≡ Some entry) (at ∙ same) p.holds,
+        ))
 
     by : (s ≡ suc n) ⊎ (s ≤ n) → (s ≤ n → SplitsAt (places_to segments n) one (StandsEarlier segments s o)) →
         SplitsAt (places_to segments (suc n)) one (StandsEarlier segments s o)
     by (inl same) rec =
-        let here = splits-in (suc n) 0 (segments (suc n)).entries o one (subst (λ t. slice_get (segments t).entries o ≡ Some one) same e) in
+        let here = splits-in (suc n) 0 (segments (suc n)).entries o (subst (λ t. slice_get (segments t).entries o ≡ Some one) same e) in
         record {
           before = places_to segments n ++ here.before;
           place = here.place;
@@ -225,9 +221,9 @@ module _ (sent : List Message) (masters : ServerId → Master) (hosts : ℕ → 
       IsSameKey term other entry → other.version < entry.version
 
   -- what stands in a segment stands in one of the log's
-  pub opened : (m : ServerId) (s o : ℕ) (entry : Entry) → slice_get (log_in (masters m).log s) o ≡ Some entry →
+  pub opened : {m : ServerId} {s : ℕ} (o : ℕ) {entry : Entry} → slice_get (log_in (masters m).log s) o ≡ Some entry →
       (0 < s) × (s ≤ (masters m).log.head)
-  opened m s o entry e = by (order s) (above-or s)
+  opened {m} {s} o {entry} e = by (order s) (above-or s)
     where
       good : GoodMaster sent m (masters m)
       good = all.good.masters_are m
@@ -255,11 +251,10 @@ module _ (sent : List Message) (masters : ServerId → Master) (hosts : ℕ → 
       by (inr above) (inr over) = absurd (none (Rattle.rc_model.specs.Segment.no_segment s) (good.none_above s over) refl)
 
   -- the rows of a task, where the versions of its master's log rise
-  row-rises : (m : ServerId) (term : ℕ) → LogRises m term → (seg len : ℕ) → RisesUnder term (take len (log_in (masters m).log seg))
-  row-rises m term rises seg len =
-      rises-by term (take len (log_in (masters m).log seg)) (λ j k x y less e f same.
-      rises seg k seg j y x (get-take len (log_in (masters m).log seg) k y f).1
-      (get-take len (log_in (masters m).log seg) j x e).1 (inr (refl, less)) same)
+  row-rises : (m : ServerId) {term : ℕ} → LogRises m term → (seg len : ℕ) → RisesUnder term (take len (log_in (masters m).log seg))
+  row-rises m rises seg len = rises-by (take len (log_in (masters m).log seg)) (λ j k x y less e f same.
+      rises seg k seg j y x (get-take len (log_in (masters m).log seg) k f).1
+      (get-take len (log_in (masters m).log seg) j e).1 (inr (refl, less)) same)
 
   -- an entry of recovered rows stands in its master's log
   record StandsInRow (task : Task) (rows : List PlanRow) (entry : Entry) : Type 0 where
@@ -289,7 +284,7 @@ module _ (sent : List Message) (masters : ServerId → Master) (hosts : ℕ → 
             row = row;
             among = inl refl;
             offset = found.0;
-            holds = (get-take row.len (log_in (masters task.master).log row.seg) found.0 entry found.1).1;
+            holds = (get-take row.len (log_in (masters task.master).log row.seg) found.0 found.1).1;
           }
       by (inr rest) rec = (let p = rec rest in record { row = p.row; among = inr p.among; offset = p.offset; holds = p.holds })
 
@@ -298,10 +293,9 @@ module _ (sent : List Message) (masters : ServerId → Master) (hosts : ℕ → 
       RisesUnder term (recovered_entries sent task.master rows)
   rows-rise x task at term rises [] among up = tt
   rows-rise x task at term rises (row ∷ rows) among up =
-      rises-append term (Rattle.rc_model.specs.Base.made_below sent task.master row.seg row.len) (recovered_entries sent task.master rows)
-      (subst (RisesUnder term) (sym made) (row-rises task.master term rises row.seg row.len))
-      (rows-rise x task at term rises rows (λ other there. among other (inr there)) up.1)
-      (λ a b in_row in_rest same.
+      rises-append (Rattle.rc_model.specs.Base.made_below sent task.master row.seg row.len) (recovered_entries sent task.master rows)
+      (subst (RisesUnder term) (sym made) (row-rises task.master rises row.seg row.len))
+      (rows-rise x task at term rises rows (λ other there. among other (inr there)) up.1) (λ a b in_row in_rest same.
       cross a b (place_of (take row.len (log_in (masters task.master).log row.seg)) a (subst (In a) made in_row))
       (stands-in x task at rows (λ other there. among other (inr there)) b in_rest) same)
     where
@@ -311,21 +305,17 @@ module _ (sent : List Message) (masters : ServerId → Master) (hosts : ℕ → 
 
       cross : (a b : Entry) → (k : ℕ) × (slice_get (take row.len (log_in (masters task.master).log row.seg)) k ≡ Some a)
           → StandsInRow task rows b → IsSameKey term a b → a.version < b.version
-      cross a b found p same =
-          rises p.row.seg p.offset row.seg found.0 b a p.holds
-          (get-take row.len (log_in (masters task.master).log row.seg) found.0 a found.1).1
+      cross a b found p same = rises p.row.seg p.offset row.seg found.0 b a p.holds
+          (get-take row.len (log_in (masters task.master).log row.seg) found.0 found.1).1
           (inl (below-row row.seg rows p.row up.0 p.among)) same
 
   -- a task's base, where the versions of its master's log rise under the term before
   base-rises : (x : ServerId) (task : Task) (state : PartState) → In task (masters x).tasks → task.part ≡ state.part →
       (p : HasJoined sent x (part_view (masters x)) task state) → LogRises task.master task.part.previous →
       RisesUnder state.part.term (map (under_term state.part.term) p.entries)
-  base-rises x task state at part_is p rises =
-      rises-under task.part.previous state.part.term p.entries
-      (λ entry there. previous entry
+  base-rises x task state at part_is p rises = rises-under state.part.term p.entries (λ entry there. previous entry
       (In-filter (is_in_part task.part) entry (recovered_entries sent task.master task.rows)
-      (subst (In entry) whole there)).1)
-      (subst (RisesUnder task.part.previous) (sym whole)
+      (subst (In entry) whole there)).1) (subst (RisesUnder task.part.previous) (sym whole)
       (rises-filter task.part.previous (is_in_part task.part) (recovered_entries sent task.master task.rows)
       (rows-rise x task at task.part.previous rises task.rows (λ row there. there) (task-ascends sent masters hosts c all x task at))))
     where
@@ -344,8 +334,7 @@ module _ (sent : List Message) (masters : ServerId → Master) (hosts : ℕ → 
   previous-less : (x : ServerId) (task : Task) (state : PartState) → In task (masters x).tasks →
       task.part ≡ state.part → (p : HasJoined sent x (part_view (masters x)) task state) → (entry : Entry) →
       In entry p.entries → task.part.previous < state.part.term
-  previous-less x task state at part_is p entry there =
-      subst (λ (part : Part). task.part.previous < part.term) part_is
+  previous-less x task state at part_is p entry there = subst (λ (part : Part). task.part.previous < part.term) part_is
       ((all.grants.fresh task.attempt task.master of_task.decision of_task.decided (record { to = x; part = task.part })
       of_task.given).1 entry.table entry.key within)
     where
@@ -365,12 +354,12 @@ module _ (sent : List Message) (masters : ServerId → Master) (hosts : ℕ → 
       within = (and_parts (nat_eq entry.term task.part.previous) _ passes).1
 
   -- what a log has under the term up to a place that no client wrote is the beginning of a base
-  pub replayed-begins : (m : ServerId) (before after : List LogPlace) (place : LogPlace)
+  pub replayed-begins : {m : ServerId} {before : List LogPlace} (after : List LogPlace) (place : LogPlace)
       (whole : places_of (masters m).log ≡ before ++ place ∷ after)
       (r : IsReplayed (part_view (masters m)) before place.entry) →
-      (task : Task) (p : HasJoined sent m (part_view (masters m)) task r.state) →
+      {task : Task} (p : HasJoined sent m (part_view (masters m)) task r.state) →
       Begins (under r.state.part.term (logged before) ++ place.entry ∷ []) (map (under_term r.state.part.term) p.entries)
-  replayed-begins m before after place whole r task p = begins
+  replayed-begins {m} {before} after place whole r p = begins
     where
       T : ℕ
       T = r.state.part.term
@@ -387,7 +376,7 @@ module _ (sent : List Message) (masters : ServerId → Master) (hosts : ℕ → 
       parted : under T logs ≡ upto ++ under T (logged after)
       parted = ap (λ places. under T (logged places)) whole ∙ ap (under T) (logged-append before (place ∷ after)) ∙
           under-append T (logged before) (place.entry ∷ logged after)
-          ∙ ap (λ l. under T (logged before) ++ l) (under-here T place.entry (logged after) (sym r.term_is))
+          ∙ ap (λ l. under T (logged before) ++ l) (under-here (logged after) (sym r.term_is))
           ∙ sym (append_assoc (under T (logged before)) (place.entry ∷ []) (under T (logged after)))
 
       long : length upto ≤ length base
@@ -422,8 +411,7 @@ module _ (sent : List Message) (masters : ServerId → Master) (hosts : ℕ → 
   replayed-rises m before after place whole r task at part_is p rises other there same =
       rises-middle T (under T (logged before)) place.entry begins.0
       (subst (RisesUnder T) (sym begins.1 ∙ append_assoc (under T (logged before)) (place.entry ∷ []) begins.0)
-      risen) other
-      (In-under T other (logged before) there (same.term_one ∙ sym r.term_is))
+      risen) other (In-under T other (logged before) there (same.term_one ∙ sym r.term_is))
       (record {
         term_one = same.term_one ∙ sym r.term_is;
         term_other = same.term_other ∙ sym r.term_is;
@@ -441,7 +429,7 @@ module _ (sent : List Message) (masters : ServerId → Master) (hosts : ℕ → 
       upto = under T (logged before) ++ place.entry ∷ []
 
       begins : Begins upto base
-      begins = replayed-begins m before after place whole r task p
+      begins = replayed-begins after place whole r p
 
       long : length upto ≤ length base
       long = Rattle.rc_step_laws.proofs.Lists.begins-length upto base begins
@@ -458,21 +446,21 @@ module _ (sent : List Message) (masters : ServerId → Master) (hosts : ℕ → 
           base-rises m task r.state at part_is p (rises (previous-less m task r.state at part_is p some.0 some.1))
 
   -- by the terms below it
-  log-rises : (m : ServerId) (term : ℕ) → ((k : ServerId) (old : ℕ) → old < term → LogRises k old) → LogRises m term
-  log-rises m term rec s o t k entry other here there earlier same =
+  log-rises : (m : ServerId) {term : ℕ} → ((k : ServerId) (old : ℕ) → old < term → LogRises k old) → LogRises m term
+  log-rises m {term} rec s o t k entry other here there earlier same =
       subst (λ (one : Entry). other.version < one.version) (split.entry_is ∙ one.2) (by split.place.client refl)
     where
       at : (0 < s) × (s ≤ (masters m).log.head)
-      at = opened m s o entry here
+      at = opened o here
 
       before-it : (0 < t) × (t ≤ (masters m).log.head)
-      before-it = opened m t k other there
+      before-it = opened k there
 
       one : (it : Entry × Bool) × (slice_get ((masters m).log.segments s).entries o ≡ Some it) × (it.0 ≡ entry)
-      one = get-map (λ (it : Entry × Bool). it.0) ((masters m).log.segments s).entries o entry here
+      one = get-map ((masters m).log.segments s).entries o here
 
       split : SplitsAt (places_of (masters m).log) one.0 (StandsEarlier (masters m).log.segments s o)
-      split = splits-to (masters m).log.segments (masters m).log.head s o one.0 at.0 at.1 one.1
+      split = splits-to (masters m).log.head at.0 at.1 one.1
 
       is_entry : split.place.entry ≡ entry
       is_entry = split.entry_is ∙ one.2
@@ -513,9 +501,9 @@ module _ (sent : List Message) (masters : ServerId → Master) (hosts : ℕ → 
                 key = same.key ∙ sym (ap (λ (x : Entry). x.key) is_entry);
               })
 
-  all-rise : (bound : ℕ) (m : ServerId) (term : ℕ) → term < bound → LogRises m term
-  all-rise zero m term less = absurd (omega (arith, less))
-  all-rise (suc bound) m term less = log-rises m term (λ k old below. all-rise bound k old (omega arith))
+  all-rise : (bound : ℕ) (m : ServerId) {term : ℕ} → term < bound → LogRises m term
+  all-rise zero m less = absurd (omega (arith, less))
+  all-rise (suc bound) m less = log-rises m (λ k old below. all-rise bound k (omega arith))
 
-  pub logs-rise : (m : ServerId) (term : ℕ) → LogRises m term
-  logs-rise m term = all-rise (suc term) m term (omega arith)
+  pub logs-rise : (m : ServerId) {term : ℕ} → LogRises m term
+  logs-rise m {term} = all-rise (suc term) m (omega arith)

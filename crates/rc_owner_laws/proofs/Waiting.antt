@@ -55,12 +55,12 @@ abbrev IsMarked : ServerList → Tablet → Type 0
 IsMarked servers tablet = (is_up servers tablet.owner ≡ true) ⊎ (tablet.crashed ≡ true)
 
 -- what was decided and waits now waited before, and each marked tablet stays
-stays-good : (c : Coordinator) → GoodTablets c → (new : Coordinator) → EachTablet IsProper new.tablets →
+stays-good : {c : Coordinator} → GoodTablets c → {new : Coordinator} → EachTablet IsProper new.tablets →
     EachTablet (IsMarked new.servers) new.tablets →
     ((number : ℕ) (master : ServerId) (decision : Decision) → IsDecided new.attempts number master decision →
     IsDecided c.attempts number master decision × (new.current master ≡ number → c.current master ≡ number)) →
     ((given : GivenPart) → IsGiven c.grants given → IsGiven new.grants given) → MarkedStay c.tablets new.tablets → GoodTablets new
-stays-good c good new proper marked decided given stay = record {
+stays-good {c} good {new} proper marked decided given stay = record {
   proper = proper;
   marked = marked;
   waiting = λ number master decision is current one at ungiven.
@@ -78,29 +78,28 @@ module _ (sent : List Message) (c : Coordinator) (base : GoodCoordinator sent c)
   abbrev After : Coordinator × List Message → Type 0
   After after = TabletsMoved after
 
-  still : (message : Message) → Fine message → After (c, message ∷ [])
-  still message fine = record { good = good; says = each-one Fine message fine }
+  still : {message : Message} → Fine message → After (c, message ∷ [])
+  still {message} fine = record { good = good; says = each-one Fine message fine }
 
   -- the attempts stay, and the grants
-  changed : (servers : ServerList) (ready : ServerId → Bool) (tablets : List Tablet) (least : ServerId → Pair) →
+  changed : {servers : ServerList} {ready : ServerId → Bool} {tablets : List Tablet} {least : ServerId → Pair} →
       EachTablet IsProper tablets → EachTablet (IsMarked servers) tablets → MarkedStay c.tablets tablets →
       GoodTablets (record c { servers = servers; ready = ready; tablets = tablets; least = least })
-  changed servers ready tablets least proper marked stay =
-      stays-good c good (record c { servers = servers; ready = ready; tablets = tablets; least = least }) proper marked
+  changed proper marked stay = stays-good good proper marked
       (λ number master decision is. (is, λ e. e)) (λ given is. is) stay
 
   -- Coming and going
 
-  came : (servers : ServerList) (tablets : List Tablet) → EachTablet IsProper tablets → EachTablet (IsMarked servers) tablets →
+  came : {servers : ServerList} {tablets : List Tablet} → EachTablet IsProper tablets → EachTablet (IsMarked servers) tablets →
       MarkedStay c.tablets tablets → After (record c { servers = servers; tablets = tablets }, spreads_list servers)
-  came servers tablets proper marked stay = record {
-    good = changed servers c.ready tablets c.least proper marked stay;
+  came {servers} proper marked stay = record {
+    good = changed proper marked stay;
     says = each-to Fine (list_body servers) (λ id. refl) (up servers);
   }
 
-  begun : (new : Coordinator) (master : ServerId) → GoodTablets new → GoodTablets (begins_attempt new master).0
-  begun new master is =
-      stays-good new is (begins_attempt new master).0 is.proper is.marked (begun-decided new master) (λ given was. was) (λ tablet at e. at)
+  begun : {new : Coordinator} (master : ServerId) → GoodTablets new → GoodTablets (begins_attempt new master).0
+  begun {new} master is =
+      stays-good is is.proper is.marked (begun-decided new master) (λ given was. was) (λ tablet at e. at)
 
   proper-marked : (owner : ServerId) → EachTablet IsProper (marked_crashed owner c.tablets)
   proper-marked owner = each-marked IsProper owner c.tablets
@@ -108,9 +107,7 @@ module _ (sent : List Message) (c : Coordinator) (base : GoodCoordinator sent c)
       (λ _. good.proper tablet at) (λ _. good.proper tablet at))
 
   crashed-good : (id : ServerId) → After (with_crashed c id, spreads_list (with_crashed c id).servers)
-  crashed-good id =
-      came (crashed id c.servers) (marked_crashed id c.tablets) (proper-marked id)
-      (each-marked (IsMarked (crashed id c.servers)) id c.tablets
+  crashed-good id = came (proper-marked id) (each-marked (IsMarked (crashed id c.servers)) id c.tablets
       (λ tablet at. either (IsMarked (crashed id c.servers)) (same_id id tablet.owner)
       (record tablet { crashed = true }) tablet (λ _. inr refl) (λ other. by tablet other (good.marked tablet at))))
       (stay-marked id c.tablets)
@@ -120,26 +117,23 @@ module _ (sent : List Message) (c : Coordinator) (base : GoodCoordinator sent c)
       by tablet other (inr e) = inr e
 
   -- where the id of its host that was up is another, the owner stays up
-  stays-up : (id : ServerId) (older : Option ServerId) → up_of_host id.index c.servers ≡ older → (tablet : Tablet) →
+  stays-up : (id : ServerId) {older : Option ServerId} → up_of_host id.index c.servers ≡ older → (tablet : Tablet) →
       (older ≡ Some tablet.owner → ⊥) → IsMarked c.servers tablet → IsMarked (enlisted id c.servers) tablet
-  stays-up id older is tablet other (inr e) = inr e
-  stays-up id older is tablet other (inl e) = split (nat_eq tablet.owner.index id.index)
-      (λ same. absurd (other (sym is ∙ up-of_host c.servers tablet.owner id.index base.servers e same)))
+  stays-up id is tablet other (inr e) = inr e
+  stays-up id is tablet other (inl e) = split (nat_eq tablet.owner.index id.index)
+      (λ same. absurd (other (sym is ∙ up-of_host c.servers id.index base.servers e same)))
       (λ differs. inl (up-enlisted id tablet.owner c.servers differs e))
 
   replaced-good : (id older : ServerId) → up_of_host id.index c.servers ≡ Some older → After (
     record c { servers = enlisted id c.servers; tablets = marked_crashed older c.tablets },
     spreads_list (enlisted id c.servers),
   )
-  replaced-good id older is =
-      came (enlisted id c.servers) (marked_crashed older c.tablets) (proper-marked older)
+  replaced-good id older is = came (proper-marked older)
       (each-marked (IsMarked (enlisted id c.servers)) older c.tablets
       (λ tablet at. either (IsMarked (enlisted id c.servers)) (same_id older tablet.owner)
-      (record tablet { crashed = true }) tablet (λ _. inr refl)
-      (λ other. stays-up id (Some older) is tablet
+      (record tablet { crashed = true }) tablet (λ _. inr refl) (λ other. stays-up id is tablet
       (λ e. true_false (sym (ap (λ (m : ServerId). same_id older m) (sym (one older tablet.owner e)) ∙
-      same_id-refl older) ∙ other)) (good.marked tablet at))))
-      (stay-marked older c.tablets)
+      same_id-refl older) ∙ other)) (good.marked tablet at)))) (stay-marked older c.tablets)
     where
       one : (a b : ServerId) → Some a ≡ Some b → a ≡ b
       one a b e = cc
@@ -148,22 +142,18 @@ module _ (sent : List Message) (c : Coordinator) (base : GoodCoordinator sent c)
 
   answered-good : (from : ServerId) (number : ℕ) (rows : List Row) (attempt : Attempt) → attempt.decided ≡ None →
       GoodTablets (with_attempt c number (with_answer from rows attempt))
-  answered-good from number rows attempt undecided =
-      stays-good c good (with_attempt c number (with_answer from rows attempt)) good.proper good.marked
+  answered-good from number rows attempt undecided = stays-good good good.proper good.marked
       (λ other master decision is. (answered-decided c from number rows attempt undecided other master decision is, λ e. e))
       (λ given is. is) (λ tablet at e. at)
 
   -- Splits: only a tablet that isn't marked is split
 
   split-good : (table at : ℕ) → IsSplit c.tablets table at → GoodTablets (record c { tablets = split_at table at c.tablets })
-  split-good table at is =
-      changed c.servers c.ready (split_at table at c.tablets) c.least
+  split-good table at is = changed
       (each-split IsProper table at c.tablets is.tablet is.found (lower is.tablet is.within is.inside)
-      (upper is.tablet is.within) good.proper)
-      (each-split (IsMarked c.servers) table at c.tablets is.tablet is.found
+      (upper is.tablet is.within) good.proper) (each-split (IsMarked c.servers) table at c.tablets is.tablet is.found
       (good.marked is.tablet (there c.tablets is.found)) (good.marked is.tablet (there c.tablets is.found))
-      good.marked)
-      (stay-split table at c.tablets is.tablet is.found is.unmarked)
+      good.marked) (stay-split table at c.tablets is.tablet is.found is.unmarked)
     where
       lower : (tablet : Tablet) → holds tablet table at ≡ true → nat_eq at tablet.range.lo ≡ false → tablet.range.lo ≤ at - 1
       lower tablet p q = grind (arith, nat_tests)
@@ -180,14 +170,13 @@ module _ (sent : List Message) (c : Coordinator) (base : GoodCoordinator sent c)
 
   -- Decisions: the parts are the tablets of the master, which are marked
 
-  decided-good : (number : ℕ) (attempt : Attempt) (plan : Plan) (ids : List ServerId) → IsNumbered c.attempts number attempt →
+  decided-good : {number : ℕ} {attempt : Attempt} (plan : Plan) (ids : List ServerId) → IsNumbered c.attempts number attempt →
       GoodTablets (decides_on c number attempt (decision_of c number attempt.master plan ids) ids).0
-  decided-good number attempt plan ids numbered = record {
+  decided-good {number} {attempt} plan ids numbered = record {
     proper = good.proper;
     marked = good.marked;
-    waiting = λ other master decision is current given at ungiven.
-        by other master decision current given at ungiven
-        (newly-decided c number attempt (decision_of c number attempt.master plan ids) other master decision is);
+    waiting = λ other master decision is current given at ungiven. by other master decision current given at ungiven
+        (newly-decided c number attempt other master decision is);
   }
     where
       -- the tablets of a master that has crashed are marked
@@ -224,32 +213,29 @@ module _ (sent : List Message) (c : Coordinator) (base : GoodCoordinator sent c)
   -- Grants
 
   -- the part of a sender waits for its tablet, so there is one
-  pub sender-waits : (id : ServerId) (number term : ℕ) (part : Part) →
+  pub sender-waits : {id : ServerId} {number term : ℕ} {part : Part} →
       (mine : IsSenders c id number term part) → grant_to c id term ≡ None →
       IsTablet c.tablets mine.attempt.master part
-  sender-waits id number term part mine none =
-      good.waiting number mine.attempt.master mine.decision
-      (senders-decided c id number term part mine) mine.current (gives id part) mine.among
-      (senders-open c id number term part mine none)
+  sender-waits {id} {number} {part} mine none = good.waiting number mine.attempt.master mine.decision
+      (senders-decided c mine) mine.current (gives id part) mine.among (senders-open c mine none)
 
-  granted-good : (id : ServerId) (number term : ℕ) (part : Part) → IsSenders c id number term part →
+  granted-good : {id : ServerId} {number term : ℕ} {part : Part} → IsSenders c id number term part →
       is_up c.servers id ≡ true → grant_to c id term ≡ None → has_range part.range c.tablets ≡ true →
       GoodTablets (record c {
         tablets = assigned part.range id part.term c.tablets;
-        grants = c.grants ++
-            grant_of number id part ∷ [];
+        grants = c.grants ++ grant_of number id part ∷ [];
       })
-  granted-good id number term part mine is_up_now none has = record {
+  granted-good {id} {number} {term} {part} mine is_up_now none has = record {
     proper = each-assigned IsProper part.range id part.term c.tablets (λ tablet at. (good.proper tablet at, good.proper tablet at));
     marked = each-assigned (IsMarked c.servers) part.range id part.term c.tablets
         (λ tablet at. (good.marked tablet at, inl is_up_now));
     waiting = λ other master decision is current given at ungiven.
         by other master decision is current given at ungiven (good.waiting other master decision is current given at
-        (λ was. ungiven (given-more c.grants (grant_of number id part) given was)));
+        (λ was. ungiven (given-more (grant_of number id part) given was)));
   }
     where
       new : IsNewGrant c (assigned part.range id part.term c.tablets) (grant_of number id part) c.last_term
-      new = new-grant sent c base grants id number term part mine is_up_now none has
+      new = new-grant sent c base grants mine is_up_now none has
 
       by : (other : ℕ) (master : ServerId) (decision : Decision) → IsDecided c.attempts other master decision →
           c.current master ≡ other → (given : GivenPart) → In given decision.parts →
@@ -257,31 +243,29 @@ module _ (sent : List Message) (c : Coordinator) (base : GoodCoordinator sent c)
           IsTablet (assigned part.range id part.term c.tablets) master given.part
       by other master decision is current given at ungiven waits = split (is_range part.range waits.tablet)
           (λ same. absurd (new.elsewhere other master decision is current given at ungiven waits.tablet.range.table waits.tablet.range.lo
-          (first-key given.part.range waits.tablet (its-range c.tablets master given.part waits)
-          (good.proper waits.tablet waits.among))
+          (first-key given.part.range waits.tablet (its-range waits) (good.proper waits.tablet waits.among))
           (first-key part.range waits.tablet same (good.proper waits.tablet waits.among))))
           (λ differs. tablet-in c.tablets (assigned part.range id part.term c.tablets) master given.part waits
           (stay-assigned part.range id part.term c.tablets waits.tablet waits.among differs))
 
   created-good : (table : ℕ) (owner : ServerId) → is_up c.servers owner ≡ true → GoodTablets (creates_table c table owner).0
-  created-good table owner is_up_now =
-      stays-good c good (creates_table c table owner).0
+  created-good table owner is_up_now = stays-good good
       (each-inserted IsProper (whole_table table owner (c.last_term + 1)) c.tablets (omega arith) good.proper)
       (each-inserted (IsMarked c.servers) (whole_table table owner (c.last_term + 1)) c.tablets (inl is_up_now) good.marked)
-      (λ number master decision is. (is, λ e. e)) (given-more c.grants (first_grant table owner (c.last_term + 1)))
+      (λ number master decision is. (is, λ e. e)) (given-more (first_grant table owner (c.last_term + 1)))
       (stay-inserted (whole_table table owner (c.last_term + 1)) c.tablets)
 
   -- All of them
 
   stays : Stays c Hears After
   stays = record {
-    refuses = λ fault. still (coordinator_refuses fault) refl;
-    denies = λ id fault other. still (refuses_server id fault) (refused-fine id fault other);
-    lists = λ id. still (from_coordinator id (list_body c.servers)) refl;
-    repeats = λ id term grant is found. still (from_coordinator id (own_body grant)) refl;
+    refuses = λ fault. still refl;
+    denies = λ id fault other. still (refused-fine id fault other);
+    lists = λ id. still refl;
+    repeats = λ id term grant is found. still refl;
     lacks = λ id number term part is lacking. (
-        let mine : IsSenders c id number term part = senders c id number term part (attempt_at c number) (numbered-at c number) is.found in
-        true_false (sym (ranged c.tablets mine.attempt.master part (sender-waits id number term part mine is.ungranted)) ∙ lacking));
+        let mine : IsSenders c id number term part = senders c (attempt_at c number) (numbered-at c) is.found in
+        true_false (sym (ranged (sender-waits mine is.ungranted)) ∙ lacking));
     ticks = record {
       good = good;
       says = each-ticks c Fine (record {
@@ -296,22 +280,21 @@ module _ (sent : List Message) (c : Coordinator) (base : GoodCoordinator sent c)
   moves = record {
     same = record { good = good; says = each-none Fine };
     crashes = λ id is. crashed-good id;
-    enlists = λ id is. came (enlisted id c.servers) c.tablets good.proper
-        (λ tablet at. stays-up id None is tablet (λ e. some-none (sym e)) (good.marked tablet at)) (λ tablet at e. at);
+    enlists = λ id is. came good.proper
+        (λ tablet at. stays-up id is tablet (λ e. some-none (sym e)) (good.marked tablet at)) (λ tablet at e. at);
     replaces = replaced-good;
     done = λ new messages p. p;
     begins = λ new messages master p crashed. record {
-      good = begun new master p.good;
+      good = begun master p.good;
       says = each-both Fine messages (begins_attempt new master).1 p.says
           (each-to Fine (Gather (length new.attempts + 1) master) (λ id. refl) (up new.servers));
     };
     readies = λ id. record {
-      good = changed c.servers (put_id c.ready id true) c.tablets c.least good.proper good.marked (λ tablet at e. at);
+      good = changed good.proper good.marked (λ tablet at e. at);
       says = each-none Fine;
     };
     commits = λ id pair heard is. record {
-      good = changed c.servers c.ready c.tablets (put_id c.least id (greater_pair (c.least id) pair)) good.proper good.marked
-          (λ tablet at e. at);
+      good = changed good.proper good.marked (λ tablet at e. at);
       says = each-one Fine (from_coordinator id (CommitOk pair.seg pair.epoch)) refl;
     };
     answers = λ from number rows attempt heard is undecided. record {
@@ -319,13 +302,12 @@ module _ (sent : List Message) (c : Coordinator) (base : GoodCoordinator sent c)
       says = each-none Fine;
     };
     decides = λ master attempt plan id ids is undecided picked. record {
-      good = decided-good (c.current master) attempt plan (id ∷ ids) (numbered-at c (c.current master) attempt is);
+      good = decided-good plan (id ∷ ids) (numbered-at c attempt is);
       says = each-plans Fine (c.current master) attempt.master (decision_of c (c.current master) attempt.master plan (id ∷ ids))
           (λ to part parts are. refl) (id ∷ ids);
     };
     grants = λ id number term part is has. record {
-      good = granted-good id number term part (senders c id number term part (attempt_at c number) (numbered-at c number) is.found)
-          is.up is.ungranted has;
+      good = granted-good (senders c (attempt_at c number) (numbered-at c) is.found) is.up is.ungranted has;
       says = each-one Fine (from_coordinator id (own_body (grant_of number id part))) refl;
     };
     creates = λ table owner is fresh room. record {

@@ -65,10 +65,9 @@ gives-simulated setup old new name given has is sim =
       all = after setup sim.all (Takes name given);
       reached = reach setup sim.all (Takes name given) sim.reached may;
       left = sim.left;
-      running =
-          put-one setup old.at sim.all name (next_with r given (written_down r.process.node given))
+      running = put-one setup old.at sim.all name (next_with r given (written_down r.process.node given))
           (record { life = life_next name p.life given; safe = p.safe }) (sim.all.done ++ deed_of name p.life given ∷ []) sim.all.left
-          (given-runs setup name r p sim.all.done given runs (goes.well name).safe (journals-make setup sim.all goes name) is.can)
+          (given-runs setup name r p sim.all.done given runs (goes.well name).safe (journals-make goes name) is.can)
           (λ other differ deed its at. In-left deed sim.all.done (deed_of name p.life given ∷ []) at) sim.running;
     })
 
@@ -177,8 +176,7 @@ leaves-simulated setup old new name messages has is sim =
     (subst (λ (q : Process). waits.deed.rests ≤ q.safe) (sym (with-at sim.all.at name next)) far.enough) in
     subst (Simulated setup) (sym is.is) (record {
       all = with_left synced messages;
-      reached =
-          leave-all setup synced waits.deed messages waits.among safe_now
+      reached = leave-all setup synced waits.deed messages waits.among safe_now
           (λ message at. subst (In message) (sym waits.sent) at) reached;
       left = ap (λ l. l ++ messages) sim.left;
       running =
@@ -199,8 +197,7 @@ leaves-simulated setup old new name messages has is sim =
             held = λ held at.
                 runs.held held (subst (In held) (sym is.leaves.stood) (without held one is.leaves.before is.leaves.later at));
             second = runs.second;
-          }))
-          (λ other differ deed its at. at) sim.running;
+          })) (λ other differ deed its at. at) sim.running;
     })
 
 -- A save
@@ -214,7 +211,7 @@ saving-simulated setup old new name has is sim =
     let runs : IsRunning setup name r p sim.all.done = sim.running name has in
     let made : SameNode (node_after (new_node setup name) p.life.journal) (node_seen is.node) =
     subst (SameNode (node_after (new_node setup name) p.life.journal)) (sym (is.its ∙ runs.node))
-    (journals-make setup sim.all goes name) in
+    (journals-make goes name) in
     let saving : Saving = record { cut = r.process.written; size = length is.save } in
     let second : HasSecond setup name is.save p.life.journal runs.saved (length runs.before) runs.works saving = record {
       save = is.saved.saved;
@@ -320,8 +317,7 @@ moved-runs setup name r p done saving runs short has = record {
         place (length has.all) has.save has.later count ≤ moved_place saving mark
     far count mark h =
         place-moved (length runs.before) (length has.all) runs.saved has.save has.earlier has.later saving has.sum has.cut has.size count
-        mark
-        (subst (λ l. place (length runs.before) runs.saved l count ≤ mark) has.parts h)
+        mark (subst (λ l. place (length runs.before) runs.saved l count ≤ mark) has.parts h)
 
     there : (count mark : ℕ) → place (length runs.before) runs.saved runs.works count ≤ mark →
         place (length has.all) has.save has.later count ≤ move_mark saving mark
@@ -340,8 +336,7 @@ moved-simulated setup old new name has is sim =
       all = sim.all;
       reached = sim.reached;
       left = sim.left;
-      running =
-          keep-one setup old.at sim.all name _
+      running = keep-one setup old.at sim.all name _
           (subst (λ (q : ProcessView). IsRunning setup name (record {
             process = q;
             file = r.second;
@@ -390,8 +385,7 @@ asks-simulated setup old new to body is sim =
     let among : In deed given.done = In-right deed sim.all.done (deed ∷ []) (inl refl) in
     subst (Simulated setup) (sym is.is) (record {
       all = with_left given (outside_sends w);
-      reached =
-          leave-all setup given deed (outside_sends w) among (omega arith)
+      reached = leave-all setup given deed (outside_sends w) among (omega arith)
           (λ message at. subst (In message) (sym sends) at) reached;
       left = ap (λ l. l ++ outside_sends w) sim.left;
       running = λ name has.
@@ -399,11 +393,9 @@ asks-simulated setup old new to body is sim =
           (λ d its at. In-left d sim.all.done (deed ∷ []) at) (sim.running name has));
     })
   where
-    others : (name : NodeName) → HasJournal name →
-        IsRunning setup name (old.at name) (sim.all.at name)
+    others : (name : NodeName) → HasJournal name → IsRunning setup name (old.at name) (sim.all.at name)
         (sim.all.done ++ deed_of TheOutside (sim.all.at TheOutside).life (Ask to body) ∷ []) →
-        IsRunning setup name (old.at name)
-        (with_process sim.all.at TheOutside
+        IsRunning setup name (old.at name) (with_process sim.all.at TheOutside
         (record { life = life_next TheOutside (sim.all.at TheOutside).life (Ask to body); safe = (sim.all.at TheOutside).safe }) name)
         (sim.all.done ++ deed_of TheOutside (sim.all.at TheOutside).life (Ask to body) ∷ [])
     others TheOutside has it = absurd has

@@ -67,8 +67,7 @@ next_with r given bytes = record {
     written = r.process.written + length bytes;
     started = started_next r.process given (r.process.written + length bytes);
     safe = r.process.safe;
-    held = r.process.held
-        ++ (
+    held = r.process.held ++ (
           cond (is_masters r.process.node given) r.process.started (r.process.written + length bytes),
           (node_step r.process.node given).1,
         ) ∷ [];
@@ -132,8 +131,7 @@ second-kept setup name second life saved before works saving given same kept may
 }
 
 second-not : (setup : Setup) (name : NodeName) (second : List ℕ) (journal : List NodeWork) (saved : Saved) (before : ℕ)
-    (works : List NodeWork)
-    (saving : Saving) → HasSecond setup name second journal saved before works saving →
+    (works : List NodeWork) (saving : Saving) → HasSecond setup name second journal saved before works saving →
     HasSecond setup name (second ++ []) journal saved before works saving
 second-not setup name second journal saved before works saving has =
     subst (λ l. HasSecond setup name l journal saved before works saving) (sym (append-nil second)) has
@@ -183,22 +181,18 @@ given-kept setup name r p done given is within same may kept =
       started =
           started-place n is.saved works p.life r.process.node given r.process (r.process.written + length (record_of given))
           (omega arith) (omega arith);
-      early =
-          subst (λ b. lives.started_next p.life given ≤ length (cond b (journal ++ given ∷ []) journal)) kept
-          (started-next name p.life.node p.life given is.named may is.early);
+      early = subst (λ b. lives.started_next p.life given ≤ length (cond b (journal ++ given ∷ []) journal)) kept
+          (started-next p.life.node p.life given is.named may is.early);
       safe = omega arith;
       known = is.known;
-      held =
-          held-next name n is.saved is.works (given ∷ []) journal (journal ++ given ∷ []) done
+      held = held-next name n is.saved is.works (given ∷ []) journal (journal ++ given ∷ []) done
           (deed_with name p.life given (length journal + 1)) r.process.held _ (omega arith) (omega arith) is.held (record {
             deed = deed_with name p.life given (length journal + 1);
             among = In-right (deed_with name p.life given (length journal + 1)) done _ (inl refl);
             node = refl;
             sent = ap (λ (x : Node × List Message). x.1) (sym stepped);
-            rests =
-                subst (λ b. place n is.saved works (length journal + 1) ≤ cond b r.process.started
-                (r.process.written + length (record_of given)))
-                (sym masters) (omega arith);
+            rests = subst (λ b. place n is.saved works (length journal + 1) ≤ cond b r.process.started
+                (r.process.written + length (record_of given))) (sym masters) (omega arith);
             within = omega arith;
           });
       second = λ saving e.
@@ -236,13 +230,11 @@ given-not setup name r p done given is within may kept =
       named = name-next p.life.node given ∙ is.named;
       written = omega arith;
       started = started-place n is.saved is.works p.life r.process.node given r.process (r.process.written + 0) old (omega arith);
-      early =
-          subst (λ b. lives.started_next p.life given ≤ length (cond b (journal ++ given ∷ []) journal)) kept
-          (started-next name p.life.node p.life given is.named may is.early);
+      early = subst (λ b. lives.started_next p.life given ≤ length (cond b (journal ++ given ∷ []) journal)) kept
+          (started-next p.life.node p.life given is.named may is.early);
       safe = is.safe;
       known = is.known;
-      held =
-          subst (λ l. (held : Held) → In held (r.process.held ++ _ ∷ []) →
+      held = subst (λ l. (held : Held) → In held (r.process.held ++ _ ∷ []) →
           Waits name n is.saved l journal (done ++ deed_with name p.life given rests ∷ []) held) nothing
           (held-next name n is.saved is.works [] journal journal done
           (deed_with name p.life given rests) r.process.held _ (omega arith) (omega arith) is.held (record {
@@ -250,8 +242,7 @@ given-not setup name r p done given is within may kept =
             among = In-right (deed_with name p.life given rests) done _ (inl refl);
             node = refl;
             sent = ap (λ (x : Node × List Message). x.1) (sym stepped);
-            rests =
-                subst (λ l. place n is.saved l rests ≤ _) (sym nothing)
+            rests = subst (λ l. place n is.saved l rests ≤ _) (sym nothing)
                 (subst (λ b. place n is.saved is.works rests ≤ cond b r.process.started (r.process.written + 0)) (sym masters)
                 (by (is_masters p.life.node given) old (omega arith)));
             within = less (is_masters p.life.node given) early;
@@ -276,18 +267,14 @@ pub given-runs : (setup : Setup) (name : NodeName) (r : Running) (p : Process) (
     SameNode (node_after (new_node setup name) p.life.journal) p.life.node →
     node_can r.process.node given ≡ true →
     IsRunning setup name (next_with r given (written_down r.process.node given))
-    (record { life = life_next name p.life given; safe = p.safe })
-    (done ++ deed_of name p.life given ∷ [])
+    (record { life = life_next name p.life given; safe = p.safe }) (done ++ deed_of name p.life given ∷ [])
 given-runs setup name r p done given is within same may =
     subst (λ (c : NodeName). IsRunning setup name (next_with r given (cond (keeps c given) (record_of given) []))
     (record { life = life_next name p.life given; safe = p.safe })
-    (done ++ deed_of name p.life given ∷ [])) (sym (ap name_of is.node ∙ is.named))
-    (by (keeps name given) refl)
+    (done ++ deed_of name p.life given ∷ [])) (sym (ap name_of is.node ∙ is.named)) (by (keeps name given) refl)
   where
-    by : (b : Bool) → keeps name given ≡ b →
-        Next setup name r p done given (cond b (record_of given) [])
-        (cond b (p.life.journal ++ given ∷ []) p.life.journal)
-        (cond b (length p.life.journal + 1)
+    by : (b : Bool) → keeps name given ≡ b → Next setup name r p done given (cond b (record_of given) [])
+        (cond b (p.life.journal ++ given ∷ []) p.life.journal) (cond b (length p.life.journal + 1)
         (cond (is_masters p.life.node given) p.life.started (length p.life.journal)))
     by true e =
         given-kept setup name r p done given is within same (subst (λ (n : Node). node_can n given ≡ true) is.node may) e

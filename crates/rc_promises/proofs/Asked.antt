@@ -11,15 +11,14 @@ use Rattle.rc_owner_laws.proofs.VersionReplays.{all-world}
 use Rattle.rc_promises.specs.Service.{HasAsked}
 use Rattle.rc_promises.proofs.News.{clients-are-heard}
 
-pub clients-asked : (setup : Setup) (events : List Event) (m : ServerId) →
+pub clients-asked : (setup : Setup) (events : List Event) {m : ServerId} →
     ClientsAsked (replay setup events).sent m ((replay setup events).masters m)
-clients-asked setup events m = kept-replay setup ClientsAsked (clients-kept setup) events m
+clients-asked setup events {m} = kept-replay setup ClientsAsked (clients-kept) events m
 
 -- it was the outside that asked
 pub client-asked : (setup : Setup) (events : List Event) (m : ServerId) (table key : ℕ) (value : Option (List ℕ)) →
     WasToldToWrite (replay setup events).sent m table key value → HasAsked (replay setup events).sent m table key value
-client-asked setup events m table key value p =
-    subst (λ (message : Message). In message (replay setup events).sent)
+client-asked setup events m table key value p = subst (λ (message : Message). In message (replay setup events).sent)
     (same p.message ((clients-are-heard setup events).asked p.message p.among table key value p.says) p.to p.says) p.among
   where
     same : (message : Message) → message.from ≡ Outside → message.to ≡ Server m → message.body ≡ Write table key value →
@@ -31,13 +30,13 @@ client-asked setup events m table key value p =
 abbrev ClientsAbove : List Message → ServerId → Master → Type 0
 ClientsAbove sent m master = (place : LogPlace) → In place (places_of master.log) → place.client ≡ true → 0 < place.entry.version
 
-above-kept : (setup : Setup) → IsKeptByAll setup ClientsAbove
-above-kept setup = record {
+above-kept : {setup : Setup} → IsKeptByAll setup ClientsAbove
+above-kept = record {
   opened = λ m place at. absurd at;
   led = record {
     same = λ sent m master p. p;
     others = λ sent messages m master p others. p;
-    takes = λ sent m master from body good p at. asks-takes (λ (entry : Entry). 0 < entry.version) master from body
+    takes = λ sent m master from body good p at. asks-takes (λ (entry : Entry). 0 < entry.version) master from
         (λ table key value under e. omega arith) p;
     ticks = λ sent m master good p. asks-ticks (λ (entry : Entry). 0 < entry.version) master p;
   };
@@ -46,16 +45,15 @@ above-kept setup = record {
 -- so the versions of clients' entries begin at 1
 pub clients-begin-at-one : (setup : Setup) (events : List Event) (m : ServerId) (place : LogPlace) →
     In place (places_of ((replay setup events).masters m).log) → place.client ≡ true → 0 < place.entry.version
-clients-begin-at-one setup events m place = kept-replay setup ClientsAbove (above-kept setup) events m place
+clients-begin-at-one setup events m place = kept-replay setup ClientsAbove (above-kept) events m place
 
 -- and those that are acknowledged
-pub versions-begin-at-one : (setup : Setup) (events : List Event) (m : ServerId) (ack : Ack) →
+pub versions-begin-at-one : (setup : Setup) (events : List Event) {m : ServerId} {ack : Ack} →
     HasAcknowledged (sent_after setup events) m ack → 0 < ack.version
-versions-begin-at-one setup events m ack p =
-    subst (λ n. 0 < n) is.written.version_is
-    (kept-replay setup ClientsAbove (above-kept setup) events m is.written.place is.written.among is.written.client)
+versions-begin-at-one setup events {m} {ack} p = subst (λ n. 0 < n) is.written.version_is
+    (kept-replay setup ClientsAbove (above-kept) events m is.written.place is.written.among is.written.client)
   where
     is : IsAcked (replay setup events).sent (replay setup events).masters (replay setup events).hosts (replay setup events).coordinator
         (all-world setup events) m ack
     is = acked (replay setup events).sent (replay setup events).masters (replay setup events).hosts (replay setup events).coordinator
-        (all-world setup events) m ack p
+        (all-world setup events) p

@@ -7,9 +7,9 @@ use Rattle.rc_model.specs.Model.{Entry, is_of, is_above, Found, found_in, or_gre
 use Rattle.rc_model.proofs.Tests.{true_false, either}
 use Rattle.rc_owner_laws.proofs.Appending.{is-of-true}
 
-of-is : (term table key : ℕ) (entry : Entry) → is_of term table key entry ≡ true → (entry.term ≡ term) × (entry.table ≡ table)
+of-is : {term table key : ℕ} (entry : Entry) → is_of term table key entry ≡ true → (entry.term ≡ term) × (entry.table ≡ table)
     × (entry.key ≡ key)
-of-is term table key entry e =
+of-is {term} {table} {key} entry e =
     let p = and_parts (nat_eq entry.term term) (nat_eq entry.table table && nat_eq entry.key key) e in
     let q = and_parts (nat_eq entry.table table) (nat_eq entry.key key) p.1 in
     (eqb-true entry.term term p.0, eqb-true entry.table table q.0, eqb-true entry.key key q.1)
@@ -37,15 +37,13 @@ module _ (term table key : ℕ) where
   or-least None entry = omega arith
   or-least (Some old) entry =
       either (λ (now : Option Entry). old.version ≤ (found_in now).version) (is_of term table key entry && nat_lt old.version entry.version)
-      (Some entry) (Some old)
-      (λ e. let less : old.version < entry.version = ltb-true old.version entry.version
+      (Some entry) (Some old) (λ e. let less : old.version < entry.version = ltb-true old.version entry.version
       (and_parts (is_of term table key entry) (nat_lt old.version entry.version) e).1 in omega arith)
       (λ e. omega arith)
 
   or-above : (found : Option Entry) (entry : Entry) → is_of term table key entry ≡ true →
       entry.version ≤ (found_in (or_greater term table key found entry)).version
-  or-above found entry of =
-      either (λ (now : Option Entry). entry.version ≤ (found_in now).version)
+  or-above found entry of = either (λ (now : Option Entry). entry.version ≤ (found_in now).version)
       (is_of term table key entry && is_above found entry.version) (Some entry) found
       (λ e. omega arith) (not-above found)
     where
@@ -86,23 +84,21 @@ module _ (term table key : ℕ) where
       let c : entry.version ≡ first.version = ap (λ (one : Entry). one.version) same in
       omega arith
 
-  or-is : (found : Option Entry) (entry : Entry) → (or_greater term table key found entry ≡ found)
+  or-is : {found : Option Entry} {entry : Entry} → (or_greater term table key found entry ≡ found)
       ⊎ IsOne (entry ∷ []) (or_greater term table key found entry)
-  or-is found entry =
-      either (λ (now : Option Entry). (now ≡ found) ⊎ IsOne (entry ∷ []) now)
+  or-is {found} {entry} = either (λ (now : Option Entry). (now ≡ found) ⊎ IsOne (entry ∷ []) now)
       (is_of term table key entry && is_above found entry.version) (Some entry) found
       (λ e. inr (record {
         entry = entry;
         among = inl refl;
         of = (and_parts (is_of term table key entry) (is_above found entry.version) e).0;
         is = refl;
-      }))
-      (λ e. inl refl)
+      })) (λ e. inl refl)
 
   from-is : (found : Option Entry) (entries : List Entry) → (fold (or_greater term table key) found entries ≡ found)
       ⊎ IsOne entries (fold (or_greater term table key) found entries)
   from-is found [] = inl refl
-  from-is found (entry ∷ entries) = by (from-is (or_greater term table key found entry) entries) (or-is found entry)
+  from-is found (entry ∷ entries) = by (from-is (or_greater term table key found entry) entries) (or-is)
     where
       more : IsOne entries (fold (or_greater term table key) (or_greater term table key found entry) entries) →
           IsOne (entry ∷ entries) (fold (or_greater term table key) (or_greater term table key found entry) entries)
@@ -128,18 +124,18 @@ module _ (term table key : ℕ) where
   -- no entry of the key under the term is above what a read finds
   pub read-above : (entries : List Entry) (entry : Entry) → In entry entries → entry.term ≡ term → entry.table ≡ table → entry.key ≡ key →
       entry.version ≤ (read_of term table key entries).version
-  read-above entries entry at a b c = from-above None entries entry at (is-of-true term table key entry a b c)
+  read-above entries entry at a b c = from-above None entries entry at (is-of-true entry a b c)
 
   -- it finds nothing, or one of them,
-  pub read-ways : (entries : List Entry) → (read_of term table key entries ≡ record { version = 0; value = None })
+  pub read-ways : {entries : List Entry} → (read_of term table key entries ≡ record { version = 0; value = None })
       ⊎ IsFound entries (read_of term table key entries)
-  read-ways entries = by (from-is None entries)
+  read-ways {entries} = by (from-is None entries)
     where
       by : (fold (or_greater term table key) None entries ≡ None) ⊎ IsOne entries (fold (or_greater term table key) None entries) →
           (read_of term table key entries ≡ record { version = 0; value = None }) ⊎ IsFound entries (read_of term table key entries)
       by (inl e) = inl (ap found_in e)
       by (inr p) =
-          let of = of-is term table key p.entry p.of in
+          let of = of-is p.entry p.of in
           inr (record {
             entry = p.entry;
             among = p.among;
@@ -151,9 +147,9 @@ module _ (term table key : ℕ) where
           })
 
   -- and above 0 it is one of them
-  pub read-is : (entries : List Entry) → ((read_of term table key entries).version ≡ 0 → ⊥) →
+  pub read-is : {entries : List Entry} → ((read_of term table key entries).version ≡ 0 → ⊥) →
       IsFound entries (read_of term table key entries)
-  read-is entries above = by (read-ways entries)
+  read-is {entries} above = by (read-ways)
     where
       by : (read_of term table key entries ≡ record { version = 0; value = None }) ⊎ IsFound entries (read_of term table key entries) →
           IsFound entries (read_of term table key entries)

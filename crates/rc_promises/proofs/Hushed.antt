@@ -51,8 +51,8 @@ abbrev pub is_read : Body → Bool
 is_read (Read table key) = true
 is_read _ = false
 
-taken : (master : Master) (from : Addr) (body : Body) → is_read body ≡ false → Taken By master from body
-taken master from body isn't = record {
+taken : {master : Master} {from : Addr} {body : Body} → is_read body ≡ false → Taken By master from body
+taken isn't = record {
   refuses = λ other fault. one refl;
   rolls = λ ids writing room chosen. several _ _ _ refl;
   writes = λ term table key value is owned writing room. several _ _ _ refl;
@@ -98,12 +98,12 @@ followed = record {
   answers = λ master term is. one refl;
 }
 
-pub hush-then : (first : Master × List Message) (rule : Master → Master × List Message) → Hush first →
+pub hush-then : {first : Master × List Message} {rule : Master → Master × List Message} → Hush first →
     ((after : Master) → Hush (rule after)) → Hush (then_does first rule)
-hush-then first rule p q = kept-then By joined first.0 first rule p q
+hush-then {first} {rule} p q = kept-then By joined first.0 first rule p q
 
 pub hush-takes_first : (master : Master) (from : Addr) (body : Body) → is_read body ≡ false → Hush (master_takes_first master from body)
-hush-takes_first master from body isn't = kept-takes_first By joined listed master from body (taken master from body isn't)
+hush-takes_first master from body isn't = kept-takes_first By joined listed master from body (taken isn't)
 
 pub hush-deposed : (master : Master) (body : Body) → Hush (deposed_takes master body)
 hush-deposed master body = kept-deposed By joined (λ other fault. one refl) master body

@@ -32,15 +32,15 @@ pub record StandsSecond {X : Type 0} (xs ys before : List X) (x : X) (after : Li
   pub before_is : before ≡ xs ++ between
   pub whole : ys ≡ between ++ x ∷ after
 
-pub stands-where : {X : Type 0} (xs ys before : List X) (x : X) (after : List X) → xs ++ ys ≡ before ++ x ∷ after → StandsFirst xs before x
+pub stands-where : {X : Type 0} (xs : List X) {ys : List X} (before : List X) {x : X} {after : List X} → xs ++ ys ≡ before ++ x ∷ after → StandsFirst xs before x
     ⊎ StandsSecond xs ys before x after
-stands-where [] ys before x after e = inr (record { between = before; before_is = refl; whole = e })
-stands-where {X} (z ∷ xs) ys [] x after e = inl (record { after = xs; whole = ap (λ (one : X). one ∷ xs) heads })
+stands-where [] before e = inr (record { between = before; before_is = refl; whole = e })
+stands-where {X} (z ∷ xs) [] {x} {after} e = inl (record { after = xs; whole = ap (λ (one : X). one ∷ xs) heads })
   where
     heads : z ≡ x
     heads = cc
-stands-where {X} (z ∷ xs) ys (y ∷ before) x after e = by
-    (stands-where xs ys before x after (let tails : xs ++ ys ≡ before ++ x ∷ after = cc in tails))
+stands-where {X} (z ∷ xs) {ys} (y ∷ before) {x} {after} e = by
+    (stands-where xs before (let tails : xs ++ ys ≡ before ++ x ∷ after = cc in tails))
   where
     heads : z ≡ y
     heads = cc
@@ -50,8 +50,7 @@ stands-where {X} (z ∷ xs) ys (y ∷ before) x after e = by
     by (inl p) = inl (record { after = p.after; whole = ap (λ l. z ∷ l) p.whole ∙ ap (λ (one : X). one ∷ before ++ x ∷ p.after) heads })
     by (inr p) = inr (record {
       between = p.between;
-      before_is = ap (λ l. y ∷ l) p.before_is
-          ∙ ap (λ (one : X). one ∷ xs ++ p.between) (sym heads);
+      before_is = ap (λ l. y ∷ l) p.before_is ∙ ap (λ (one : X). one ∷ xs ++ p.between) (sym heads);
       whole = p.whole;
     })
 
@@ -64,11 +63,10 @@ pub record Reads (master : Master) (before : List Message) (table key version : 
   pub owned : term_of master.ownership table key ≡ Some term
   pub found : ◌≡◌ {A = Found} (read_of term table key (durable_entries master)) (record { version = version; value = value })
 
-hushed-no : {P : Type 0} (messages before : List Message) (message : Message) (after : List Message) → Hushed messages →
-    messages ≡ before ++ message ∷ after → (table key version : ℕ) (value : Option (List ℕ)) →
+hushed-no : {P : Type 0} {messages : List Message} (before : List Message) (message : Message) (after : List Message) → Hushed messages →
+    messages ≡ before ++ message ∷ after → {table key version : ℕ} {value : Option (List ℕ)} →
     message.body ≡ ReadOk table key version value → P
-hushed-no messages before message after hushed e table key version value says =
-    true_false (sym (ap is_read_ok says) ∙ hushed message
+hushed-no before message after hushed e says = true_false (sym (ap is_read_ok says) ∙ hushed message
     (subst (In message) (sym e) (In-right message before (message ∷ after) (inl refl))))
 
 abbrev ReadsBy : Master → Master × List Message → Type 0
@@ -76,22 +74,20 @@ ReadsBy master done = (before : List Message) (message : Message) (after : List 
     (table key version : ℕ) (value : Option (List ℕ)) → message.body ≡ ReadOk table key version value →
     Reads master before table key version value
 
-reads-hushed : (master : Master) (done : Master × List Message) → Hush done → ReadsBy master done
-reads-hushed master done hushed before message after e table key version value says =
-    hushed-no done.1 before message after hushed.hushed e table
-    key version value says
+reads-hushed : {master : Master} {done : Master × List Message} → Hush done → ReadsBy master done
+reads-hushed hushed before message after e table key version value says =
+    hushed-no before message after hushed.hushed e says
 
 -- the answer, and what follows up
-answer-first : (master : Master) (term table key : ℕ) → term_of master.ownership table key ≡ Some term → (rest : List Message) →
-    Hushed rest →
-    (before : List Message) (message : Message) (after : List Message) →
+answer-first : {master : Master} {term table key : ℕ} → term_of master.ownership table key ≡ Some term → {rest : List Message} →
+    Hushed rest → (before : List Message) (message : Message) (after : List Message) →
     to_outside master.log.own
     (ReadOk table key (read_of term table key (durable_entries master)).version (read_of term table key (durable_entries master)).value)
     ∷ rest ≡ before ++ message ∷ after →
-    (t k version : ℕ) (value : Option (List ℕ)) → message.body ≡ ReadOk t k version value → Reads master before t k version value
-answer-first master term table key owned rest hushed (one ∷ before) message after e t k version value says =
-    hushed-no rest before message after hushed (let tails : rest ≡ before ++ message ∷ after = cc in tails) t k version value says
-answer-first master term table key owned rest hushed [] message after e t k version value says = record {
+    {t k version : ℕ} {value : Option (List ℕ)} → message.body ≡ ReadOk t k version value → Reads master before t k version value
+answer-first owned {rest} hushed (one ∷ before) message after e says =
+    hushed-no before message after hushed (let tails : rest ≡ before ++ message ∷ after = cc in tails) says
+answer-first {master} {term} {table} {key} owned hushed [] message after e {t} {k} {version} {value} says = record {
   first = refl;
   term = term;
   owned = subst (λ n. term_of master.ownership n k ≡ Some term) tables
@@ -125,9 +121,9 @@ answer-first master term table key owned rest hushed [] message after e t k vers
     values : (read_of term table key (durable_entries master)).value ≡ value
     values = cc
 
-reads-answered : (master : Master) (found : Option ℕ) (table key : ℕ) → term_of master.ownership table key ≡ found →
+reads-answered : {master : Master} (found : Option ℕ) (table key : ℕ) → term_of master.ownership table key ≡ found →
     ReadsBy master (then_does (option_map_or (λ term. reads_under master term table key) found (refused master NotOwner)) goes_on)
-reads-answered master None table key e before message after same t k version value says = refusal before same
+reads-answered {master} None table key e before message after same t k version value says = refusal before same
   where
     refusal : (before : List Message) → (then_does (refused master NotOwner) goes_on).1 ≡ before ++ message ∷ after →
         Reads master before t k version value
@@ -135,21 +131,19 @@ reads-answered master None table key e before message after same t k version val
         let heads : Rattle.rc_model.specs.Messages.refuses master.log.own Rattle.rc_types.specs.declared.faults.Fault.TheVariants.NotOwner ≡
         message = cc in
         true_false (sym (ap is_read_ok says) ∙ ap (λ (one : Message). is_read_ok one.body) (sym heads))
-    refusal (one ∷ rest) whole =
-        hushed-no (goes_on master).1 rest message after (hush-goes master).hushed
-        (let tails : (goes_on master).1 ≡ rest ++ message ∷ after = cc in tails) t k version value says
-reads-answered master (Some term) table key e before message after same t k version value says =
-    answer-first master term table key e (goes_on master).1 (hush-goes master).hushed before message after same t k version value says
+    refusal (one ∷ rest) whole = hushed-no rest message after (hush-goes master).hushed
+        (let tails : (goes_on master).1 ≡ rest ++ message ∷ after = cc in tails) says
+reads-answered {master} (Some term) table key e before message after same t k version value says =
+    answer-first e (hush-goes master).hushed before message after same says
 
-takes-first : (master : Master) (from : Addr) (body : Body) → ReadsBy master (then_does (master_takes_first master from body) goes_on)
-takes-first master from (Read table key) = reads-answered master (term_of master.ownership table key) table key refl
-takes-first master from body = reads-hushed master (then_does (master_takes_first master from body) goes_on)
-    (hush-then (master_takes_first master from body) goes_on (hush-takes_first master from body refl) hush-goes)
+takes-first : {master : Master} (from : Addr) (body : Body) → ReadsBy master (then_does (master_takes_first master from body) goes_on)
+takes-first {master} from (Read table key) = reads-answered (term_of master.ownership table key) table key refl
+takes-first {master} from body = reads-hushed (hush-then (hush-takes_first master from body refl) hush-goes)
 
-reads-takes : (master : Master) (from : Addr) (body : Body) → ReadsBy master (master_takes master from body)
-reads-takes master from body =
+reads-takes : {master : Master} (from : Addr) (body : Body) → ReadsBy master (master_takes master from body)
+reads-takes {master} from body =
     either (ReadsBy master) master.deposed (deposed_takes master body) (then_does (master_takes_first master from body) goes_on)
-    (λ e. reads-hushed master (deposed_takes master body) (hush-deposed master body)) (λ e. takes-first master from body)
+    (λ e. reads-hushed (hush-deposed master body)) (λ e. takes-first from body)
 
 -- What an event newly sends
 
@@ -161,26 +155,26 @@ pub record IsNews (world : World) (messages : List Message) : Type 0 where
       (table key version : ℕ) (value : Option (List ℕ)) → message.body ≡ ReadOk table key version value →
       Reads (world.masters m) before table key version value
 
-among : {X : Type 0} (x : X) (xs before after : List X) → xs ≡ before ++ x ∷ after → In x xs
-among x xs before after e = subst (In x) (sym e) (In-right x before (x ∷ after) (inl refl))
+among : {X : Type 0} (x : X) {xs : List X} (before after : List X) → xs ≡ before ++ x ∷ after → In x xs
+among x before after e = subst (In x) (sym e) (In-right x before (x ∷ after) (inl refl))
 
 -- what answers no read
-news-quiet : (world : World) (messages : List Message) →
+news-quiet : {world : World} {messages : List Message} →
     ((message : Message) → In message messages → (table key : ℕ) (value : Option (List ℕ)) → message.body ≡ Write table key value →
     message.from ≡ Outside) →
     ((message : Message) → In message messages → (m : ServerId) → message.from ≡ Server m → is_read_ok message.body ≡ false) →
     IsNews world messages
-news-quiet world messages asked quiet = record {
+news-quiet asked quiet = record {
   asked = asked;
   reads = λ m before message after e from table key version value says.
-      true_false (sym (ap is_read_ok says) ∙ quiet message (among message messages before after e) m from);
+      true_false (sym (ap is_read_ok says) ∙ quiet message (among message before after e) m from);
 }
 
-news-none : (world : World) → IsNews world []
-news-none world = news-quiet world [] (λ message at. absurd at) (λ message at. absurd at)
+news-none : {world : World} → IsNews world []
+news-none = news-quiet (λ message at. absurd at) (λ message at. absurd at)
 
-news-outside : (world : World) (work : NodeWork) → IsNews world (outside_sends work)
-news-outside world (Ask to body) = news-quiet world (outside_sends (Ask to body)) (λ message at table key value says. from message at)
+news-outside : {world : World} (work : NodeWork) → IsNews world (outside_sends work)
+news-outside (Ask to body) = news-quiet (λ message at table key value says. from message at)
     (λ message at m server. not_server m (sym (from message at) ∙ server))
   where
     from : (message : Message) → In message (outside_sends (Ask to body)) → message.from ≡ Outside
@@ -189,12 +183,11 @@ news-outside world (Ask to body) = news-quiet world (outside_sends (Ask to body)
 
     not_server : {P : Type 0} (m : ServerId) → Outside ≡ Server m → P
     not_server m e = cc
-news-outside world _ = news-none world
+news-outside _ = news-none
 
-news-coordinator : (world : World) (after : Coordinator × List Message) → CoordinatorMoved world.sent world.coordinator after →
+news-coordinator : {world : World} {after : Coordinator × List Message} → CoordinatorMoved world.sent world.coordinator after →
     IsNews world after.1
-news-coordinator world after moved = news-quiet world after.1
-    (λ message at table key value says. absurd
+news-coordinator {after} moved = news-quiet (λ message at table key value says. absurd
     (never table key value message.to
     (subst (λ (body : Body). coordinator_body_said after.0 message.to body) says (moved.says message at))))
     (λ message at m server. not_server m (sym (moved.from message at) ∙ server))
@@ -206,16 +199,14 @@ news-coordinator world after moved = news-quiet world after.1
     not_server m e = cc
 
 module _ (world : World) (one : Event) (i : ℕ) (good : GoodWorld world) where
-  news-backup : (after : Backup × List Message) →
+  news-backup : {after : Backup × List Message} →
       BackupMoved world.sent world.masters (put world.hosts i (record (world.hosts i) { backup = after.0 })) world.coordinator
       (world.hosts i) after → IsNews world after.1
-  news-backup after moved = news-quiet world after.1
-      (λ message at table key value says. absurd
+  news-backup {after} moved = news-quiet (λ message at table key value says. absurd
       (no-write table key value message.to
       (subst (λ (body : Body). backup_body_said (world.sent ++ after.1) world.masters
       (put world.hosts i (record (world.hosts i) { backup = after.0 })) world.coordinator (world.hosts i) after.0 message.to body) says
-      (moved.says message at))))
-      (λ message at m server. no-read message.to message.body (moved.says message at))
+      (moved.says message at)))) (λ message at m server. no-read message.to message.body (moved.says message at))
     where
       no-write : (table key : ℕ) (value : Option (List ℕ)) (to : Addr) →
           backup_body_said (world.sent ++ after.1) world.masters (put world.hosts i (record (world.hosts i) { backup = after.0 }))
@@ -228,17 +219,16 @@ module _ (world : World) (one : Event) (i : ℕ) (good : GoodWorld world) where
       no-read to (ReadOk table key version value) p = absurd p
       no-read to _ p = refl
 
-  news-master : (master : Master) → (world.hosts i).master ≡ Some master → (after : Master × List Message) →
+  news-master : {master : Master} → (world.hosts i).master ≡ Some master → {after : Master × List Message} →
       MasterMoved world.sent (server_of (world.hosts i)) master after → ReadsBy master after → IsNews world after.1
-  news-master master e after moved reads = record {
+  news-master {master} e {after} moved reads = record {
     asked = λ message at table key value says. absurd (no-write table key value message.to
         (subst (λ (body : Body). body_said world.sent (world.sent ++ after.1) (server_of (world.hosts i)) master.log after.0.log message.to
         body) says (moved.says message at).says));
     reads = λ m before message rest whole from table key version value says.
-        subst (λ (view : Master). Reads view before table key version value)
-        (sym ((good.hosts_are i).runs master e)
+        subst (λ (view : Master). Reads view before table key version value) (sym ((good.hosts_are i).runs master e)
         ∙ ap world.masters
-        (server-same (server_of (world.hosts i)) m (sym (moved.says message (among message after.1 before rest whole)).from ∙ from)))
+        (server-same (server_of (world.hosts i)) m (sym (moved.says message (among message before rest whole)).from ∙ from)))
         (reads before message rest whole table key version value says);
   }
     where
@@ -250,7 +240,7 @@ module _ (world : World) (one : Event) (i : ℕ) (good : GoodWorld world) where
   News after = IsNews world after.1
 
   news-starts : (kept : List (ServerId × ℕ)) → News (starts_host (world.hosts i) (next_server (world.hosts i)) kept)
-  news-starts kept = news-quiet world (to_coordinator (next_server (world.hosts i)) Enlist ∷ []) asked quiet
+  news-starts kept = news-quiet asked quiet
     where
       asked : (message : Message) → In message (to_coordinator (next_server (world.hosts i)) Enlist ∷ []) →
           (table key : ℕ) (value : Option (List ℕ)) → message.body ≡ Write table key value → message.from ≡ Outside
@@ -265,12 +255,11 @@ module _ (world : World) (one : Event) (i : ℕ) (good : GoodWorld world) where
 
   news-host : (work : NodeWork) → IsGiven world.sent (TheHost i) work → News (host_step (world.hosts i) work)
   news-host work given = walked-host world one i good News (record {
-    still = news-none world;
-    backs = λ master e from says at moved. news-backup (backup_takes (world.hosts i).backup from says) moved;
-    takes = λ master e from says at moved. news-master master e (master_takes master from says) moved (reads-takes master from says);
-    ticks = λ master e moved. news-master master e (master_ticks master) moved
-        (reads-hushed master (master_ticks master) (hush-master_ticks master));
-    stops = news-none world;
+    still = news-none;
+    backs = λ master e from says at moved. news-backup moved;
+    takes = λ master e from says at moved. news-master e moved (reads-takes from says);
+    ticks = λ master e moved. news-master e moved (reads-hushed (hush-master_ticks master));
+    stops = news-none;
     starts = news-starts;
   }) work given
 
@@ -282,29 +271,29 @@ pub record Adds (world after : World) : Type 0 where
   pub grows : after.sent ≡ world.sent ++ messages
   pub news : IsNews world messages
 
-adds-node : (world : World) (one : Event) (node : NodeName) (work : NodeWork) → GoodWorld world → IsGiven world.sent node work →
+adds-node : {world : World} (one : Event) (node : NodeName) (work : NodeWork) → GoodWorld world → IsGiven world.sent node work →
     Adds world (node_done world one node work)
-adds-node world one TheOutside work good given = record { messages = outside_sends work; grows = refl; news = news-outside world work }
-adds-node world one TheCoordinator work good given = record {
+adds-node one TheOutside work good given = record { messages = outside_sends work; grows = refl; news = news-outside work }
+adds-node {world} one TheCoordinator work good given = record {
   messages = (coordinator_step world.coordinator work).1;
   grows = refl;
-  news = news-coordinator world (coordinator_step world.coordinator work) (coordinator-moved world work good given);
+  news = news-coordinator (coordinator-moved world work good given);
 }
-adds-node world one (TheHost i) work good given = record
+adds-node {world} one (TheHost i) work good given = record
     { messages = (host_step (world.hosts i) work).1; grows = refl; news = news-host world one i good work given }
 
-adds-none : (world : World) → Adds world world
-adds-none world = record { messages = []; grows = sym (append-nil world.sent); news = news-none world }
+adds-none : {world : World} → Adds world world
+adds-none {world} = record { messages = []; grows = sym (append-nil world.sent); news = news-none }
 
-adds-job : (world : World) (one : Event) (found : Option Job) → job_of world.sent one ≡ found → GoodWorld world →
+adds-job : {world : World} (one : Event) (found : Option Job) → job_of world.sent one ≡ found → GoodWorld world →
     Adds world (job_done world one found)
-adds-job world one None is good = adds-none world
-adds-job world one (Some job) is good = adds-node world one job.node job.work good (job_of-given world.sent one job is)
+adds-job one None is good = adds-none
+adds-job {world} one (Some job) is good = adds-node one job.node job.work good (job_of-given world.sent one is)
 
-pub adds-step : (world : World) (one : Event) → GoodWorld world → Adds world (step world one)
-adds-step world one good =
+pub adds-step : {world : World} (one : Event) → GoodWorld world → Adds world (step world one)
+adds-step {world} one good =
     either (Adds world) (is_possible world one) (job_done world one (job_of world.sent one)) world
-    (λ _. adds-job world one (job_of world.sent one) refl good) (λ _. adds-none world)
+    (λ _. adds-job one (job_of world.sent one) refl good) (λ _. adds-none)
 
 -- In every world
 
@@ -328,23 +317,23 @@ pub record ClientsAreHeard (setup : Setup) (events : List Event) : Type 0 where
       (table key version : ℕ) (value : Option (List ℕ)) → message.body ≡ ReadOk table key version value →
       WasRead setup events m before table key version value
 
-heard-none : (setup : Setup) → ClientsAreHeard setup []
-heard-none setup = record {
+heard-none : {setup : Setup} → ClientsAreHeard setup []
+heard-none = record {
   asked = λ message at. absurd at;
-  reads = λ m before message after e. absurd (among message [] before after e);
+  reads = λ m before message after e. absurd (among message before after e);
 }
 
-heard-one : (setup : Setup) (past : List Event) (one : Event) → ClientsAreHeard setup past → ClientsAreHeard setup (past ++ one ∷ [])
-heard-one setup past one p = record {
+heard-one : {setup : Setup} {past : List Event} (one : Event) → ClientsAreHeard setup past → ClientsAreHeard setup (past ++ one ∷ [])
+heard-one {setup} {past} one p = record {
   asked = λ message at table key value says. asked message
       (In-append message (replay setup past).sent new.messages (subst (In message) grows at)) table key value says;
   reads = λ m before message after e from table key version value says.
-      reads m before message after (stands-where (replay setup past).sent new.messages before message after (sym grows ∙ e)) from table key
+      reads m before message after (stands-where (replay setup past).sent before (sym grows ∙ e)) from table key
       version value says;
 }
   where
     new : Adds (replay setup past) (step (replay setup past) one)
-    new = adds-step (replay setup past) one (good-world setup past)
+    new = adds-step one (good-world setup past)
 
     grows : (replay setup (past ++ one ∷ [])).sent ≡ (replay setup past).sent ++ new.messages
     grows = ap (λ (world : World). world.sent) (replay_from-append (opening setup) past (one ∷ [])) ∙ new.grows
@@ -384,11 +373,10 @@ heard-one setup past one p = record {
           found = was.found;
         }
 
-heard-more : (setup : Setup) (past events : List Event) → ClientsAreHeard setup past → ClientsAreHeard setup (past ++ events)
-heard-more setup past [] p = subst (ClientsAreHeard setup) (sym (append-nil past)) p
-heard-more setup past (one ∷ events) p =
-    subst (ClientsAreHeard setup) (append_assoc past (one ∷ []) events)
-    (heard-more setup (past ++ one ∷ []) events (heard-one setup past one p))
+heard-more : {setup : Setup} {past : List Event} (events : List Event) → ClientsAreHeard setup past → ClientsAreHeard setup (past ++ events)
+heard-more {setup} {past} [] p = subst (ClientsAreHeard setup) (sym (append-nil past)) p
+heard-more {setup} {past} (one ∷ events) p = subst (ClientsAreHeard setup) (append_assoc past (one ∷ []) events)
+    (heard-more events (heard-one one p))
 
 pub clients-are-heard : (setup : Setup) (events : List Event) → ClientsAreHeard setup events
-clients-are-heard setup events = heard-more setup [] events (heard-none setup)
+clients-are-heard setup events = heard-more events (heard-none)

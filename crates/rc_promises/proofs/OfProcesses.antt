@@ -25,54 +25,50 @@ use Rattle.rc_promises.proofs.ServiceApart.{one-write-apart, written-apart, time
 
 -- what is said of some messages is said of more
 
-accepted-more : (left sent : List Message) (plan : Accepted) → ((message : Message) → In message left → In message sent) →
+accepted-more : {left sent : List Message} {plan : Accepted} → ((message : Message) → In message left → In message sent) →
     WasAccepted left plan → WasAccepted sent plan
-accepted-more left sent plan all was =
+accepted-more all was =
     record { message = was.message; among = all was.message was.among; head = was.head; parts = was.parts; says = was.says }
 
-acknowledged-more : (left sent : List Message) (m : ServerId) (ack : Ack) →
+acknowledged-more : {left sent : List Message} {m : ServerId} {ack : Ack} →
     ((message : Message) → In message left → In message sent) → HasAcknowledged left m ack → HasAcknowledged sent m ack
-acknowledged-more left sent m ack all has =
+acknowledged-more all has =
     record { message = has.message; among = all has.message has.among; from = has.from; says = has.says }
 
 -- The headline
 
 pub no-breach-of-processes : NoBreachOfProcesses
 no-breach-of-processes setup all history =
-    ap breach (sym (apart-history setup history.steps history.apart).sent) ∙ there-is-no-breach setup (events_by history.steps)
+    ap breach (sym (apart-history history.apart).sent) ∙ there-is-no-breach setup (events_by history.steps)
 
 pub nothing-is-missing-of-processes : NothingIsMissingOfProcesses
 nothing-is-missing-of-processes setup all history plan was ack has =
     let sent : List Message = sent_by history.steps in
     let headline : Headline sent = (breach_is_headline sent).0 (no-breach-of-processes setup all history) in
-    headline.there plan (accepted-more all.left sent plan history.sent was) ack
-    (acknowledged-more all.left sent plan.master ack history.sent has)
+    headline.there plan (accepted-more history.sent was) ack (acknowledged-more history.sent has)
 
 pub strong-of-processes : StrongOfProcesses
 strong-of-processes setup all history free plan was ack has =
     let sent : List Message = sent_by history.steps in
     let dropped : NothingIsDropped sent =
-    subst NothingIsDropped (apart-history setup history.steps history.apart).sent
+    subst NothingIsDropped (apart-history history.apart).sent
     (nothing-is-dropped setup (events_by history.steps) free) in
-    dropped plan (accepted-more all.left sent plan history.sent was) ack
-    (acknowledged-more all.left sent plan.master ack history.sent has)
+    dropped plan (accepted-more history.sent was) ack (acknowledged-more history.sent has)
 
 -- What a client may rely on
 
 pub one-write-of-processes : OneWriteOfProcesses
 one-write-of-processes setup all history m ack has =
-    one-write-apart setup history.steps history.apart m ack (acknowledged-more all.left (sent_by history.steps) m ack history.sent has)
+    one-write-apart setup history.steps history.apart m ack (acknowledged-more history.sent has)
 
 pub written-of-processes : WrittenOfProcesses
-written-of-processes setup all history m ack factor has =
-    written-apart setup history.steps history.apart m ack factor
-    (acknowledged-more all.left (sent_by history.steps) m ack history.sent has)
+written-of-processes setup all history m ack factor has = written-apart setup history.steps history.apart m ack factor
+    (acknowledged-more history.sent has)
 
 pub time-of-processes : TimeOfProcesses
 time-of-processes setup early now history m x first later entry has written of_key unasked =
     time-apart setup history.steps history.more history.apart m x first later entry
-    (acknowledged-more early.left (sent_by history.steps) m first history.left_by_then has) written of_key
-    (λ asked. unasked (history.done_by_then _ asked))
+    (acknowledged-more history.left_by_then has) written of_key (λ asked. unasked (history.done_by_then _ asked))
 
 -- a member stands between others
 record Between (messages : List Message) (message : Message) : Type 0 where
@@ -87,10 +83,10 @@ between (one ∷ messages) message (inr at) =
     let found : Between messages message = between messages message at in
     record { first = one ∷ found.first; last = found.last; whole = ap (λ l. one ∷ l) found.whole }
 
-true-read : (setup : Setup) (steps : List Step) → TakenApart setup steps → (m : ServerId) (before after : List Message)
-    (message : Message) (answer : Answer) → sent_by steps ≡ before ++ message ∷ after → message.from ≡ Server m →
+true-read : {setup : Setup} {steps : List Step} → TakenApart setup steps → {m : ServerId} {before : List Message} (after : List Message)
+    (message : Message) {answer : Answer} → sent_by steps ≡ before ++ message ∷ after → message.from ≡ Server m →
     message.body ≡ ReadOk answer.table answer.key answer.version answer.value → HasRead (sent_by steps) m before answer
-true-read setup steps apart m before after message answer whole from says =
+true-read apart after message whole from says =
     record { message = message; after = after; whole = whole; from = from; says = says }
 
 pub reads-of-processes : ReadsOfProcesses
@@ -98,7 +94,7 @@ reads-of-processes setup all history m answer has =
     let found : Between (sent_by history.steps) has.message = between (sent_by history.steps) has.message
     (history.sent has.message has.among) in
     let read : HasRead (sent_by history.steps) m found.first answer =
-    true-read setup history.steps history.apart m found.first found.last has.message answer found.whole has.from has.says in
+    true-read history.apart found.last has.message found.whole has.from has.says in
     record { before = found.first; read = read; misses = reads-apart setup history.steps history.apart m found.first answer read }
 
 pub reads-when-made : ReadsWhenMade
@@ -111,7 +107,7 @@ reads-when-made setup happenings may name work taken m answer has =
     let whole : sent_by last.steps ≡ before ++ has.message ∷ found.last =
     last.whole ∙ (ap (λ l. last.before ++ l) found.whole ∙ sym (append_assoc last.before found.first (has.message ∷ found.last))) in
     let read : HasRead (sent_by last.steps) m before answer =
-    true-read setup last.steps last.apart m before found.last has.message answer whole has.from has.says in
+    true-read last.apart found.last has.message whole has.from has.says in
     record {
       steps = last.steps;
       apart = last.apart;

@@ -62,16 +62,16 @@ record IsAmongDurable (master : Master) (ack : Ack) : Type 0 where
   key_is : entry.key ≡ ack.key
   version_is : entry.version ≡ ack.version
 
-pub is-ack : (m : ServerId) (ack : Ack) (message : Message) → message.from ≡ Server m →
+pub is-ack : {m : ServerId} (ack : Ack) (message : Message) → message.from ≡ Server m →
     message.body ≡ WriteOk ack.seg ack.offset ack.term ack.table ack.key ack.version → is_ack_of m message ≡ true
-is-ack m ack message from says = ap (λ (a : Addr). is_ack_of m (record { from = a; to = message.to; body = message.body })) from
+is-ack {m} ack message from says = ap (λ (a : Addr). is_ack_of m (record { from = a; to = message.to; body = message.body })) from
     ∙ (ap (λ (b : Body). is_ack_of m (record { from = Server m; to = message.to; body = b })) says ∙ ap (λ b. b && true) (same_id-refl m))
 
-among-durable : (setup : Setup) (events : List Event) (m : ServerId) (ack : Ack) → HasAcknowledged (replay setup events).sent m ack →
+among-durable : (setup : Setup) (events : List Event) {m : ServerId} {ack : Ack} → HasAcknowledged (replay setup events).sent m ack →
     IsAmongDurable ((replay setup events).masters m) ack
-among-durable setup events m ack p = by (oks-of m (counted_places ((replay setup events).masters m).log) p.message
+among-durable setup events {m} {ack} p = by (oks-of m (counted_places ((replay setup events).masters m).log) p.message
     (subst (In p.message) (counted-is-acknowledged setup events m)
-    (filter-in (is_ack_of m) (replay setup events).sent p.message p.among (is-ack m ack p.message p.from p.says))))
+    (filter-in (is_ack_of m) (replay setup events).sent p.message p.among (is-ack ack p.message p.from p.says))))
   where
     by : (place : LogPlace) × In place (counted_places ((replay setup events).masters m).log) × (place.client ≡ true) ×
         (p.message ≡ ok_of m place) → IsAmongDurable ((replay setup events).masters m) ack
@@ -106,21 +106,21 @@ pub record IsPlaced (log : Log) (entry : Entry) : Type 0 where
 pub placed : (master : Master) (entry : Entry) → In entry (durable_entries master) → IsPlaced master.log entry
 placed master entry at =
     let found = In-take master.log.durable (entries_of master.log) entry at in
-    let place = get-map (λ (one : LogPlace). one.entry) (places_of master.log) found.0 entry found.2 in
-    let is : IsOf master.log.segments master.log.head place.0 = places_to-are master.log.segments master.log.head found.0 place.0 place.1 in
+    let place = get-map (places_of master.log) found.0 found.2 in
+    let is : IsOf master.log.segments master.log.head place.0 = places_to-are master.log.head found.0 place.1 in
     record {
       index = found.0;
       place = place.0;
       below = found.1;
       at = place.1;
       entry_is = place.2;
-      holds = place-logged master.log place.0 is ∙ ap Some place.2;
+      holds = place-logged master.log is ∙ ap Some place.2;
     }
 
 -- durable for good
-durable-later : (setup : Setup) (past rest : List Event) (m : ServerId) (s o : ℕ) → IsDurable setup past m s o →
+durable-later : {setup : Setup} {past : List Event} (rest : List Event) {m : ServerId} {s o : ℕ} → IsDurable setup past m s o →
     IsDurable setup (past ++ rest) m s o
-durable-later setup past rest m s o p = record {
+durable-later {setup} {past} rest {m} {s} {o} p = record {
   moment = p.moment;
   happened = omega (arith, p.happened, length-append past rest);
   stored = subst (λ (events : List Event). IsTrue (is_stored_on_all (master_of (replay setup events) m).log s o)) (same p.moment p.happened)
@@ -157,52 +157,50 @@ module _ (setup : Setup) (past rest : List Event) where
   pub all_new : AllHold new.sent new.masters new.hosts new.coordinator
   all_new = all-world setup (past ++ rest)
 
-  later-of : (m : ServerId) → Since m old new
-  later-of m = since-more setup past rest m
+  later-of : {m : ServerId} → Since m old new
+  later-of = since-more setup past rest
 
-  same-below : (plan : Accepted) → WasAccepted old.sent plan → (s len : ℕ) → ((o : ℕ) → o < len → IsHeld plan.rows s o) →
+  same-below : {plan : Accepted} → WasAccepted old.sent plan → {s : ℕ} (len : ℕ) → ((o : ℕ) → o < len → IsHeld plan.rows s o) →
       made_below old.sent plan.master s len ≡ made_below new.sent plan.master s len
-  same-below plan was s zero held = refl
-  same-below plan was s (suc len) held =
-      ap (λ l. l ++ one_of (made old.sent plan.master s len)) (same-below plan was s len (λ o less. held o (omega arith)))
+  same-below was zero held = refl
+  same-below {plan} was {s} (suc len) held =
+      ap (λ l. l ++ one_of (made old.sent plan.master s len)) (same-below was len (λ o less. held o (omega arith)))
       ∙ ap (λ l. made_below new.sent plan.master s len ++ l)
-      (one-made old.sent old.masters old.hosts old.coordinator (good-world setup past) plan.master s len one.0 one.1 one.2
-      ∙ sym (one-made new.sent new.masters new.hosts new.coordinator (good-world setup (past ++ rest)) plan.master s len one.0
-      (get-log new.sent plan.master (old.masters plan.master).log (new.masters plan.master).log (later-of plan.master).later s len one.0
+      (one-made old.sent old.masters old.hosts old.coordinator (good-world setup past) one.1 one.2
+      ∙ sym (one-made new.sent new.masters new.hosts new.coordinator (good-world setup (past ++ rest))
+      (get-log new.sent plan.master (old.masters plan.master).log (new.masters plan.master).log (later-of {m = plan.master}).later s len one.0
       one.1)
       (record {
         message = one.2.message;
-        among = (later-of plan.master).more one.2.message one.2.among;
+        among = (later-of {m = plan.master}).more one.2.message one.2.among;
         from = one.2.from;
-        holds
-            = one.2.holds;
+        holds = one.2.holds;
       })))
     where
       one : (entry : Entry) × (slice_get (log_in (old.masters plan.master).log s) len ≡ Some entry)
           × HasMade old.sent plan.master s len entry
       one = recovered-is-made setup past plan s len was (held len (omega arith))
 
-  same-recovered : (plan : Accepted) → WasAccepted old.sent plan → (rows : List PlanRow) →
+  same-recovered : {plan : Accepted} → WasAccepted old.sent plan → (rows : List PlanRow) →
       ((row : PlanRow) → In row rows → In row plan.rows) →
       recovered_entries old.sent plan.master rows ≡ recovered_entries new.sent plan.master rows
-  same-recovered plan was [] among = refl
-  same-recovered plan was (row ∷ rows) among =
-      ap (λ l. l ++ recovered_entries old.sent plan.master rows)
-      (same-below plan was row.seg row.len (λ o less. record { row = row; among = among row (inl refl); seg = refl; below = less }))
-      ∙ ap (λ l. made_below new.sent plan.master row.seg row.len ++ l) (same-recovered plan was rows (λ other at. among other (inr at)))
+  same-recovered was [] among = refl
+  same-recovered {plan} was (row ∷ rows) among = ap (λ l. l ++ recovered_entries old.sent plan.master rows)
+      (same-below was row.len (λ o less. record { row = row; among = among row (inl refl); seg = refl; below = less }))
+      ∙ ap (λ l. made_below new.sent plan.master row.seg row.len ++ l) (same-recovered was rows (λ other at. among other (inr at)))
 
   -- what an owner started with it counted when it was granted its term
-  counted-then : (grant : Grant) → In grant old.coordinator.grants → (was : Entry) →
+  counted-then : {grant : Grant} → In grant old.coordinator.grants → {was : Entry} →
       (p : StartsWith new.sent new.masters new.hosts new.coordinator all_new MayFree
       (covers-anyhow new.sent new.masters new.hosts new.coordinator all_new) grant was) →
       In p.entry (durable_entries (old.masters grant.owner)) × (p.entry.term ≡ grant.term)
-  counted-then grant among was p = by (all_old.terms.origin grant among)
+  counted-then {grant} among p = by (all_old.terms.origin grant among)
     where
       new_start : IsStarted new.sent new.masters new.hosts new.coordinator all_new grant p.given
       new_start = started new.sent new.masters new.hosts new.coordinator all_new grant p.given
 
       in_base : In p.entry (base new.sent (plan-of new.sent new.masters new.hosts new.coordinator all_new grant p.given) (granted_of grant))
-      in_base = subst (In p.entry) (base-is new.sent new.masters new.hosts new.coordinator all_new grant p.given) p.among
+      in_base = subst (In p.entry) (base-is new.sent new.masters new.hosts new.coordinator all_new {grant = grant} p.given) p.among
 
       by : ((grant.attempt ≡ 0) × (grant.previous ≡ 0)) ⊎ IsGivenBy old.sent old.coordinator grant →
           In p.entry (durable_entries (old.masters grant.owner)) × (p.entry.term ≡ grant.term)
@@ -220,24 +218,22 @@ module _ (setup : Setup) (past rest : List Event) where
 
           plans : plan-of new.sent new.masters new.hosts new.coordinator all_new grant p.given
               ≡ plan-of old.sent old.masters old.hosts old.coordinator all_old grant given
-          plans = one-plan new.sent new.masters new.hosts new.coordinator all_new.good
-              (plan-of new.sent new.masters new.hosts new.coordinator all_new grant p.given)
-              (plan-of old.sent old.masters old.hosts old.coordinator all_old grant given)
+          plans = one-plan {sent = new.sent} {masters = new.masters} {hosts = new.hosts} {c = new.coordinator} all_new.good
+              {one = (plan-of new.sent new.masters new.hosts new.coordinator all_new grant p.given)}
+              {other = (plan-of old.sent old.masters old.hosts old.coordinator all_old grant given)}
               (task-of new.sent new.masters new.hosts new.coordinator all_new grant.owner new_start.task new_start.task_among).accepted
               (record {
                 message = was_accepted.message;
-                among = (later-of grant.owner).more was_accepted.message was_accepted.among;
-                head
-                    = was_accepted.head;
+                among = (later-of {m = grant.owner}).more was_accepted.message was_accepted.among;
+                head = was_accepted.head;
                 parts = was_accepted.parts;
                 says = was_accepted.says;
-              })
-              (new_start.attempt_is ∙ sym s.attempt_is)
+              }) (new_start.attempt_is ∙ sym s.attempt_is)
 
           then_in : In p.entry (map (under_term s.state.part.term) s.joined.entries)
-          then_in = subst (In p.entry) (sym (base-is old.sent old.masters old.hosts old.coordinator all_old grant given))
+          then_in = subst (In p.entry) (sym (base-is old.sent old.masters old.hosts old.coordinator all_old {grant = grant} given))
               (subst (λ l. In p.entry (map (under_term grant.term) (filter (is_carried (granted_of grant)) l)))
-              (sym (same-recovered (plan-of old.sent old.masters old.hosts old.coordinator all_old grant given) was_accepted
+              (sym (same-recovered {plan = (plan-of old.sent old.masters old.hosts old.coordinator all_old grant given)} was_accepted
               s.task.rows (λ row at. at)))
               (subst (λ (one : Accepted). In p.entry (base new.sent one (granted_of grant))) plans in_base))
 
@@ -253,22 +249,22 @@ module _ (setup : Setup) (past rest : List Event) where
 
   -- An earlier term stays the earlier one
 
-  still-sent : (table key k : ℕ) (one : Granted) → slice_get (grants_of old.sent table key) k ≡ Some one →
+  still-sent : (table key k : ℕ) {one : Granted} → slice_get (grants_of old.sent table key) k ≡ Some one →
       (j : ℕ) × (slice_get (grants_of new.sent table key) j ≡ Some one)
-  still-sent table key k one e =
+  still-sent table key k {one} e =
       let p = at-point old.sent old.masters old.hosts old.coordinator all_old MayFree
-      (covers-anyhow old.sent old.masters old.hosts old.coordinator all_old) table key k one e in
+      (covers-anyhow old.sent old.masters old.hosts old.coordinator all_old) table key k e in
       let was = was-granted new.sent new.masters new.hosts new.coordinator all_new p.0 (still-granted setup past rest p.0 p.1) in
       let at : In (granted_of p.0) (grants_of new.sent table key) = filter-In (covers table key) (granted_of p.0) (granted new.sent)
       (In-get (granted new.sent) was.0 (granted_of p.0) was.1) p.3 in
       place_of (grants_of new.sent table key) one (subst (λ (g : Granted). In g (grants_of new.sent table key)) (sym p.2) at)
 
-  pub earlier-still : (table key earlier last : ℕ) → IsBefore (grants_of old.sent table key) earlier last →
+  pub earlier-still : (table key : ℕ) {earlier last : ℕ} → IsBefore (grants_of old.sent table key) earlier last →
       IsBefore (grants_of new.sent table key) earlier last
-  earlier-still table key earlier last (previous k one e) = let found = still-sent table key k one e in previous found.0 one found.1
-  earlier-still table key earlier last (onward from k one e way) =
-      let found = still-sent table key k one e in
-      onward from found.0 one found.1 (earlier-still table key from one.previous way)
+  earlier-still table key (previous k one e) = let found = still-sent table key k e in previous found.0 one found.1
+  earlier-still table key (onward from k one e way) =
+      let found = still-sent table key k e in
+      onward from found.0 one found.1 (earlier-still table key way)
 
   -- A read at that moment
 
@@ -277,7 +273,7 @@ module _ (setup : Setup) (past rest : List Event) where
       (found : ◌≡◌ {A = Found} (read_of term table key (durable_entries (old.masters m))) (record { version = version; value = value }))
     where
       pub own : IsOwned old.sent old.masters old.hosts old.coordinator all_old m term table key
-      own = let point : OwnsPoint (old.masters m).ownership term table key = owns-point (old.masters m).ownership table key term owns in
+      own = let point : OwnsPoint (old.masters m).ownership term table key = owns-point owns in
           subst (λ n. IsOwned old.sent old.masters old.hosts old.coordinator all_old m n table key) point.term_is
           (owned old.sent old.masters old.hosts old.coordinator all_old m point.grant table key point.among point.holds)
 
@@ -292,7 +288,7 @@ module _ (setup : Setup) (past rest : List Event) where
       -- it misses nothing that its master had acknowledged under its term
       own-acks : (ack : Ack) → HasAcknowledged old.sent m ack → IsOfKey table key ack → ack.term ≡ term → ack.version ≤ version
       own-acks ack p of same =
-          let d : IsAmongDurable (old.masters m) ack = among-durable setup past m ack p in
+          let d : IsAmongDurable (old.masters m) ack = among-durable setup past p in
           subst (λ n. n ≤ version) d.version_is
           (not-above d.entry d.among (d.term_is ∙ same) (d.table_is ∙ of.table_is) (d.key_is ∙ of.key_is))
 
@@ -303,10 +299,10 @@ module _ (setup : Setup) (past rest : List Event) where
         pub term_is : entry.term ≡ term
         pub keeps : IsKeptBy MayFree was entry
 
-      pub kept-then : (x : ServerId) (s o : ℕ) (was : Entry) → IsSafe new.sent x (new.masters x).log s o →
+      pub kept-then : {x : ServerId} {s o : ℕ} {was : Entry} → IsSafe new.sent x (new.masters x).log s o →
           slice_get (log_in (new.masters x).log s) o ≡ Some was →
           was.table ≡ table → was.key ≡ key → IsEarlier new.sent table key was.term term → IsKeptThen was
-      kept-then x s o was safe holds tables keys way = record {
+      kept-then {was} safe holds tables keys way = record {
         entry = p.entry;
         among = subst (λ (y : ServerId). In p.entry (durable_entries (old.masters y))) (sym own.owner_is) there.0;
         term_is = there.1 ∙ own.term_is;
@@ -315,7 +311,7 @@ module _ (setup : Setup) (past rest : List Event) where
         where
           goes : GoesTo new.sent new.masters new.hosts new.coordinator all_new MayFree
               (covers-anyhow new.sent new.masters new.hosts new.coordinator all_new) term was
-          goes = goes-from new.sent new.masters new.hosts new.coordinator all_new x s o was safe holds term
+          goes = goes-from new.sent new.masters new.hosts new.coordinator all_new safe holds
               (subst (λ k. IsEarlier new.sent was.table k was.term term) (sym keys)
               (subst (λ t. IsEarlier new.sent t key was.term term) (sym tables) way))
 
@@ -326,19 +322,17 @@ module _ (setup : Setup) (past rest : List Event) where
               (all_new.terms.grant_once goes.grant own.grant goes.among still_own (goes.term_is ∙ sym own.term_is)) goes.starts
 
           there : In p.entry (durable_entries (old.masters own.grant.owner)) × (p.entry.term ≡ own.grant.term)
-          there = counted-then own.grant own.among was p
+          there = counted-then own.among p
 
-      write-of : (x : ServerId) (ack : Ack) → HasAcknowledged new.sent x ack →
+      write-of : {x : ServerId} {ack : Ack} → HasAcknowledged new.sent x ack →
           IsWriteOk new.sent x (new.masters x).log ack.seg ack.offset ack.term ack.table ack.key ack.version
-      write-of x ack p = (acked new.sent new.masters new.hosts new.coordinator all_new x ack p).write
+      write-of p = (acked new.sent new.masters new.hosts new.coordinator all_new p).write
 
       kept-ack : (x : ServerId) (ack : Ack) (p : HasAcknowledged new.sent x ack) → IsOfKey table key ack →
-          IsEarlier new.sent table key ack.term term → IsKeptThen (write-of x ack p).entry
+          IsEarlier new.sent table key ack.term term → IsKeptThen (write-of p).entry
       kept-ack x ack p of way =
-          let w : IsWriteOk new.sent x (new.masters x).log ack.seg ack.offset ack.term ack.table ack.key ack.version = write-of x ack p in
-          kept-then x ack.seg ack.offset (write-of x ack p).entry (write-of x ack p).safe (write-of x ack p).holds
-          (w.table_is ∙ of.table_is)
-          (w.key_is ∙ of.key_is)
+          let w : IsWriteOk new.sent x (new.masters x).log ack.seg ack.offset ack.term ack.table ack.key ack.version = write-of p in
+          kept-then (write-of p).safe (write-of p).holds (w.table_is ∙ of.table_is) (w.key_is ∙ of.key_is)
           (subst (λ n. IsEarlier new.sent table key n term) (sym w.term_is) way)
 
       earlier-acks : (x : ServerId) (ack : Ack) → HasAcknowledged new.sent x ack → IsOfKey table key ack →
@@ -346,20 +340,20 @@ module _ (setup : Setup) (past rest : List Event) where
       earlier-acks x ack p of way = by k.keeps.kept
         where
           w : IsWriteOk new.sent x (new.masters x).log ack.seg ack.offset ack.term ack.table ack.key ack.version
-          w = write-of x ack p
+          w = write-of p
 
-          k : IsKeptThen (write-of x ack p).entry
+          k : IsKeptThen (write-of p).entry
           k = kept-ack x ack p of way
 
           upto : k.entry.version ≤ version
-          upto = not-above k.entry k.among k.term_is (k.keeps.table_is ∙ (write-of x ack p).table_is ∙ of.table_is)
-              (k.keeps.key_is ∙ (write-of x ack p).key_is ∙ of.key_is)
+          upto = not-above k.entry k.among k.term_is (k.keeps.table_is ∙ (write-of p).table_is ∙ of.table_is)
+              (k.keeps.key_is ∙ (write-of p).key_is ∙ of.key_is)
 
-          is_version : (write-of x ack p).entry.version ≡ ack.version
-          is_version = (write-of x ack p).version_is
+          is_version : (write-of p).entry.version ≡ ack.version
+          is_version = (write-of p).version_is
 
-          by : ((k.entry.version ≡ (write-of x ack p).entry.version) × (k.entry.value ≡ (write-of x ack p).entry.value))
-              ⊎ (MayFree × ((write-of x ack p).entry.version < k.entry.version)) → ack.version ≤ version
+          by : ((k.entry.version ≡ (write-of p).entry.version) × (k.entry.value ≡ (write-of p).entry.value))
+              ⊎ (MayFree × ((write-of p).entry.version < k.entry.version)) → ack.version ≤ version
           by (inl same) = (let e = same.0 in omega (arith, e, upto, is_version))
           by (inr (_, less)) = omega (arith, less, upto, is_version)
 
@@ -375,7 +369,7 @@ module _ (setup : Setup) (past rest : List Event) where
         where
           its : IsOwned old.sent old.masters old.hosts old.coordinator all_old x ack.term ack.table ack.key
           its = owner old.sent old.masters old.hosts old.coordinator all_old x ack
-              (acked old.sent old.masters old.hosts old.coordinator all_old x ack p)
+              (acked old.sent old.masters old.hosts old.coordinator all_old {m = x} {ack = ack} p)
 
           by : (its.grant.term ≡ own.grant.term) ⊎ (IsEarlier old.sent table key its.grant.term own.grant.term
               ⊎ IsEarlier old.sent table key own.grant.term its.grant.term) → ack.version ≤ version
@@ -383,10 +377,9 @@ module _ (setup : Setup) (past rest : List Event) where
               let here : x ≡ m = its.owner_is
               ∙ ap (λ (g : Grant). g.owner) (all_old.terms.grant_once its.grant own.grant its.among own.among same) ∙ sym own.owner_is in
               own-acks ack (subst (λ (y : ServerId). HasAcknowledged old.sent y ack) here p) of (sym its.term_is ∙ same ∙ own.term_is)
-          by (inr (inl way)) =
-              earlier-acks x ack
-              (record { message = p.message; among = (later-of x).more p.message p.among; from = p.from; says = p.says }) of
-              (earlier-still table key ack.term term (subst (λ n. IsEarlier old.sent table key n term) its.term_is
+          by (inr (inl way)) = earlier-acks x ack
+              (record { message = p.message; among = (later-of {m = x}).more p.message p.among; from = p.from; says = p.says }) of
+              (earlier-still table key {earlier = ack.term} {last = term} (subst (λ n. IsEarlier old.sent table key n term) its.term_is
               (subst (λ n. IsEarlier old.sent table key its.grant.term n) own.term_is way)))
           by (inr (inr way)) = absurd (none (subst (λ n. IsEarlier old.sent table key n ack.term) own.term_is
               (subst (λ n. IsEarlier old.sent table key own.grant.term n) its.term_is way)))
@@ -395,7 +388,7 @@ module _ (setup : Setup) (past rest : List Event) where
 
       module _ (above : version ≡ 0 → ⊥) where
         is_found : IsFound term table key (durable_entries (old.masters m)) (read_of term table key (durable_entries (old.masters m)))
-        is_found = read-is term table key (durable_entries (old.masters m)) (λ e. above (sym (ap (λ (one : Found). one.version) found) ∙ e))
+        is_found = read-is term table key (λ e. above (sym (ap (λ (one : Found). one.version) found) ∙ e))
 
         version_is : is_found.entry.version ≡ version
         version_is = sym is_found.version_is ∙ ap (λ (one : Found). one.version) found
@@ -406,10 +399,10 @@ module _ (setup : Setup) (past rest : List Event) where
         at_place : IsPlaced (old.masters m).log is_found.entry
         at_place = placed (old.masters m) is_found.entry is_found.among
 
-        stands-now : (entry : Entry) (p : IsPlaced (old.masters m).log entry) →
+        stands-now : {entry : Entry} (p : IsPlaced (old.masters m).log entry) →
             slice_get (log_in (new.masters m).log p.place.seg) p.place.offset ≡ Some entry
-        stands-now entry p =
-            get-log new.sent m (old.masters m).log (new.masters m).log (later-of m).later p.place.seg p.place.offset entry p.holds
+        stands-now {entry} p =
+            get-log new.sent m (old.masters m).log (new.masters m).log (later-of).later p.place.seg p.place.offset entry p.holds
 
         shows : factor_of setup m.index ≢ 0 →
             IsShown setup (past ++ rest) m term (record { table = table; key = key; version = version; value = value })
@@ -422,7 +415,7 @@ module _ (setup : Setup) (past rest : List Event) where
         }
           where
             durable : IsDurable setup (past ++ rest) m at_place.place.seg at_place.place.offset
-            durable = durable-later setup past rest m at_place.place.seg at_place.place.offset
+            durable = durable-later rest
                 (counted-is-durable setup past m at_place.index at_place.place some at_place.below at_place.at)
 
             made_there : (entry : Entry) × (slice_get (log_in (new.masters m).log at_place.place.seg) at_place.place.offset ≡ Some entry)
@@ -434,8 +427,7 @@ module _ (setup : Setup) (past rest : List Event) where
                 let one : slice_get (log_in (new.masters m).log at_place.place.seg) at_place.place.offset ≡ Some made_there.0 = made_there.1
                 in
                 let other : slice_get (log_in (new.masters m).log at_place.place.seg) at_place.place.offset ≡ Some is_found.entry
-                = stands-now
-                is_found.entry at_place in
+                = stands-now at_place in
                 cc
 
             joined : (entry : Entry) → entry.term ≡ term → entry.table ≡ table → entry.key ≡ key → entry.version ≡ version →
@@ -447,11 +439,11 @@ module _ (setup : Setup) (past rest : List Event) where
         module _ (x : ServerId) (ack : Ack) (p : HasAcknowledged new.sent x ack) (of : IsOfKey table key ack)
             (versions : ack.version ≡ version) where
           abbrev was : Entry
-          was = (write-of x ack p).entry
+          was = (write-of p).entry
 
           owns_x : IsOwned new.sent new.masters new.hosts new.coordinator all_new x ack.term ack.table ack.key
           owns_x = owner new.sent new.masters new.hosts new.coordinator all_new x ack
-              (acked new.sent new.masters new.hosts new.coordinator all_new x ack p)
+              (acked new.sent new.masters new.hosts new.coordinator all_new p)
 
           under-one-term : owns_x.grant.term ≡ own.grant.term → was.value ≡ value
           under-one-term same = ap (λ (one : Entry). one.value) is ∙ value_is
@@ -461,57 +453,54 @@ module _ (setup : Setup) (past rest : List Event) where
                   ∙ ap (λ (g : Grant). g.owner) (all_new.terms.grant_once owns_x.grant own.grant owns_x.among still_own same)
                   ∙ sym own.owner_is
 
-              is : (write-of x ack p).entry ≡ is_found.entry
+              is : (write-of p).entry ≡ is_found.entry
               is = one-a-version new.sent new.masters new.hosts new.coordinator all_new m ack.seg ack.offset at_place.place.seg
                   at_place.place.offset
-                  (write-of x ack p).entry is_found.entry
-                  (subst (λ (y : ServerId). slice_get (log_in (new.masters y).log ack.seg) ack.offset ≡ Some (write-of x ack p).entry) here
-                  (write-of x ack p).holds) (stands-now is_found.entry at_place)
-                  ((write-of x ack p).term_is ∙ sym owns_x.term_is ∙ same ∙ own.term_is ∙ sym is_found.term_is)
-                  ((write-of x ack p).table_is ∙ of.table_is ∙ sym is_found.table_is)
-                  ((write-of x ack p).key_is ∙ of.key_is ∙ sym is_found.key_is)
-                  ((write-of x ack p).version_is ∙ versions ∙ sym version_is)
+                  (subst (λ (y : ServerId). slice_get (log_in (new.masters y).log ack.seg) ack.offset ≡ Some (write-of p).entry) here
+                  (write-of p).holds) (stands-now at_place)
+                  ((write-of p).term_is ∙ sym owns_x.term_is ∙ same ∙ own.term_is ∙ sym is_found.term_is)
+                  ((write-of p).table_is ∙ of.table_is ∙ sym is_found.table_is)
+                  ((write-of p).key_is ∙ of.key_is ∙ sym is_found.key_is)
+                  ((write-of p).version_is ∙ versions ∙ sym version_is)
 
           under-earlier-term : IsEarlier new.sent table key ack.term term → was.value ≡ value
           under-earlier-term way = by k.keeps.kept
             where
-              k : IsKeptThen (write-of x ack p).entry
+              k : IsKeptThen (write-of p).entry
               k = kept-ack x ack p of way
 
               tables : k.entry.table ≡ table
-              tables = k.keeps.table_is ∙ (write-of x ack p).table_is ∙ of.table_is
+              tables = k.keeps.table_is ∙ (write-of p).table_is ∙ of.table_is
 
               keys : k.entry.key ≡ key
-              keys = k.keeps.key_is ∙ (write-of x ack p).key_is ∙ of.key_is
+              keys = k.keeps.key_is ∙ (write-of p).key_is ∙ of.key_is
 
               upto : k.entry.version ≤ version
               upto = not-above k.entry k.among k.term_is tables keys
 
-              is_version : (write-of x ack p).entry.version ≡ version
-              is_version = (write-of x ack p).version_is ∙ versions
+              is_version : (write-of p).entry.version ≡ version
+              is_version = (write-of p).version_is ∙ versions
 
               k_place : IsPlaced (old.masters m).log k.entry
               k_place = placed (old.masters m) k.entry k.among
 
-              by : ((k.entry.version ≡ (write-of x ack p).entry.version) × (k.entry.value ≡ (write-of x ack p).entry.value))
-                  ⊎ (MayFree × ((write-of x ack p).entry.version < k.entry.version)) → (write-of x ack p).entry.value ≡ value
+              by : ((k.entry.version ≡ (write-of p).entry.version) × (k.entry.value ≡ (write-of p).entry.value))
+                  ⊎ (MayFree × ((write-of p).entry.version < k.entry.version)) → (write-of p).entry.value ≡ value
               by (inr (_, less)) = absurd (omega (arith, less, upto, is_version))
               by (inl same) =
                   let is : k.entry ≡ is_found.entry = one-a-version new.sent new.masters new.hosts new.coordinator all_new m
-                  k_place.place.seg k_place.place.offset at_place.place.seg at_place.place.offset k.entry is_found.entry
-                  (stands-now k.entry k_place) (stands-now is_found.entry at_place)
+                  k_place.place.seg k_place.place.offset at_place.place.seg at_place.place.offset
+                  (stands-now k_place) (stands-now at_place)
                   (k.term_is ∙ sym is_found.term_is) (tables ∙ sym is_found.table_is) (keys ∙ sym is_found.key_is)
                   (same.0 ∙ is_version ∙ sym version_is) in
                   sym same.1 ∙ ap (λ (one : Entry). one.value) is ∙ value_is
 
           under-later-term : IsEarlier new.sent table key term ack.term → ⊥
           under-later-term way =
-              let less : is_found.entry.version < ack.version = above-safe new.sent new.masters new.hosts new.coordinator all_new m
-              at_place.place.seg at_place.place.offset is_found.entry
-              ((later-of m).safe at_place.place.seg at_place.place.offset
+              let less : is_found.entry.version < ack.version = above-safe new.sent new.masters new.hosts new.coordinator all_new
+              ((later-of).safe at_place.place.seg at_place.place.offset
               ((all_old.good.masters_are m).counted at_place.index at_place.place at_place.below at_place.at))
-              (stands-now is_found.entry at_place) x ack p
-              (of.table_is ∙ sym is_found.table_is) (of.key_is ∙ sym is_found.key_is)
+              (stands-now at_place) p (of.table_is ∙ sym is_found.table_is) (of.key_is ∙ sym is_found.key_is)
               (subst (λ n. IsEarlier new.sent is_found.entry.table is_found.entry.key n ack.term) (sym is_found.term_is)
               (subst (λ k. IsEarlier new.sent is_found.entry.table k term ack.term) (sym is_found.key_is)
               (subst (λ t. IsEarlier new.sent t key term ack.term) (sym is_found.table_is) way))) in
@@ -527,8 +516,7 @@ module _ (setup : Setup) (past rest : List Event) where
             where
               by : (owns_x.grant.term ≡ own.grant.term)
                   ⊎ (IsEarlier new.sent table key owns_x.grant.term own.grant.term
-                  ⊎ IsEarlier new.sent table key own.grant.term owns_x.grant.term) →
-                  (write-of x ack p).entry.value ≡ value
+                  ⊎ IsEarlier new.sent table key own.grant.term owns_x.grant.term) → (write-of p).entry.value ≡ value
               by (inl same) = under-one-term same
               by (inr (inl way)) = under-earlier-term (subst (λ n. IsEarlier new.sent table key n term) owns_x.term_is
                   (subst (λ n. IsEarlier new.sent table key owns_x.grant.term n) own.term_is way))
@@ -540,21 +528,21 @@ module _ (setup : Setup) (past rest : List Event) where
       written-value x ack entry w of versions = ap (λ (one : Entry). one.value) same ∙ its-value above x ack w.acknowledged of versions
         where
           above : version ≡ 0 → ⊥
-          above none = (let more : 0 < ack.version = versions-begin-at-one setup (past ++ rest) x ack w.acknowledged in omega
+          above none = (let more : 0 < ack.version = versions-begin-at-one setup (past ++ rest) w.acknowledged in omega
               (arith, more, none, versions))
 
-          same : entry ≡ (write-of x ack w.acknowledged).entry
+          same : entry ≡ (write-of w.acknowledged).entry
           same =
               let here : slice_get (log_in (new.masters x).log ack.seg) ack.offset ≡ Some entry =
-              made-is new.sent new.masters new.hosts new.coordinator (good-world setup (past ++ rest)) x ack.seg ack.offset entry w.made in
-              let there : slice_get (log_in (new.masters x).log ack.seg) ack.offset ≡ Some (write-of x ack w.acknowledged).entry
-              = (write-of x ack w.acknowledged).holds in
+              made-is (good-world setup (past ++ rest)) w.made in
+              let there : slice_get (log_in (new.masters x).log ack.seg) ack.offset ≡ Some (write-of w.acknowledged).entry
+              = (write-of w.acknowledged).holds in
               cc
 
       pub sees : MissesOnlyLater setup (past ++ rest) m old.sent (record { table = table; key = key; version = version; value = value })
       sees = record {
         term = term;
-        owned = granted-to old.sent old.masters old.hosts old.coordinator all_old m term table key own;
+        owned = granted-to old.sent old.masters old.hosts old.coordinator all_old own;
         earlier = earlier-acks;
         own = own-acks;
         by_then = acks-by-then;

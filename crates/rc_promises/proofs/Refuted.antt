@@ -43,8 +43,7 @@ one-of-three a b c one at = by (In-append one (a ++ b) c at)
     by (inl two) = of-two (In-append one a b two)
     by (inr third) = inr (inr third)
 
-named : (run : Run) (one : Sentence) → In one (broken run) →
-    ((versions-of run ≡ false) × (one ≡ OneVersionOneWrite))
+named : (run : Run) (one : Sentence) → In one (broken run) → ((versions-of run ≡ false) × (one ≡ OneVersionOneWrite))
     ⊎ (((time-of run ≡ false) × (one ≡ WritesInTime)) ⊎ ((reads-of run ≡ false) × (one ≡ ReadsSeeWrites)))
 named run one at = by (one-of-three (unless (versions-of run) OneVersionOneWrite) (unless (time-of run) WritesInTime)
     (unless (reads-of run) ReadsSeeWrites) one at)
@@ -78,13 +77,12 @@ module _ (run : Run) where
 
   versions-hold : OneVersionIsOneWrite → versions-of run ≡ true
   versions-hold sentence = subst (λ sent. keeps_versions sent ≡ true) whole-sent
-      (versions-kept (sent_after run.setup whole_events) (sentence run.setup whole_events))
+      (versions-kept (sentence run.setup whole_events))
 
   time-holds : WritesFollowTime → time-of run ≡ true
   time-holds sentence = subst (λ sent. keeps_time sent (whole_world run).sent ≡ true) early-sent
       (subst (λ sent. keeps_time (sent_after run.setup (early_world run).events) sent ≡ true)
-      (ap (sent_after run.setup) (sym grown.1) ∙ whole-sent)
-      (time-kept (sent_after run.setup (early_world run).events)
+      (ap (sent_after run.setup) (sym grown.1) ∙ whole-sent) (time-kept (sent_after run.setup (early_world run).events)
       (sent_after run.setup ((early_world run).events ++ grown.0))
       (sentence run.setup (early_world run).events grown.0)))
 

@@ -20,31 +20,30 @@ use Rattle.rc_model.proofs.Headlines.{same_value-refl}
 
 -- Tests of lists
 
-pub all-from : {X : Type 0} (test : X → Bool) (xs : List X) → ((x : X) → In x xs → test x ≡ true) → list_all test xs ≡ true
-all-from test [] each = refl
-all-from test (x ∷ xs) each =
-    and_from (test x) (list_all test xs) (each x (inl refl)) (all-from test xs (λ y at. each y (inr at)))
+pub all-from : {X : Type 0} {test : X → Bool} (xs : List X) → ((x : X) → In x xs → test x ≡ true) → list_all test xs ≡ true
+all-from [] each = refl
+all-from {test} (x ∷ xs) each =
+    and_from (test x) (list_all test xs) (each x (inl refl)) (all-from xs (λ y at. each y (inr at)))
 
 any-from : {X : Type 0} (test : X → Bool) (xs : List X) (x : X) → In x xs → test x ≡ true → list_any test xs ≡ true
 any-from test [] x at e = absurd at
-any-from test (y ∷ xs) x (inl same) e =
-    or_left (test y) (list_any test xs) (subst (λ z. test z ≡ true) same e)
+any-from test (y ∷ xs) x (inl same) e = or_left (test y) (list_any test xs) (subst (λ z. test z ≡ true) same e)
 any-from test (y ∷ xs) x (inr rest) e = or_right (test y) (list_any test xs) (any-from test xs x rest e)
 
 -- a test that has to hold where another does
-pub where-from : (b c : Bool) → (b ≡ true → c ≡ true) → (not b || c) ≡ true
-where-from true c holds = holds refl
-where-from false c holds = refl
+pub where-from : (b : Bool) {c : Bool} → (b ≡ true → c ≡ true) → (not b || c) ≡ true
+where-from true holds = holds refl
+where-from false holds = refl
 
 -- a test that has to hold where another does not
-pub else-from : (b c : Bool) → (b ≡ false → c ≡ true) → (b || c) ≡ true
-else-from true c holds = refl
-else-from false c holds = holds refl
+pub else-from : (b : Bool) {c : Bool} → (b ≡ false → c ≡ true) → (b || c) ≡ true
+else-from true holds = refl
+else-from false holds = holds refl
 
 -- Values
 
-pub same_value-from : (a b : Option (List ℕ)) → a ≡ b → same_value a b ≡ true
-same_value-from a b e = subst (λ c. same_value a c ≡ true) e (same_value-refl a)
+pub same_value-from : {a b : Option (List ℕ)} → a ≡ b → same_value a b ≡ true
+same_value-from {a} e = subst (λ c. same_value a c ≡ true) e (same_value-refl a)
 
 -- What the lists say
 
@@ -91,23 +90,22 @@ asked-in (first ∷ sent) m table key value (inr rest) =
     In-right value (asked_by m table key first.from first.to first.body) (asked sent m table key)
     (asked-in sent m table key value rest)
 
-pub of-key : (table key : ℕ) (ack : Ack) → is_of_key table key ack ≡ true → IsOfKey table key ack
-of-key table key ack e = let both = and_parts (nat_eq ack.table table) (nat_eq ack.key key) e in
+pub of-key : {table key : ℕ} {ack : Ack} → is_of_key table key ack ≡ true → IsOfKey table key ack
+of-key {table} {key} {ack} e = let both = and_parts (nat_eq ack.table table) (nat_eq ack.key key) e in
     record { table_is = eqb-true ack.table table both.0; key_is = eqb-true ack.key key both.1 }
 
-was-granted : (sent : List Message) (m : ServerId) (term table key : ℕ) → WasGranted sent m term table key →
+was-granted : {sent : List Message} {m : ServerId} {term table key : ℕ} → WasGranted sent m term table key →
     was_granted sent m term table key ≡ true
-was-granted sent m term table key p =
+was-granted {sent} {m} {term} {table} {key} p =
     any-from (is_to m term table key) (granted sent) p.grant (In-get (granted sent) p.granted.0 p.grant p.granted.1)
     (and_from (is_server m p.grant.owner) (nat_eq p.grant.term term && covers table key p.grant)
     (is_server-from m p.grant.owner p.owner_is)
     (and_from (nat_eq p.grant.term term) (covers table key p.grant) (eq-eqb p.grant.term term p.term_is) p.holds))
 
-has-value : (sent : List Message) (m : ServerId) (ack : Ack) (value : Option (List ℕ)) →
+has-value : {sent : List Message} {m : ServerId} (ack : Ack) {value : Option (List ℕ)} →
     ((entry : Entry) → HasMade sent m ack.seg ack.offset entry → entry.value ≡ value) → has_value sent m ack value ≡ true
-has-value sent m ack value each =
-    all-from (λ entry. same_value entry.value value) (made sent m ack.seg ack.offset)
-    (λ entry at. same_value-from entry.value value (each entry (HasMade-from sent m ack.seg ack.offset entry at)))
+has-value {sent} {m} ack each = all-from (made sent m ack.seg ack.offset)
+    (λ entry at. same_value-from (each entry (HasMade-from sent m ack.seg ack.offset entry at)))
 
 -- One version, one write
 
@@ -116,14 +114,13 @@ module _ (sent : List Message) (m : ServerId) (ack : Ack) (p : IsOneWrite sent m
     same-write : (one : ServerId × Ack) → In one (acks_of sent) → is_same_write (m, ack) one ≡ true
     same-write (x, other) at =
         where-from (is_of_key ack.table ack.key other && nat_eq other.version ack.version)
-        (same_id x m && (nat_eq other.seg ack.seg && (nat_eq other.offset ack.offset && nat_eq other.term ack.term)))
         (λ e. same (and_parts (is_of_key ack.table ack.key other) (nat_eq other.version ack.version) e))
       where
         same : (is_of_key ack.table ack.key other ≡ true) × (nat_eq other.version ack.version ≡ true) →
             (same_id x m && (nat_eq other.seg ack.seg && (nat_eq other.offset ack.offset && nat_eq other.term ack.term))) ≡ true
         same both =
             let it : (x ≡ m) × (other ≡ ack) = p.only x other (acks-say sent x other at)
-            (of-key ack.table ack.key other both.0) (eqb-true other.version ack.version both.1) in
+            (of-key both.0) (eqb-true other.version ack.version both.1) in
             and_from (same_id x m) (nat_eq other.seg ack.seg && (nat_eq other.offset ack.offset && nat_eq other.term ack.term))
             (subst (λ y. same_id x y ≡ true) it.0 (same_id-refl x))
             (and_from (nat_eq other.seg ack.seg) (nat_eq other.offset ack.offset && nat_eq other.term ack.term)
@@ -137,17 +134,16 @@ module _ (sent : List Message) (m : ServerId) (ack : Ack) (p : IsOneWrite sent m
         (list_all (is_same_write (m, ack)) (acks_of sent)
         && list_any (has_value sent m ack) (asked sent m ack.table ack.key))
         (and_from (was_granted sent m ack.term ack.table ack.key) (nat_lt 0 ack.version)
-        (was-granted sent m ack.term ack.table ack.key p.owned) (lt-ltb 0 ack.version p.above))
+        (was-granted p.owned) (lt-ltb 0 ack.version p.above))
         (and_from (list_all (is_same_write (m, ack)) (acks_of sent))
-        (list_any (has_value sent m ack) (asked sent m ack.table ack.key))
-        (all-from (is_same_write (m, ack)) (acks_of sent) same-write)
+        (list_any (has_value sent m ack) (asked sent m ack.table ack.key)) (all-from (acks_of sent) same-write)
         (any-from (has_value sent m ack) (asked sent m ack.table ack.key) p.value
         (asked-in sent m ack.table ack.key p.value p.asked)
-        (has-value sent m ack p.value (λ entry made. p.one_value entry (record { acknowledged = said; made = made })))))
+        (has-value ack (λ entry made. p.one_value entry (record { acknowledged = said; made = made })))))
 
-pub versions-kept : (sent : List Message) →
+pub versions-kept : {sent : List Message} →
     ((m : ServerId) (ack : Ack) → HasAcknowledged sent m ack → IsOneWrite sent m ack) → keeps_versions sent ≡ true
-versions-kept sent each = all-from (is_one_write sent) (acks_of sent) one
+versions-kept {sent} each = all-from (acks_of sent) one
   where
     one : (it : ServerId × Ack) → In it (acks_of sent) → is_one_write sent it ≡ true
     one (m, ack) at = let said : HasAcknowledged sent m ack = acks-say sent m ack at in
@@ -162,15 +158,13 @@ FollowsTime early sent = (m x : ServerId) (first later : Ack) (entry : Entry) �
 
 module _ (early sent : List Message) (follows : FollowsTime early sent)
   where
-    in-time : (m x : ServerId) (first later : Ack) (entry : Entry) → HasAcknowledged early m first →
+    in-time : {m x : ServerId} {first later : Ack} {entry : Entry} → HasAcknowledged early m first →
         IsWritten sent x later entry → is_in_time early (m, first) (x, later) entry ≡ true
-    in-time m x first later entry said written =
+    in-time {m} {x} {first} {later} {entry} said written =
         where-from (is_of_key first.table first.key later)
-        (list_any (same_value entry.value) (asked early x later.table later.key) || nat_lt first.version later.version)
         (λ key. else-from (list_any (same_value entry.value) (asked early x later.table later.key))
-        (nat_lt first.version later.version)
         (λ unasked. lt-ltb first.version later.version
-        (follows m x first later entry said written (of-key first.table first.key later key) (not-asked unasked))))
+        (follows m x first later entry said written (of-key key) (not-asked unasked))))
       where
         not-asked : list_any (same_value entry.value) (asked early x later.table later.key) ≡ false →
             HasAsked early x later.table later.key entry.value → ⊥
@@ -179,27 +173,25 @@ module _ (early sent : List Message) (follows : FollowsTime early sent)
 
     after : (m x : ServerId) (first later : Ack) → HasAcknowledged early m first → HasAcknowledged sent x later →
         is_after early sent (m, first) (x, later) ≡ true
-    after m x first later said too = all-from (is_in_time early (m, first) (x, later)) (made sent x later.seg later.offset)
-        (λ entry at. in-time m x first later entry said
+    after m x first later said too = all-from (made sent x later.seg later.offset) (λ entry at. in-time said
         (record { acknowledged = too; made = HasMade-from sent x later.seg later.offset entry at }))
 
     pub time-kept : keeps_time early sent ≡ true
-    time-kept = all-from (λ first. list_all (is_after early sent first) (acks_of sent)) (acks_of early) outer
+    time-kept = all-from (acks_of early) outer
       where
         inner : (m : ServerId) (first : Ack) → HasAcknowledged early m first → (two : ServerId × Ack) → In two (acks_of sent) →
             is_after early sent (m, first) two ≡ true
         inner m first said (x, later) at = after m x first later said (acks-say sent x later at)
 
         outer : (one : ServerId × Ack) → In one (acks_of early) → list_all (is_after early sent one) (acks_of sent) ≡ true
-        outer (m, first) at =
-            all-from (is_after early sent (m, first)) (acks_of sent) (inner m first (acks-say early m first at))
+        outer (m, first) at = all-from (acks_of sent) (inner m first (acks-say early m first at))
 
 -- Reads see every acknowledged write
 
-pub no-more : (table key version : ℕ) (ack : Ack) → (IsOfKey table key ack → ack.version ≤ version) →
+pub no-more : {table key version : ℕ} {ack : Ack} → (IsOfKey table key ack → ack.version ≤ version) →
     is_no_more table key version ack ≡ true
-no-more table key version ack holds = where-from (is_of_key table key ack) (nat_le ack.version version)
-    (λ e. le-leb ack.version version (holds (of-key table key ack e)))
+no-more {table} {key} {version} {ack} holds = where-from (is_of_key table key ack)
+    (λ e. le-leb ack.version version (holds (of-key e)))
 
 module _ (setup : Setup) (events : List Event) (m : ServerId) (before : List Message) (answer : Answer)
     (p : MissesOnlyLater setup events m before answer)
@@ -208,34 +200,28 @@ module _ (setup : Setup) (events : List Event) (m : ServerId) (before : List Mes
     sent = sent_after setup events
 
     earlier-seen : sees_earlier sent p.term answer.table answer.key answer.version ≡ true
-    earlier-seen = all-from (λ one. not (is_earlier sent answer.table answer.key one.1.term p.term)
-        || is_no_more answer.table answer.key answer.version one.1) (acks_of sent) each
+    earlier-seen = all-from (acks_of sent) each
       where
         each : (one : ServerId × Ack) → In one (acks_of sent) →
             (not (is_earlier sent answer.table answer.key one.1.term p.term)
             || is_no_more answer.table answer.key answer.version one.1) ≡ true
         each (x, ack) at = where-from (is_earlier sent answer.table answer.key ack.term p.term)
-            (is_no_more answer.table answer.key answer.version ack)
-            (λ e. no-more answer.table answer.key answer.version ack (λ key. p.earlier x ack (acks-say sent x ack at) key
+            (λ e. no-more (λ key. p.earlier x ack (acks-say sent x ack at) key
             (is_before-finds (grants_of sent answer.table answer.key) ack.term p.term e)))
 
     own-seen : sees_own before m p.term answer.table answer.key answer.version ≡ true
-    own-seen = all-from (λ one. not (same_id m one.0 && nat_eq one.1.term p.term)
-        || is_no_more answer.table answer.key answer.version one.1) (acks_of before) each
+    own-seen = all-from (acks_of before) each
       where
-        each : (one : ServerId × Ack) → In one (acks_of before) →
-            (not (same_id m one.0 && nat_eq one.1.term p.term)
+        each : (one : ServerId × Ack) → In one (acks_of before) → (not (same_id m one.0 && nat_eq one.1.term p.term)
             || is_no_more answer.table answer.key answer.version one.1) ≡ true
         each (x, ack) at = where-from (same_id m x && nat_eq ack.term p.term)
-            (is_no_more answer.table answer.key answer.version ack)
             (λ e. let both = and_parts (same_id m x) (nat_eq ack.term p.term) e in
-            no-more answer.table answer.key answer.version ack (λ key. p.own ack
+            no-more (λ key. p.own ack
             (subst (λ y. HasAcknowledged before y ack) (sym (same_id-true m x both.0)) (acks-say before x ack at)) key
             (eqb-true ack.term p.term both.1)))
 
     by-then-seen : sees_by_then before p.term answer.table answer.key answer.version ≡ true
-    by-then-seen = all-from (λ one. is_earlier before answer.table answer.key p.term one.1.term
-        || is_no_more answer.table answer.key answer.version one.1) (acks_of before) each
+    by-then-seen = all-from (acks_of before) each
       where
         not-found : (ack : Ack) → is_earlier before answer.table answer.key p.term ack.term ≡ false →
             IsEarlier before answer.table answer.key p.term ack.term → ⊥
@@ -244,28 +230,23 @@ module _ (setup : Setup) (events : List Event) (m : ServerId) (before : List Mes
         each : (one : ServerId × Ack) → In one (acks_of before) →
             (is_earlier before answer.table answer.key p.term one.1.term
             || is_no_more answer.table answer.key answer.version one.1) ≡ true
-        each (x, ack) at = else-from (is_earlier before answer.table answer.key p.term ack.term)
-            (is_no_more answer.table answer.key answer.version ack)
-            (λ none. no-more answer.table answer.key answer.version ack
+        each (x, ack) at = else-from (is_earlier before answer.table answer.key p.term ack.term) (λ none. no-more
             (λ key. p.by_then x ack (acks-say before x ack at) key (not-found ack none)))
 
     value-seen : sees_value sent answer.table answer.key answer.version answer.value ≡ true
-    value-seen = all-from (λ one. not (is_of_key answer.table answer.key one.1 && nat_eq one.1.version answer.version)
-        || has_value sent one.0 one.1 answer.value) (acks_of sent) each
+    value-seen = all-from (acks_of sent) each
       where
         each : (one : ServerId × Ack) → In one (acks_of sent) →
             (not (is_of_key answer.table answer.key one.1 && nat_eq one.1.version answer.version)
             || has_value sent one.0 one.1 answer.value) ≡ true
         each (x, ack) at = where-from (is_of_key answer.table answer.key ack && nat_eq ack.version answer.version)
-            (has_value sent x ack answer.value)
             (λ e. let both = and_parts (is_of_key answer.table answer.key ack) (nat_eq ack.version answer.version) e in
-            has-value sent x ack answer.value (λ entry made. p.written x ack entry
-            (record { acknowledged = acks-say sent x ack at; made = made }) (of-key answer.table answer.key ack both.0)
+            has-value ack (λ entry made. p.written x ack entry
+            (record { acknowledged = acks-say sent x ack at; made = made }) (of-key both.0)
             (eqb-true ack.version answer.version both.1)))
 
     seen-under : sees_under sent before m answer.table answer.key answer.version answer.value p.term ≡ true
-    seen-under =
-        and_from (was_granted before m p.term answer.table answer.key) _ (was-granted before m p.term answer.table answer.key p.owned)
+    seen-under = and_from (was_granted before m p.term answer.table answer.key) _ (was-granted p.owned)
         (and_from (sees_earlier sent p.term answer.table answer.key answer.version) _ earlier-seen
         (and_from (sees_own before m p.term answer.table answer.key answer.version) _ own-seen
         (and_from (sees_by_then before p.term answer.table answer.key answer.version) _ by-then-seen value-seen)))

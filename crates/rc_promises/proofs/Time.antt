@@ -59,44 +59,43 @@ module _ (setup : Setup) (events more : List Event) where
   all_new : AllHold new.sent new.masters new.hosts new.coordinator
   all_new = all-world setup (events ++ more)
 
-  later-of : (m : ServerId) → Since m old new
-  later-of m = since-more setup events more m
+  later-of : {m : ServerId} → Since m old new
+  later-of = since-more setup events more
 
   -- What was asked only afterwards stands above all that its key had before
 
   module _ (x : ServerId) (later : Ack) (entry : Entry) (written : IsWritten new.sent x later entry)
       (unasked : WasToldToWrite old.sent x later.table later.key entry.value → ⊥) where
     is : IsAcked new.sent new.masters new.hosts new.coordinator all_new x later
-    is = acked new.sent new.masters new.hosts new.coordinator all_new x later written.acknowledged
+    is = acked new.sent new.masters new.hosts new.coordinator all_new written.acknowledged
 
     abbrev at : Stands is.written.place (places_of (new.masters x).log)
-    at = written-at new.sent new.masters new.hosts new.coordinator all_new x later is
+    at = written-at new.sent new.masters new.hosts new.coordinator all_new is
 
     client : IsClients (part_view (new.masters x)) at.before is.written.place.entry
-    client = clients new.sent new.masters new.hosts new.coordinator all_new x later is
+    client = clients new.sent new.masters new.hosts new.coordinator all_new is
 
     -- what was sent for the place stands there
     same : is.written.place.entry ≡ entry
     same =
         let here : slice_get (log_in (new.masters x).log later.seg) later.offset ≡ Some entry =
-        made-is new.sent new.masters new.hosts new.coordinator
-        (good-world setup (events ++ more)) x later.seg later.offset entry written.made in
+        made-is (good-world setup (events ++ more)) written.made in
         let there : slice_get (log_in (new.masters x).log later.seg) later.offset ≡ Some is.written.place.entry =
         subst (λ s. slice_get (log_in (new.masters x).log s) later.offset ≡ Some is.written.place.entry) is.written.seg_is
         (subst (λ o. slice_get (log_in (new.masters x).log is.written.place.seg) o ≡ Some is.written.place.entry) is.written.offset_is
-        (place-logged (new.masters x).log is.written.place found)) in
+        (place-logged (new.masters x).log found)) in
         cc
       where
         found : IsOf (new.masters x).log.segments (new.masters x).log.head is.written.place
         found = (let k = place_of (places_of (new.masters x).log) is.written.place is.written.among in
-            places_to-are (new.masters x).log.segments (new.masters x).log.head k.0 is.written.place k.1)
+            places_to-are (new.masters x).log.head k.0 k.1)
 
     -- so its place comes after all of the log before
     after-all : Begins (places_of (old.masters x).log) at.before
     after-all = by (within-or_after is.written.place (places_of (old.masters x).log) begins.0 at.before at.after (begins.1 ∙ at.whole))
       where
         begins : Begins (places_of (old.masters x).log) (places_of (new.masters x).log)
-        begins = places-later new.sent x (old.masters x).log (new.masters x).log (later-of x).later
+        begins = places-later (later-of).later
 
         by : In is.written.place (places_of (old.masters x).log) ⊎ Begins (places_of (old.masters x).log) at.before →
             Begins (places_of (old.masters x).log) at.before
@@ -105,12 +104,11 @@ module _ (setup : Setup) (events more : List Event) where
             (subst (λ (value : _). WasToldToWrite old.sent x later.table later.key value) (ap (λ (one : Entry). one.value) same)
             (subst (λ k. WasToldToWrite old.sent x later.table k is.written.place.entry.value) is.written.key_is
             (subst (λ t. WasToldToWrite old.sent x t is.written.place.entry.key is.written.place.entry.value) is.written.table_is
-            (clients-asked setup events x is.written.place there is.written.client)))))
+            (clients-asked setup events is.written.place there is.written.client)))))
 
     pub is-above : (other : Entry) → In other (logged (places_of (old.masters x).log)) → other.term ≡ later.term →
         other.table ≡ later.table → other.key ≡ later.key → other.version < later.version
-    is-above other there term table key =
-        subst (λ n. other.version < n) is.written.version_is
+    is-above other there term table key = subst (λ n. other.version < n) is.written.version_is
         (client.rises other (subst (λ places. In other (logged places)) after-all.1
         (subst (In other) (sym (logged-append (places_of (old.masters x).log) after-all.0))
         (In-left other (logged (places_of (old.masters x).log)) (logged after-all.0) there)))
@@ -123,7 +121,7 @@ module _ (setup : Setup) (events more : List Event) where
     where
       own : IsOwn new.coordinator (Server was.owner) (own_body was)
       own = all_new.kept.known (from_coordinator was.owner (own_body was))
-          ((later-of was.owner).more (from_coordinator was.owner (own_body was)) (all_old.kept.told was among))
+          ((later-of {m = was.owner}).more (from_coordinator was.owner (own_body was)) (all_old.kept.told was among))
 
       same : (one other : Grant) → ◌≡◌ {A = Addr} (Server one.owner) (Server other.owner) → own_body one ≡ own_body other → other ≡ one
       same one other to says =
@@ -149,9 +147,9 @@ module _ (setup : Setup) (events more : List Event) where
     pub of_owner : plan.master ≡ owner
 
   -- so the one before a grant that was sent within them
-  left-before : (grant : Grant) (table key : ℕ) → In grant old.coordinator.grants → in_range grant.range table key ≡ true →
+  left-before : (grant : Grant) {table key : ℕ} → In grant old.coordinator.grants → in_range grant.range table key ≡ true →
       0 < grant.previous → IsLeft grant.previous table key
-  left-before grant table key among holds above = by (all_old.terms.origin grant among)
+  left-before grant {table} {key} among holds above = by (all_old.terms.origin grant among)
     where
       by : ((grant.attempt ≡ 0) × (grant.previous ≡ 0)) ⊎ IsGivenBy old.sent old.coordinator grant → IsLeft grant.previous table key
       by (inl created) = let none : grant.previous ≡ 0 = created.1 in absurd (omega arith)
@@ -169,26 +167,26 @@ module _ (setup : Setup) (events more : List Event) where
           }
 
   -- and so each owner before it
-  previous-same : (grant : Grant) → In grant old.coordinator.grants → (table key k : ℕ) (one : Granted) →
+  previous-same : (grant : Grant) → In grant old.coordinator.grants → (table key k : ℕ) {one : Granted} →
       slice_get (grants_of new.sent table key) k ≡ Some one → grant.term ≡ one.term →
       grant.previous ≡ one.previous
-  previous-same grant among table key k one e same =
+  previous-same grant among table key k e same =
       let p = at-point new.sent new.masters new.hosts new.coordinator all_new MayFree
-      (covers-anyhow new.sent new.masters new.hosts new.coordinator all_new) table key k one e in
+      (covers-anyhow new.sent new.masters new.hosts new.coordinator all_new) table key k e in
       let it : grant ≡ p.0 = all_new.terms.grant_once grant p.0 (still-granted grant among) p.1 (same ∙ ap (λ (g : Granted). g.term) p.2) in
       ap (λ (g : Grant). g.previous) it ∙ sym (ap (λ (g : Granted). g.previous) p.2)
 
-  pub left : (table key earlier last : ℕ) → IsBefore (grants_of new.sent table key) earlier last → 0 < earlier → (grant : Grant) →
+  pub left : {table key earlier last : ℕ} → IsBefore (grants_of new.sent table key) earlier last → 0 < earlier → (grant : Grant) →
       In grant old.coordinator.grants → grant.term ≡ last →
       in_range grant.range table key ≡ true → IsLeft earlier table key
-  left table key earlier last (previous k one e) above grant among same holds =
-      let before : grant.previous ≡ one.previous = previous-same grant among table key k one e same in
-      subst (λ n. IsLeft n table key) before (left-before grant table key among holds (subst (λ n. 0 < n) (sym before) above))
-  left table key earlier last (onward from k one e way) above grant among same holds =
-      let before : grant.previous ≡ one.previous = previous-same grant among table key k one e same in
+  left {table} {key} (previous k one e) above grant among same holds =
+      let before : grant.previous ≡ one.previous = previous-same grant among table key k e same in
+      subst (λ n. IsLeft n table key) before (left-before grant among holds (subst (λ n. 0 < n) (sym before) above))
+  left {table} {key} (onward from k one e way) above grant among same holds =
+      let before : grant.previous ≡ one.previous = previous-same grant among table key k e same in
       let less : from < one.previous = earlier-less new.sent new.coordinator all_new.grants all_new.kept table key from one.previous way in
-      let rest : IsLeft grant.previous table key = left-before grant table key among holds (omega arith) in
-      left table key from one.previous way above rest.granted.grant rest.granted.among (rest.granted.term_is ∙ before) rest.granted.holds
+      let rest : IsLeft grant.previous table key = left-before grant among holds (omega arith) in
+      left way above rest.granted.grant rest.granted.among (rest.granted.term_is ∙ before) rest.granted.holds
 
   -- Who acknowledges under an earlier term what was asked only afterwards: nobody
 
@@ -196,35 +194,31 @@ module _ (setup : Setup) (events more : List Event) where
       (written : IsWritten new.sent x later entry)
       (keys : IsOfKey first.table first.key later) (unasked : WasToldToWrite old.sent x later.table later.key entry.value → ⊥) where
     first_old : IsAcked old.sent old.masters old.hosts old.coordinator all_old m first
-    first_old = acked old.sent old.masters old.hosts old.coordinator all_old m first acked_first
+    first_old = acked old.sent old.masters old.hosts old.coordinator all_old acked_first
 
     first_new : HasAcknowledged new.sent m first
     first_new = record {
       message = acked_first.message;
-      among = (later-of m).more acked_first.message acked_first.among;
-      from
-          = acked_first.from;
+      among = (later-of {m = m}).more acked_first.message acked_first.among;
+      from = acked_first.from;
       says = acked_first.says;
     }
 
     owned : IsOwned new.sent new.masters new.hosts new.coordinator all_new x later.term later.table later.key
-    owned = owner new.sent new.masters new.hosts new.coordinator all_new x later
-        (is x later entry written unasked)
+    owned = owner new.sent new.masters new.hosts new.coordinator all_new x later (is x later entry written unasked)
 
     owned_first : IsOwned new.sent new.masters new.hosts new.coordinator all_new m first.term first.table first.key
     owned_first = owner new.sent new.masters new.hosts new.coordinator all_new m first
-        (acked new.sent new.masters new.hosts new.coordinator all_new m first first_new)
+        (acked new.sent new.masters new.hosts new.coordinator all_new first_new)
 
     under-one-term : first.term ≡ later.term → first.version < later.version
     under-one-term same =
         let w : IsWriteOk old.sent m (old.masters m).log first.seg first.offset first.term first.table first.key first.version
         = first_old.write in
-        let here : m ≡ x = one-owner new.sent new.masters new.hosts new.coordinator all_new
-        x m later first written.acknowledged first_new same in
+        let here : m ≡ x = one-owner new.sent new.masters new.hosts new.coordinator all_new written.acknowledged first_new same in
         let there : In w.entry (logged (places_of (old.masters m).log)) =
         safe-logged old.sent old.masters old.hosts old.coordinator all_old m first.seg first.offset w.entry w.safe w.holds in
-        subst (λ n. n < later.version) w.version_is
-        (is-above x later entry written unasked w.entry
+        subst (λ n. n < later.version) w.version_is (is-above x later entry written unasked w.entry
         (subst (λ (k : ServerId). In w.entry (logged (places_of (old.masters k).log))) here there)
         (w.term_is ∙ same) (w.table_is ∙ sym keys.table_is) (w.key_is ∙ sym keys.key_is))
 
@@ -239,7 +233,7 @@ module _ (setup : Setup) (events more : List Event) where
         own = owner old.sent old.masters old.hosts old.coordinator all_old m first first_old
 
         gone : IsLeft later.term later.table later.key
-        gone = left later.table later.key later.term first.term before term_above own.grant own.among own.term_is
+        gone = left {table = later.table} {key = later.key} {earlier = later.term} {last = first.term} before term_above own.grant own.among own.term_is
             (subst (λ k. in_range own.grant.range later.table k ≡ true) (sym keys.key_is)
             (subst (λ t. in_range own.grant.range t first.key ≡ true) (sym keys.table_is) own.holds))
 
@@ -254,7 +248,7 @@ module _ (setup : Setup) (events more : List Event) where
         accepted : WasAccepted new.sent gone.plan
         accepted = record {
           message = gone.accepted.message;
-          among = (later-of x).more gone.accepted.message gone.accepted.among;
+          among = (later-of {m = x}).more gone.accepted.message gone.accepted.among;
           head = gone.accepted.head;
           parts = gone.accepted.parts;
           says = gone.accepted.says;
@@ -266,7 +260,7 @@ module _ (setup : Setup) (events more : List Event) where
         there : IsCovered x (new.masters x).log gone.plan.rows later.seg later.offset w.entry
         there = covered new.sent new.masters new.hosts new.coordinator all_new.good x gone.plan.rows
             (subst (λ (k : ServerId). Rattle.rc_log_laws.proofs.Covers.PlanIs new.sent new.masters new.coordinator k gone.plan.rows) of_x
-            (accepted-is new.sent new.masters new.hosts new.coordinator all_new.good gone.plan accepted))
+            (accepted-is {sent = new.sent} {masters = new.masters} {hosts = new.hosts} {c = new.coordinator} all_new.good {plan = gone.plan} accepted))
             later.seg later.offset w.entry w.safe w.holds
 
         -- what the recovery has there was in the log by then
@@ -277,13 +271,13 @@ module _ (setup : Setup) (events more : List Event) where
         same_entry : stood.0 ≡ there.other
         same_entry =
             let one : slice_get (log_in (new.masters x).log there.seg) there.offset ≡ Some stood.0 =
-            get-log new.sent x (old.masters x).log (new.masters x).log (later-of x).later there.seg there.offset stood.0 stood.1 in
+            get-log new.sent x (old.masters x).log (new.masters x).log (later-of {m = x}).later there.seg there.offset stood.0 stood.1 in
             let other : slice_get (log_in (new.masters x).log there.seg) there.offset ≡ Some there.other = there.holds in
             cc
 
         logged_then : In there.other (logged (places_of (old.masters x).log))
         logged_then =
-            let within = opened old.sent old.masters old.hosts old.coordinator all_old x there.seg there.offset stood.0 stood.1 in
+            let within = opened old.sent old.masters old.hosts old.coordinator all_old {m = x} {s = there.seg} there.offset {entry = stood.0} stood.1 in
             subst (λ (one : Entry). In one (logged (places_of (old.masters x).log))) same_entry
             (In-places (old.masters x).log.segments (old.masters x).log.head there.seg stood.0 within.0 within.1
             (In-get (log_in (old.masters x).log there.seg) there.offset stood.0 stood.1))
@@ -316,10 +310,8 @@ module _ (setup : Setup) (events more : List Event) where
         by : (owned_first.grant.term ≡ owned.grant.term) ⊎ (IsEarlier new.sent later.table later.key owned_first.grant.term owned.grant.term
             ⊎ IsEarlier new.sent later.table later.key owned.grant.term owned_first.grant.term) → first.version < later.version
         by (inl e) = under-one-term (sym owned_first.term_is ∙ e ∙ owned.term_is)
-        by (inr (inl way)) =
-            versions-rise new.sent new.masters new.hosts new.coordinator all_new
-            later (by-anyone new.sent x later written.acknowledged) first (by-anyone new.sent m first first_new) (sym keys.table_is)
-            (sym keys.key_is)
+        by (inr (inl way)) = versions-rise new.sent new.masters new.hosts new.coordinator all_new
+            later (by-anyone written.acknowledged) first (by-anyone first_new) (sym keys.table_is) (sym keys.key_is)
             (subst (λ n. IsEarlier new.sent later.table later.key first.term n) owned.term_is
             (subst (λ n. IsEarlier new.sent later.table later.key n owned.grant.term) owned_first.term_is way))
         by (inr (inr way)) = under-earlier-term

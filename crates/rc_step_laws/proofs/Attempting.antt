@@ -28,9 +28,9 @@ below-trans a b c p q = grind (arith, nat_tests)
 -- Numbers
 
 -- a number names one attempt
-pub numbered-same : (attempts : List Attempt) (number : ℕ) (one other : Attempt) → IsNumbered attempts number one →
+pub numbered-same : {attempts : List Attempt} {number : ℕ} {one other : Attempt} → IsNumbered attempts number one →
     IsNumbered attempts number other → one ≡ other
-numbered-same attempts number one other p q =
+numbered-same {attempts} {number} {one} {other} p q =
     let place : p.place ≡ q.place =
     (let a : number ≡ p.place + 1 = p.number_is in let b : number ≡ q.place + 1 = q.number_is in omega arith) in
     let a : slice_get attempts q.place ≡ Some one = ap (slice_get attempts) (sym place) ∙ p.attempt_is in
@@ -38,15 +38,14 @@ numbered-same attempts number one other p q =
     cc
 
 -- an attempt that is found by a number has it
-pub numbered-at : (c : Coordinator) (number : ℕ) (attempt : Attempt) → attempt_at c number ≡ Some attempt →
+pub numbered-at : (c : Coordinator) {number : ℕ} (attempt : Attempt) → attempt_at c number ≡ Some attempt →
     IsNumbered c.attempts number attempt
-numbered-at c number attempt =
+numbered-at c {number} attempt =
     either (λ found. found ≡ Some attempt → IsNumbered c.attempts number attempt) (nat_eq number 0) None (slice_get c.attempts (number - 1))
     (λ _ e. cc)
     (λ above e. record {
       place = number - 1;
-      number_is = (let nonzero : number ≡ 0 →
-          ⊥ = eqb-false number 0 above in positive number nonzero);
+      number_is = (let nonzero : number ≡ 0 → ⊥ = eqb-false number 0 above in positive number nonzero);
       attempt_is = e;
     })
   where
@@ -55,21 +54,21 @@ numbered-at c number attempt =
     positive (suc n) no_zero = omega arith
 
 -- what is put at a place stands there
-set-here : {X : Type 0} (xs : List X) (k : ℕ) (x new : X) → slice_get xs k ≡ Some x → slice_get (slice_set xs k new) k ≡ Some new
-set-here [] k x new e = cc
-set-here (y ∷ xs) zero x new e = refl
-set-here (y ∷ xs) (suc k) x new e = set-here xs k x new e
+set-here : {X : Type 0} (xs : List X) (k : ℕ) {x new : X} → slice_get xs k ≡ Some x → slice_get (slice_set xs k new) k ≡ Some new
+set-here [] k e = cc
+set-here (y ∷ xs) zero e = refl
+set-here (y ∷ xs) (suc k) e = set-here xs k e
 
 -- a changed attempt has the number of the one that was there
-pub numbered-set : (attempts : List Attempt) (number : ℕ) (was now : Attempt) → IsNumbered attempts number was →
+pub numbered-set : {attempts : List Attempt} {number : ℕ} {was now : Attempt} → IsNumbered attempts number was →
     IsNumbered (slice_set attempts (number - 1) now) number now
-numbered-set attempts number was now p =
+numbered-set {attempts} {number} {now} p =
     let here : p.place ≡ number - 1 = (let e : number ≡ p.place + 1 = p.number_is in omega arith) in
     record {
       place = p.place;
       number_is = p.number_is;
       attempt_is = subst (λ k. slice_get (slice_set attempts k now) p.place ≡ Some now) here
-          (set-here attempts p.place was now p.attempt_is);
+          (set-here attempts p.place p.attempt_is);
     }
 
 -- What stays
@@ -80,22 +79,22 @@ pub record Kept (old new : Coordinator) : Type 0 where
   pub least : (m : ServerId) → is_below (new.least m) (old.least m) ≡ false
   pub least_stays : (m : ServerId) → has_crashed old.servers m ≡ true → new.least m ≡ old.least m
 
-pub kept-refl : (c : Coordinator) → Kept c c
-kept-refl c = record { crashed = λ m e. e; least = λ m. below-refl (c.least m); least_stays = λ m e. refl }
+pub kept-refl : {c : Coordinator} → Kept c c
+kept-refl {c} = record { crashed = λ m e. e; least = λ m. below-refl (c.least m); least_stays = λ m e. refl }
 
 -- an attempt stays good
-pub attempt-kept : (sent messages : List Message) (old new : Coordinator) (number : ℕ) (attempt : Attempt) →
+pub attempt-kept : {sent : List Message} (messages : List Message) {old new : Coordinator} {number : ℕ} {attempt : Attempt} →
     Kept old new → GoodAttempt sent old number attempt → GoodAttempt (sent ++ messages) new number attempt
-attempt-kept sent messages old new number attempt kept good = record {
+attempt-kept {sent} messages {number} {attempt} kept good = record {
   crashed = kept.crashed attempt.master good.crashed;
   answered = λ y rows at. In-left (to_coordinator y (Replicas number rows)) sent messages (good.answered y rows at);
   picked = λ decision e. subst (λ least. pick least attempt.replies ≡ Ok decision.plan)
       (sym (kept.least_stays attempt.master good.crashed)) (good.picked decision e);
 }
 
-pub attempt_later-refl : (attempts : List Attempt) (number : ℕ) (attempt : Attempt) →
+pub attempt_later-refl : {attempts : List Attempt} {number : ℕ} {attempt : Attempt} →
     IsNumbered attempts number attempt → AttemptLater attempts number attempt
-attempt_later-refl attempts number attempt numbered = record { now = attempt; numbered = numbered; master = refl; decided = inl refl }
+attempt_later-refl {attempt} numbered = record { now = attempt; numbered = numbered; master = refl; decided = inl refl }
 
 -- what a move says
 abbrev pub Says : Coordinator → Message → Type 0
@@ -104,13 +103,13 @@ Says c message = (message.from ≡ AtCoordinator) × coordinator_body_said c mes
 -- Moves
 
 -- the attempts stay as they are
-pub moved-kept : (sent : List Message) (old new : Coordinator) (messages : List Message) → GoodCoordinator sent old →
+pub moved-kept : {sent : List Message} {old new : Coordinator} {messages : List Message} → GoodCoordinator sent old →
     new.attempts ≡ old.attempts → new.current ≡ old.current → Kept old new →
     OnDifferentHosts (up_rows new.servers.rows) →
     Each (Says new) messages → CoordinatorMoved sent old (new, messages)
-moved-kept sent old new messages good same current kept apart say = record {
+moved-kept {old} {new} {messages} good same current kept apart say = record {
   good = record {
-    attempts = λ number attempt numbered. attempt-kept sent messages old new number attempt kept
+    attempts = λ number attempt numbered. attempt-kept messages kept
         (good.attempts number attempt (subst (λ attempts. IsNumbered attempts number attempt) same numbered));
     servers = apart;
     current_numbered = λ m. subst (λ (attempts : List Attempt). new.current m ≤ length attempts) (sym same)
@@ -120,7 +119,7 @@ moved-kept sent old new messages good same current kept apart say = record {
         (subst (λ attempts. IsNumbered attempts (new.current m) attempt) same numbered));
   };
   later = record {
-    attempts = λ number attempt numbered. attempt_later-refl new.attempts number attempt
+    attempts = λ number attempt numbered. attempt_later-refl
         (subst (λ attempts. IsNumbered attempts number attempt) (sym same) numbered);
     crashed = kept.crashed;
     least = kept.least;
@@ -131,12 +130,12 @@ moved-kept sent old new messages good same current kept apart say = record {
 }
 
 -- an attempt is added, for a master that has crashed
-pub moved-added : (sent : List Message) (old new : Coordinator) (messages : List Message) (attempt : Attempt) →
+pub moved-added : {sent : List Message} {old new : Coordinator} {messages : List Message} (attempt : Attempt) →
     GoodCoordinator sent old → new.attempts ≡ old.attempts ++ attempt ∷ [] →
     new.current ≡ put_id old.current attempt.master (length old.attempts + 1) → Kept old new → OnDifferentHosts (up_rows new.servers.rows) →
     has_crashed new.servers attempt.master ≡ true → attempt.replies ≡ [] → attempt.decided ≡ None → Each (Says new) messages →
     CoordinatorMoved sent old (new, messages)
-moved-added sent old new messages attempt good same current kept apart crashed empty undecided say = record {
+moved-added {sent} {old} {new} {messages} attempt good same current kept apart crashed empty undecided say = record {
   good = record {
     attempts = λ number one numbered. good_now number one (subst (λ attempts. IsNumbered attempts number one) same numbered);
     servers = apart;
@@ -147,13 +146,11 @@ moved-added sent old new messages attempt good same current kept apart crashed e
         current (subst (λ attempts. IsNumbered attempts (new.current m) one) same numbered)));
   };
   later = record {
-    attempts = λ number one numbered. attempt_later-refl new.attempts number one
-        (subst (λ attempts. IsNumbered attempts number one) (sym same)
+    attempts = λ number one numbered. attempt_later-refl (subst (λ attempts. IsNumbered attempts number one) (sym same)
         (record {
           place = numbered.place;
           number_is = numbered.number_is;
-          attempt_is = get-left old.attempts
-              (attempt ∷ []) numbered.place one numbered.attempt_is;
+          attempt_is = get-left old.attempts (attempt ∷ []) numbered.place numbered.attempt_is;
         }));
     crashed = kept.crashed;
     least = kept.least;
@@ -165,8 +162,7 @@ moved-added sent old new messages attempt good same current kept apart crashed e
   where
     upto : (m : ServerId) → put_id old.current attempt.master (length old.attempts + 1) m ≤ length (old.attempts ++ attempt ∷ [])
     upto m = put_id_each (λ (k : ServerId) (n : ℕ). n ≤ length (old.attempts ++ attempt ∷ [])) old.current
-        attempt.master (length old.attempts + 1)
-        (omega (arith, length-append old.attempts (attempt ∷ [])))
+        attempt.master (length old.attempts + 1) (omega (arith, length-append old.attempts (attempt ∷ [])))
         (λ other. (let was : old.current other ≤ length old.attempts = good.current_numbered other in
         omega (arith, was, length-append old.attempts (attempt ∷ [])))) m
 
@@ -174,14 +170,14 @@ moved-added sent old new messages attempt good same current kept apart crashed e
     at-end : (number : ℕ) (one : Attempt) → IsNumbered (old.attempts ++ attempt ∷ []) number one →
         (number ≡ length old.attempts + 1 → one ≡ attempt) × (number ≤ length old.attempts →
         IsNumbered old.attempts number one)
-    at-end number one numbered = by (get-append old.attempts (attempt ∷ []) numbered.place one numbered.attempt_is)
+    at-end number one numbered = by (get-append old.attempts (attempt ∷ []) numbered.place numbered.attempt_is)
       where
         last : (j : ℕ) → slice_get (attempt ∷ []) j ≡ Some one → attempt ≡ one
         last zero e = cc
         last (suc j) e = cc
 
         within : slice_get old.attempts numbered.place ≡ Some one → numbered.place < length old.attempts
-        within e = get-within old.attempts numbered.place one e
+        within e = get-within old.attempts numbered.place e
 
         by : (slice_get old.attempts numbered.place ≡ Some one) ⊎
             ((j : ℕ) × (numbered.place ≡ length old.attempts + j) × (slice_get (attempt ∷ []) j ≡ Some one)) →
@@ -190,8 +186,7 @@ moved-added sent old new messages attempt good same current kept apart crashed e
           λ e. absurd (let less : numbered.place < length old.attempts = within there in
               omega (arith, less, numbered.number_is, e)),
           λ _. record {
-            place =
-                numbered.place;
+            place = numbered.place;
             number_is = numbered.number_is;
             attempt_is = there;
           },
@@ -218,7 +213,7 @@ moved-added sent old new messages attempt good same current kept apart crashed e
 
     good_now : (number : ℕ) (one : Attempt) → IsNumbered (old.attempts ++ attempt ∷ []) number one →
         GoodAttempt (sent ++ messages) new number one
-    good_now number one numbered = by (get-append old.attempts (attempt ∷ []) numbered.place one numbered.attempt_is)
+    good_now number one numbered = by (get-append old.attempts (attempt ∷ []) numbered.place numbered.attempt_is)
       where
         last : (j : ℕ) → slice_get (attempt ∷ []) j ≡ Some one → attempt ≡ one
         last zero e = cc
@@ -227,8 +222,7 @@ moved-added sent old new messages attempt good same current kept apart crashed e
         by : (slice_get old.attempts numbered.place ≡ Some one) ⊎
             ((j : ℕ) × (numbered.place ≡ length old.attempts + j) × (slice_get (attempt ∷ []) j ≡ Some one)) →
             GoodAttempt (sent ++ messages) new number one
-        by (inl there) = attempt-kept sent messages old new number one kept
-            (good.attempts number one
+        by (inl there) = attempt-kept messages kept (good.attempts number one
             (record { place = numbered.place; number_is = numbered.number_is; attempt_is = there }))
         by (inr (j, p, q)) = subst (GoodAttempt (sent ++ messages) new number) (last j q) (of_new number)
 
@@ -239,19 +233,19 @@ of-added attempts new = record {
   numbered = record {
     place = length attempts;
     number_is = refl;
-    attempt_is = get-end attempts new [];
+    attempt_is = get-end attempts [];
   };
   master_is = refl;
 }
 
 -- an attempt that is gathering is changed
-pub moved-changed : (sent : List Message) (old new : Coordinator) (messages : List Message) (number : ℕ)
-    (was now : Attempt) → GoodCoordinator sent old → IsNumbered old.attempts number was →
+pub moved-changed : {sent : List Message} {old new : Coordinator} {messages : List Message} {number : ℕ}
+    {was now : Attempt} → GoodCoordinator sent old → IsNumbered old.attempts number was →
     new.attempts ≡ slice_set old.attempts (number - 1) now → new.current ≡ old.current → Kept old new →
     OnDifferentHosts (up_rows new.servers.rows) →
     now.master ≡ was.master → was.decided ≡ None → GoodAttempt (sent ++ messages) new number now → Each (Says new) messages →
     CoordinatorMoved sent old (new, messages)
-moved-changed sent old new messages number was now good is_was same current kept apart master undecided good_now say = record {
+moved-changed {sent} {old} {new} {messages} {number} {was} {now} good is_was same current kept apart master undecided good_now say = record {
   good = record {
     attempts = λ other one numbered. good_of other one (subst (λ attempts. IsNumbered attempts other one) same numbered);
     servers = apart;
@@ -277,22 +271,21 @@ moved-changed sent old new messages number was now good is_was same current kept
     same-number place other p q = let a : number ≡ is_was.place + 1 = is_was.number_is in omega arith
 
     of_current : (m : ServerId) (one : Attempt) → IsNumbered (slice_set old.attempts (number - 1) now) (old.current m) one → one.master ≡ m
-    of_current m one numbered = by (get-set old.attempts (number - 1) now numbered.place one numbered.attempt_is)
+    of_current m one numbered = by (get-set old.attempts (number - 1) numbered.place numbered.attempt_is)
       where
         by : (slice_get old.attempts numbered.place ≡ Some one) ⊎ ((numbered.place ≡ number - 1) × (one ≡ now)) → one.master ≡ m
         by (inl there) = good.current_master m one (record { place = numbered.place; number_is = numbered.number_is; attempt_is = there })
-        by (inr (p, q)) = ap (λ (some : Attempt). some.master) q ∙
-            (master ∙ good.current_master m was
+        by (inr (p, q)) = ap (λ (some : Attempt). some.master) q ∙ (master ∙ good.current_master m was
             (subst (λ n. IsNumbered old.attempts n was)
             (same-number numbered.place (old.current m) p numbered.number_is) is_was))
 
     good_of : (other : ℕ) (one : Attempt) → IsNumbered (slice_set old.attempts (number - 1) now) other one →
         GoodAttempt (sent ++ messages) new other one
-    good_of other one numbered = by (get-set old.attempts (number - 1) now numbered.place one numbered.attempt_is)
+    good_of other one numbered = by (get-set old.attempts (number - 1) numbered.place numbered.attempt_is)
       where
         by : (slice_get old.attempts numbered.place ≡ Some one) ⊎ ((numbered.place ≡ number - 1) × (one ≡ now)) →
             GoodAttempt (sent ++ messages) new other one
-        by (inl there) = attempt-kept sent messages old new other one kept
+        by (inl there) = attempt-kept messages kept
             (good.attempts other one (record {
               place = numbered.place;
               number_is = numbered.number_is;
@@ -304,16 +297,16 @@ moved-changed sent old new messages number was now good is_was same current kept
 
     later : (other : ℕ) (one : Attempt) → IsNumbered old.attempts other one →
         AttemptLater (slice_set old.attempts (number - 1) now) other one
-    later other one numbered = by (set-get old.attempts (number - 1) now numbered.place one numbered.attempt_is)
+    later other one numbered = by (set-get old.attempts (number - 1) numbered.place numbered.attempt_is)
       where
         by : (slice_get (slice_set old.attempts (number - 1) now) numbered.place ≡ Some one) ⊎
             ((numbered.place ≡ number - 1) ×
             (slice_get (slice_set old.attempts (number - 1) now) numbered.place ≡ Some now)) →
             AttemptLater (slice_set old.attempts (number - 1) now) other one
-        by (inl stays) = attempt_later-refl (slice_set old.attempts (number - 1) now) other one
+        by (inl stays) = attempt_later-refl
             (record { place = numbered.place; number_is = numbered.number_is; attempt_is = stays })
         by (inr (p, q)) =
-            let is_one : one ≡ was = numbered-same old.attempts other one was numbered
+            let is_one : one ≡ was = numbered-same numbered
             (subst (λ n. IsNumbered old.attempts n was) (same-number numbered.place other p numbered.number_is)
             is_was) in
             record {

@@ -16,20 +16,19 @@ NewlyToldUpTo sent sent_now m index s e len closed = (x : ServerId) (told_len : 
     In (between x m (Stored s e told_len mark)) sent_now →
     In (between x m (Stored s e told_len mark)) sent ⊎ ((told_len ≤ len) × (mark ≡ true → closed ≡ true))
 
-pub replica-told : (sent sent_now : List Message) (m : ServerId) (log : Log) (index generation generation_now s : ℕ)
-    (replica : Replica) → More sent sent_now → NoNewPlaces sent sent_now → generation ≤ generation_now →
+pub replica-told : {sent sent_now : List Message} {m : ServerId} {log : Log} {index generation generation_now s : ℕ}
+    {replica : Replica} → More sent sent_now → NoNewPlaces sent sent_now → generation ≤ generation_now →
     NewlyToldUpTo sent sent_now m index s replica.epoch (length replica.entries) replica.closed →
     GoodReplica sent m log index generation s replica → GoodReplica sent_now m log index generation_now s replica
-replica-told sent sent_now m log index generation generation_now s replica more back up newly good = record {
+replica-told {sent} {sent_now} {m} {log} {index} {generation} {s} {replica} more back up newly good = record {
   begins = good.begins;
   copy = record {
     opened = c.opened;
-    made = λ o below. ((c.made o below).0, (c.made o below).1, made-more sent sent_now more m s o (c.made o below).0 (c.made o below).2);
+    made = λ o below. ((c.made o below).0, (c.made o below).1, made-more more (c.made o below).2);
     within = c.within;
     whole = c.whole;
-    placed = placed-more sent sent_now more m s replica.epoch index generation generation_now up c.placed;
-    opened_at = λ open_so. opened_at-more sent sent_now more m s replica.epoch index generation generation_now
-        (length replica.entries) up (c.opened_at open_so);
+    placed = placed-more more up c.placed;
+    opened_at = λ open_so. opened_at-more more up (c.opened_at open_so);
     digest_is = c.digest_is;
     above = λ x o on p told. above x o (member x p) on told (newly x told.len told.closed on told.told);
     closed_too = λ x on p told. closed_too x (member x p) on told (newly x told.len true on told.told);
@@ -62,12 +61,12 @@ abbrev pub NothingNewlyTold : List Message → List Message → ServerId → ℕ
 NothingNewlyTold sent sent_now m index = (x : ServerId) (s e len : ℕ) (closed : Bool) → x.index ≡ index →
     In (between x m (Stored s e len closed)) sent_now → In (between x m (Stored s e len closed)) sent
 
-pub held-told : (sent sent_now : List Message) (m : ServerId) (log : Log) (index generation generation_now : ℕ)
-    (held : Held) → More sent sent_now → NoNewPlaces sent sent_now → generation ≤ generation_now →
+pub held-told : {sent sent_now : List Message} {m : ServerId} {log : Log} {index generation generation_now : ℕ}
+    {held : Held} → More sent sent_now → NoNewPlaces sent sent_now → generation ≤ generation_now →
     NothingNewlyTold sent sent_now m index → GoodHeld sent m log index generation held → GoodHeld sent_now m log index generation_now held
-held-told sent sent_now m log index generation generation_now held more back up nothing good = record {
+held-told more back up nothing good = record {
   ascending = good.ascending;
-  each = λ s replica at. replica-told sent sent_now m log index generation generation_now s replica more back up
+  each = λ s replica at. replica-told more back up
       (λ x len mark on told. inl (nothing x s replica.epoch len mark on told)) (good.each s replica at);
 }
 
@@ -82,10 +81,10 @@ pub record SameStored (x y m n : ServerId) (s t e f len other : ℕ) (closed mar
   pub length_is : len ≡ other
   pub closed_is : closed ≡ mark
 
-pub same-stored : (x y m n : ServerId) (s t e f len other : ℕ) (closed mark : Bool) →
+pub same-stored : {x y m n : ServerId} {s t e f len other : ℕ} {closed mark : Bool} →
     between x m (Stored s e len closed) ≡ between y n (Stored t f other mark) →
     SameStored x y m n s t e f len other closed mark
-same-stored x y m n s t e f len other closed mark same =
+same-stored {x} {y} {m} {n} {s} {t} {e} {f} {len} {other} {closed} {mark} same =
     let froms : Server x ≡ Server y = ap (λ (one : Message). one.from) same in
     let tos : Server m ≡ Server n = ap (λ (one : Message). one.to) same in
     let bodies : Stored s e len closed ≡ Stored t f other mark = ap (λ (one : Message). one.body) same in

@@ -31,11 +31,10 @@ pub record Quiet (messages : List Message) : Type 0 where
   pub told : (x m : ServerId) (s e len : ℕ) (closed : Bool) → In (between x m (Stored s e len closed)) messages → ⊥
 
 -- a quiet move: what is held stays good
-pub held-quiet : (sent messages : List Message) (masters : ServerId → Master) (m : ServerId)
-    (index generation generation_now : ℕ) (held : Held) → Quiet messages → generation ≤ generation_now →
+pub held-quiet : {sent messages : List Message} (masters : ServerId → Master) {m : ServerId}
+    {index generation generation_now : ℕ} {held : Held} → Quiet messages → generation ≤ generation_now →
     GoodHeld sent m (masters m).log index generation held → GoodHeld (sent ++ messages) m (masters m).log index generation_now held
-held-quiet sent messages masters m index generation generation_now held quiet up good =
-    held-told sent (sent ++ messages) m (masters m).log index generation generation_now held
+held-quiet {sent} {messages} masters {m} {index} quiet up good = held-told
     (λ message at. In-left message sent messages at) back up nothing good
   where
     back : NoNewPlaces sent (sent ++ messages)
@@ -50,13 +49,12 @@ pub quiet-none : Quiet []
 quiet-none = record { places = λ m x s e digest entries closed at. at; told = λ x m s e len closed at. at }
 
 -- nothing happens
-moved-still : (sent : List Message) (masters : ServerId → Master) (hosts : ℕ → HostNode) (c : Coordinator)
-    (host : HostNode) → AllHeld sent masters host → BackupMoved sent masters hosts c host (host.backup, [])
-moved-still sent masters hosts c host good = record {
+moved-still : {sent : List Message} {masters : ServerId → Master} {hosts : ℕ → HostNode} {c : Coordinator}
+    {host : HostNode} → AllHeld sent masters host → BackupMoved sent masters hosts c host (host.backup, [])
+moved-still {masters} good = record {
   own = refl;
-  held = λ m. held-quiet sent [] masters m host.index host.generation host.generation (host.backup.held m) quiet-none
-      (omega arith) (good m);
-  later = λ m. held_later-refl (host.backup.held m);
+  held = λ m. held-quiet masters quiet-none (omega arith) (good m);
+  later = λ m. held_later-refl;
   from = λ message at. absurd at;
   says = λ message at. absurd at;
 }
@@ -64,43 +62,39 @@ moved-still sent masters hosts c host good = record {
 -- Storing
 
 -- what becomes of a replica is kept, if anything does
-moved-keeps : (sent : List Message) (masters : ServerId → Master) (hosts : ℕ → HostNode) (c : Coordinator)
-    (host : HostNode) (m : ServerId) (seg : ℕ) (found : Option Replica) →
+moved-keeps : {sent : List Message} {masters : ServerId → Master} {hosts : ℕ → HostNode} {c : Coordinator}
+    {host : HostNode} {m : ServerId} {seg : ℕ} (found : Option Replica) →
     host.backup.own ≡ server_of host → AllHeld sent masters host → (host.backup.held m).fenced ≡ false →
     ((after : Replica) → found ≡ Some after →
     Changed sent m (masters m).log host.index host.generation seg (replica_of seg (host.backup.held m).replicas)
     after) →
     BackupMoved sent masters hosts c host (keeps host.backup m seg found)
-moved-keeps sent masters hosts c host m seg None own good unfenced changed = moved-still sent masters hosts c host good
-moved-keeps sent masters hosts c host m seg (Some after) own good unfenced changed =
-    moved-kept sent masters hosts c host m seg after own good unfenced (changed after refl)
+moved-keeps None own good unfenced changed = moved-still good
+moved-keeps (Some after) own good unfenced changed = moved-kept own good unfenced (changed after refl)
 
-moved-stores : (sent : List Message) (masters : ServerId → Master) (hosts : ℕ → HostNode) (c : Coordinator)
-    (host : HostNode) (m : ServerId) (seg : ℕ) (body : Body) →
+moved-stores : {sent : List Message} {masters : ServerId → Master} {hosts : ℕ → HostNode} {c : Coordinator}
+    {host : HostNode} {m : ServerId} {seg : ℕ} (body : Body) →
     host.backup.own ≡ server_of host → AllHeld sent masters host →
     (is_freed seg (host.backup.held m) ≡ false → (after : Replica) →
     replica_after (replica_of seg (host.backup.held m).replicas) body ≡ Some after →
     Changed sent m (masters m).log host.index host.generation seg (replica_of seg (host.backup.held m).replicas) after) →
     BackupMoved sent masters hosts c host (stores host.backup m seg body)
-moved-stores sent masters hosts c host m seg body own good changed =
+moved-stores {sent} {masters} {hosts} {c} {host} {m} {seg} body own good changed =
     either (λ (after : Backup × List Message). BackupMoved sent masters hosts c host after)
     (is_refused seg (host.backup.held m)) (host.backup, [])
     (keeps host.backup m seg (replica_after (replica_of seg (host.backup.held m).replicas) body))
-    (λ _. moved-still sent masters hosts c host good)
-    (λ takes.
+    (λ _. moved-still good) (λ takes.
     let parts : ((host.backup.held m).fenced ≡ false) × (is_freed seg (host.backup.held m) ≡ false) =
     or_parts (host.backup.held m).fenced (is_freed seg (host.backup.held m)) takes in
-    moved-keeps sent masters hosts c host m seg (replica_after (replica_of seg (host.backup.held m).replicas) body) own
+    moved-keeps (replica_after (replica_of seg (host.backup.held m).replicas) body) own
     good parts.0 (changed parts.1))
 
 -- Freeing
 
 any-insert-old : (s n : ℕ) (ns : List ℕ) → list_any (nat_eq s) ns ≡ true → list_any (nat_eq s) (insert_once n ns) ≡ true
 any-insert-old s n [] e = absurd (true_false (sym e))
-any-insert-old s n (k ∷ ns) e =
-    either (λ (all : List ℕ). list_any (nat_eq s) all ≡ true) (nat_lt n k) (n ∷ k ∷ ns)
-    (cond (nat_eq n k) (k ∷ ns) (k ∷ insert_once n ns))
-    (λ _. or_right (nat_eq s n) (list_any (nat_eq s) (k ∷ ns)) e)
+any-insert-old s n (k ∷ ns) e = either (λ (all : List ℕ). list_any (nat_eq s) all ≡ true) (nat_lt n k) (n ∷ k ∷ ns)
+    (cond (nat_eq n k) (k ∷ ns) (k ∷ insert_once n ns)) (λ _. or_right (nat_eq s n) (list_any (nat_eq s) (k ∷ ns)) e)
     (λ _. either (λ (all : List ℕ). list_any (nat_eq s) all ≡ true) (nat_eq n k) (k ∷ ns) (k ∷ insert_once n ns)
     (λ _. e) (λ _. either_part (or_cases (nat_eq s k) (list_any (nat_eq s) ns) e) (any-insert-old s n ns)))
   where
@@ -114,16 +108,16 @@ any-insert-old s n (k ∷ ns) e =
 abbrev pub freed_held : ℕ → Held → Held
 freed_held seg held = record { fenced = false; replicas = without_replica seg held.replicas; freed = insert_once seg held.freed }
 
-freed-good : (sent : List Message) (masters : ServerId → Master) (m : ServerId) (index generation seg : ℕ)
-    (held : Held) → GoodHeld sent m (masters m).log index generation held →
+freed-good : {sent : List Message} (masters : ServerId → Master) {m : ServerId} {index generation : ℕ} (seg : ℕ)
+    {held : Held} → GoodHeld sent m (masters m).log index generation held →
     GoodHeld sent m (masters m).log index generation (freed_held seg held)
-freed-good sent masters m index generation seg held good = record {
+freed-good masters seg {held} good = record {
   ascending = Ascending-filter _ held.replicas good.ascending;
-  each = λ s replica at. good.each s replica (replica_of-filter _ s replica held.replicas good.ascending at);
+  each = λ s replica at. good.each s replica (replica_of-filter _ s held.replicas good.ascending at);
 }
 
-freed-later : (seg : ℕ) (held : Held) → held.fenced ≡ false → HeldLater held (freed_held seg held)
-freed-later seg held unfenced = record {
+freed-later : (seg : ℕ) {held : Held} → held.fenced ≡ false → HeldLater held (freed_held seg held)
+freed-later seg {held} unfenced = record {
   replicas = λ s replica at. by s replica at (cases_eq s seg);
   freed = λ s e. any-insert-old s seg held.freed e;
   fenced = λ e. true_false (sym e ∙ unfenced);
@@ -135,60 +129,54 @@ freed-later seg held unfenced = record {
     by s replica at (inl same) = inr (ap (λ t. list_any (nat_eq t) (insert_once seg held.freed)) same ∙ inserted seg held.freed)
     by s replica at (inr differs) = inl (record {
       replica = replica;
-      kept = replica_of-without s seg replica held.replicas differs at;
+      kept = replica_of-without held.replicas differs at;
       epoch = omega arith;
       enough = omega arith;
       closed_too = λ same. same;
     })
 
 -- what is held of one master changes, quietly
-moved-held : (sent messages : List Message) (masters : ServerId → Master) (hosts : ℕ → HostNode) (c : Coordinator)
-    (host : HostNode) (m : ServerId) (held : Held) → AllHeld sent masters host → Quiet messages →
+moved-held : {sent messages : List Message} {masters : ServerId → Master} {hosts : ℕ → HostNode} {c : Coordinator}
+    {host : HostNode} {m : ServerId} {held : Held} → AllHeld sent masters host → Quiet messages →
     GoodHeld sent m (masters m).log host.index host.generation held → HeldLater (host.backup.held m) held →
     ((message : Message) → In message messages → message.from ≡ Server (server_of host)) →
     ((message : Message) → In message messages →
-    backup_body_said (sent ++ messages) masters hosts c host (with_held m held host.backup) message.to message.body)
-    →
+    backup_body_said (sent ++ messages) masters hosts c host (with_held m held host.backup) message.to message.body) →
     BackupMoved sent masters hosts c host (with_held m held host.backup, messages)
-moved-held sent messages masters hosts c host m held good quiet new later from says = record {
+moved-held {sent} {messages} {masters} {host} {m} {held} good quiet new later from says = record {
   own = refl;
   held = λ n. either (λ (one : Held). GoodHeld (sent ++ messages) n (masters n).log host.index host.generation one)
       (same_id m n) held (host.backup.held n)
       (λ same. subst (λ (k : ServerId). GoodHeld (sent ++ messages) k (masters k).log host.index host.generation held)
-      (same_id-true m n same)
-      (held-quiet sent messages masters m host.index host.generation host.generation held quiet (omega arith) new))
-      (λ _. held-quiet sent messages masters n host.index host.generation host.generation (host.backup.held n) quiet
+      (same_id-true m n same) (held-quiet masters quiet (omega arith) new)) (λ _. held-quiet masters quiet
       (omega arith) (good n));
   later = λ n. either (λ (one : Held). HeldLater (host.backup.held n) one) (same_id m n) held (host.backup.held n)
       (λ same. subst (λ (k : ServerId). HeldLater (host.backup.held k) held) (same_id-true m n same) later)
-      (λ _. held_later-refl (host.backup.held n));
+      (λ _. held_later-refl);
   from = from;
   says = says;
 }
 
-moved-frees : (sent : List Message) (masters : ServerId → Master) (hosts : ℕ → HostNode) (c : Coordinator)
-    (host : HostNode) (m : ServerId) (seg : ℕ) → AllHeld sent masters host →
+moved-frees : {sent : List Message} {masters : ServerId → Master} {hosts : ℕ → HostNode} {c : Coordinator}
+    {host : HostNode} (m : ServerId) (seg : ℕ) → AllHeld sent masters host →
     BackupMoved sent masters hosts c host (frees host.backup m seg, [])
-moved-frees sent masters hosts c host m seg good =
+moved-frees {sent} {masters} {hosts} {c} {host} m seg good =
     either (λ (after : Backup). BackupMoved sent masters hosts c host (after, [])) (host.backup.held m).fenced
-    host.backup (with_held m (freed_held seg (host.backup.held m)) host.backup)
-    (λ _. moved-still sent masters hosts c host good)
-    (λ unfenced. moved-held sent [] masters hosts c host m (freed_held seg (host.backup.held m)) good quiet-none
-    (freed-good sent masters m host.index host.generation seg (host.backup.held m) (good m)) (freed-later seg (host.backup.held m) unfenced)
+    host.backup (with_held m (freed_held seg (host.backup.held m)) host.backup) (λ _. moved-still good)
+    (λ unfenced. moved-held good quiet-none (freed-good masters seg (good m)) (freed-later seg unfenced)
     (λ message at. absurd at) (λ message at. absurd at))
 
 -- Answering
 
 -- the messages of a fetch
-moved-fetch : (sent : List Message) (masters : ServerId → Master) (hosts : ℕ → HostNode) (c : Coordinator)
-    (host : HostNode) (asker m : ServerId) (attempt seg len : ℕ) (part : Part) →
+moved-fetch : {sent : List Message} {masters : ServerId → Master} {hosts : ℕ → HostNode} {c : Coordinator}
+    {host : HostNode} (asker m : ServerId) (attempt seg len : ℕ) (part : Part) →
     host.backup.own ≡ server_of host → AllHeld sent masters host →
     BackupMoved sent masters hosts c host (
       host.backup,
-      answers_fetch host.backup asker m
-          (data_of attempt seg len part (replica_of seg (host.backup.held m).replicas)),
+      answers_fetch host.backup asker m (data_of attempt seg len part (replica_of seg (host.backup.held m).replicas)),
     )
-moved-fetch sent masters hosts c host asker m attempt seg len part own good = by (replica_of seg (host.backup.held m).replicas)
+moved-fetch {sent} {masters} {hosts} {c} {host} asker m attempt seg len part own good = by (replica_of seg (host.backup.held m).replicas)
   where
     quiet : (entries : List Entry) → Quiet (between host.backup.own asker (Data attempt seg part.term entries) ∷ [])
     quiet entries = record {
@@ -203,21 +191,18 @@ moved-fetch sent masters hosts c host asker m attempt seg len part own good = by
             part.term entries = ap (λ (one : Message). one.body) same in cc
         placed n x s e digest es closed (inr never) = never
 
-        tells : (x n : ServerId) (s e k : ℕ) (closed : Bool) →
-            In (between x n (Stored s e k closed))
+        tells : (x n : ServerId) (s e k : ℕ) (closed : Bool) → In (between x n (Stored s e k closed))
             (between host.backup.own asker (Data attempt seg part.term entries) ∷ []) → ⊥
         tells x n s e k closed (inl same) = let bodies : Stored s e k closed ≡ Data attempt seg part.term entries =
             ap (λ (one : Message). one.body) same in cc
         tells x n s e k closed (inr never) = never
 
-    answered : (entries : List Entry) →
-        BackupMoved sent masters hosts c host
+    answered : (entries : List Entry) → BackupMoved sent masters hosts c host
         (host.backup, between host.backup.own asker (Data attempt seg part.term entries) ∷ [])
     answered entries = record {
       own = refl;
-      held = λ n. held-quiet sent (between host.backup.own asker (Data attempt seg part.term entries) ∷ []) masters n
-          host.index host.generation host.generation (host.backup.held n) (quiet entries) (omega arith) (good n);
-      later = λ n. held_later-refl (host.backup.held n);
+      held = λ n. held-quiet masters (quiet entries) (omega arith) (good n);
+      later = λ n. held_later-refl;
       from = λ message at. from message at;
       says = λ message at. says message at;
     }
@@ -231,35 +216,30 @@ moved-fetch sent masters hosts c host asker m attempt seg len part own good = by
         says : (message : Message) → In message (between host.backup.own asker (Data attempt seg part.term entries) ∷ []) →
             backup_body_said (sent ++ between host.backup.own asker (Data attempt seg part.term entries) ∷ []) masters
             hosts c host host.backup message.to message.body
-        says message (inl same) =
-            subst (λ (one : Message).
+        says message (inl same) = subst (λ (one : Message).
             backup_body_said (sent ++ between host.backup.own asker (Data attempt seg part.term entries) ∷ []) masters
             hosts c host host.backup one.to one.body) (sym same) tt
         says message (inr never) = absurd never
 
-    by : (found : Option Replica) →
-        BackupMoved sent masters hosts c host
+    by : (found : Option Replica) → BackupMoved sent masters hosts c host
         (host.backup, answers_fetch host.backup asker m (data_of attempt seg len part found))
-    by None = moved-still sent masters hosts c host good
-    by (Some replica) =
-        either (λ (bodies : List Body). BackupMoved sent masters hosts c host
+    by None = moved-still good
+    by (Some replica) = either (λ (bodies : List Body). BackupMoved sent masters hosts c host
         (host.backup, answers_fetch host.backup asker m bodies)) (nat_le len (length replica.entries))
         (Data attempt seg part.term (filter (is_in_part part) (take len replica.entries)) ∷ []) []
         (λ _. either (λ (messages : List Message). BackupMoved sent masters hosts c host (host.backup, messages))
         (host.backup.held m).fenced
         (between host.backup.own asker (Data attempt seg part.term (filter (is_in_part part) (take len replica.entries))) ∷ []) []
-        (λ _. answered (filter (is_in_part part) (take len replica.entries))) (λ _. moved-still sent masters hosts c host good))
-        (λ _. moved-still sent masters hosts c host good)
+        (λ _. answered (filter (is_in_part part) (take len replica.entries))) (λ _. moved-still good))
+        (λ _. moved-still good)
 
 -- a Gather fences, and is answered by the rows of good replicas
-moved-fences : (sent : List Message) (masters : ServerId → Master) (hosts : ℕ → HostNode) (c : Coordinator)
-    (host : HostNode) (attempt : ℕ) (m : ServerId) →
+moved-fences : {sent : List Message} {masters : ServerId → Master} {hosts : ℕ → HostNode} {c : Coordinator}
+    {host : HostNode} {attempt : ℕ} {m : ServerId} →
     host.backup.own ≡ server_of host → AllHeld sent masters host → IsOf c.attempts attempt m →
     hosts host.index ≡ record host { backup = (fences host.backup attempt m).0 } →
     BackupMoved sent masters hosts c host (fences host.backup attempt m)
-moved-fences sent masters hosts c host attempt m own good of_attempt placed =
-    moved-held sent (to_coordinator host.backup.own (Replicas attempt (rows_of_replicas (host.backup.held m).replicas))
-    ∷ []) masters hosts c host m (record (host.backup.held m) { fenced = true }) good quiet
+moved-fences {sent} {masters} {hosts} {c} {host} {attempt} {m} own good of_attempt placed = moved-held good quiet
     (record { ascending = (good m).ascending; each = (good m).each }) fenced_later from says
   where
     answer : Body
@@ -273,8 +253,7 @@ moved-fences sent masters hosts c host attempt m own good of_attempt placed =
             kept = at;
             epoch = omega arith;
             enough = omega arith;
-            closed_too = λ same.
-                same;
+            closed_too = λ same. same;
           });
       freed = λ s same. same;
       fenced = λ _. refl;
@@ -294,8 +273,7 @@ moved-fences sent masters hosts c host attempt m own good of_attempt placed =
             (rows_of_replicas (host.backup.held m).replicas) = ap (λ (one : Message). one.body) same in cc
         placed_not n x s e digest es closed (inr never) = never
 
-        tells : (x n : ServerId) (s e k : ℕ) (closed : Bool) →
-            In (between x n (Stored s e k closed))
+        tells : (x n : ServerId) (s e k : ℕ) (closed : Bool) → In (between x n (Stored s e k closed))
             (to_coordinator host.backup.own (Replicas attempt (rows_of_replicas (host.backup.held m).replicas)) ∷ []) →
             ⊥
         tells x n s e k closed (inl same) = let bodies : Stored s e k closed ≡ Replicas attempt
@@ -320,9 +298,7 @@ moved-fences sent masters hosts c host attempt m own good of_attempt placed =
         let held : GoodHeld (sent ++ to_coordinator host.backup.own
         (Replicas attempt (rows_of_replicas (host.backup.held m).replicas)) ∷ []) m (masters m).log host.index
         host.generation (host.backup.held m) =
-        held-quiet sent (to_coordinator host.backup.own
-        (Replicas attempt (rows_of_replicas (host.backup.held m).replicas)) ∷ []) masters m host.index
-        host.generation host.generation (host.backup.held m) quiet (omega arith) (good m) in
+        held-quiet masters quiet (omega arith) (good m) in
         let copy : GoodReplica (sent ++ to_coordinator host.backup.own
         (Replicas attempt (rows_of_replicas (host.backup.held m).replicas)) ∷ []) m (masters m).log host.index
         host.generation row.seg found.0 = held.each row.seg found.0 found.1 in
@@ -335,9 +311,7 @@ moved-fences sent masters hosts c host attempt m own good of_attempt placed =
             IsCopy (sent ++ to_coordinator host.backup.own
             (Replicas attempt (rows_of_replicas (host.backup.held m).replicas)) ∷ []) m (masters m).log host.index
             host.generation row.seg row.epoch row.closed row.len row.digest
-        as-row row replica is copy =
-            subst (λ (r : Row). IsCopy
-            (sent ++ to_coordinator host.backup.own
+        as-row row replica is copy = subst (λ (r : Row). IsCopy (sent ++ to_coordinator host.backup.own
             (Replicas attempt (rows_of_replicas (host.backup.held m).replicas)) ∷ []) m (masters m).log host.index
             host.generation row.seg r.epoch r.closed r.len r.digest) (sym is) copy
 
@@ -359,21 +333,18 @@ moved-fences sent masters hosts c host attempt m own good of_attempt placed =
         backup_body_said (sent ++ to_coordinator host.backup.own
         (Replicas attempt (rows_of_replicas (host.backup.held m).replicas)) ∷ []) masters hosts c host
         (with_held m (record (host.backup.held m) { fenced = true }) host.backup) message.to message.body
-    says message (inl same) =
-        subst (λ (one : Message).
-        backup_body_said (sent ++ to_coordinator host.backup.own
+    says message (inl same) = subst (λ (one : Message). backup_body_said (sent ++ to_coordinator host.backup.own
         (Replicas attempt (rows_of_replicas (host.backup.held m).replicas)) ∷ []) masters hosts c host
         (with_held m (record (host.backup.held m) { fenced = true }) host.backup) one.to one.body) (sym same) is_answer
     says message (inr never) = absurd never
 
 -- A world's facts, as they are needed here
 
-pub own-fine : (sent : List Message) (masters : ServerId → Master) (hosts : ℕ → HostNode) (c : Coordinator) →
-    Good sent masters hosts c → (m : ServerId) → OwnFine sent m (masters m).log
-own-fine sent masters hosts c good m = record {
+pub own-fine : {sent : List Message} {masters : ServerId → Master} {hosts : ℕ → HostNode} {c : Coordinator} →
+    Good sent masters hosts c → {m : ServerId} → OwnFine sent m (masters m).log
+own-fine {sent} {masters} {hosts} good {m} = record {
   places = λ x s e digest entries closed at. good.messages (between m x (Place s e digest entries closed)) at;
-  told = λ x s e len closed at.
-      (let stored : IsStored sent hosts m (masters m).log x s e len closed = good.messages
+  told = λ x s e len closed at. (let stored : IsStored sent hosts m (masters m).log x s e len closed = good.messages
       (between x m (Stored s e len closed)) at in stored.told);
 }
 
@@ -394,17 +365,17 @@ all-stood sent masters hosts c good i m s unfreed e len closed at = by (stored.s
     by (inr freed) = true_false (sym freed ∙ unfreed)
 
 -- the same as the host says its own index
-at-own-index : (sent : List Message) (masters : ServerId → Master) (i : ℕ) (host : HostNode) →
+at-own-index : {sent : List Message} {masters : ServerId → Master} {i : ℕ} {host : HostNode} →
     GoodHost sent masters i host → AllHeld sent masters host
-at-own-index sent masters i host good m =
+at-own-index {sent} {masters} {host} good m =
     subst (λ n. GoodHeld sent m (masters m).log n host.generation (host.backup.held m)) (sym good.index) (good.held m)
 
 -- The step
 
 -- the server of a host, by the index that the host stands at
-pub server-is : (sent : List Message) (masters : ServerId → Master) (i : ℕ) (host : HostNode) →
+pub server-is : {sent : List Message} {masters : ServerId → Master} {i : ℕ} {host : HostNode} →
     GoodHost sent masters i host → server_of host ≡ record { index = i; generation = host.generation }
-server-is sent masters i host good = ap (λ n. record { index = n; generation = host.generation }) good.index
+server-is {host} good = ap (λ n. record { index = n; generation = host.generation }) good.index
 
 -- by what was sent to this server
 
@@ -414,8 +385,7 @@ moved-place : (sent : List Message) (masters : ServerId → Master) (hosts hosts
     In (between m (server_of (hosts i)) (Place seg epoch digest entries closed)) sent →
     BackupMoved sent masters hosts_now c (hosts i) (stores (hosts i).backup m seg (Place seg epoch digest entries closed))
 moved-place sent masters hosts hosts_now c i m seg epoch digest entries closed good at =
-    moved-stores sent masters hosts_now c (hosts i) m seg (Place seg epoch digest entries closed) host.own
-    (at-own-index sent masters i (hosts i) host)
+    moved-stores (Place seg epoch digest entries closed) host.own (at-own-index host)
     (λ unfreed after is. subst (λ (z : ServerId). Changed sent m (masters m).log z.index (hosts i).generation seg
     (replica_of seg ((hosts i).backup.held m).replicas) after) (sym same) (changed unfreed after is))
   where
@@ -426,7 +396,7 @@ moved-place sent masters hosts hosts_now c i m seg epoch digest entries closed g
     z = record { index = i; generation = (hosts i).generation }
 
     same : server_of (hosts i) ≡ record { index = i; generation = (hosts i).generation }
-    same = server-is sent masters i (hosts i) (good.hosts_are i)
+    same = server-is (good.hosts_are i)
 
     there : In (between m (record { index = i; generation = (hosts i).generation }) (Place seg epoch digest entries closed)) sent
     there = subst (λ (x : ServerId). In (between m x (Place seg epoch digest entries closed)) sent) same at
@@ -435,24 +405,21 @@ moved-place sent masters hosts hosts_now c i m seg epoch digest entries closed g
         replica_after (replica_of seg ((hosts i).backup.held m).replicas) (Place seg epoch digest entries closed) ≡ Some
         after →
         Changed sent m (masters m).log i (hosts i).generation seg (replica_of seg ((hosts i).backup.held m).replicas) after
-    changed unfreed after is =
-        changed-place sent m (masters m) (record { index = i; generation = (hosts i).generation }) seg epoch digest
-        entries closed (replica_of seg ((hosts i).backup.held m).replicas) after
+    changed unfreed after is = changed-place (replica_of seg ((hosts i).backup.held m).replicas)
         (record {
           good = good.masters_are m;
-          fine = own-fine sent masters hosts c good m;
+          fine = own-fine good;
           at = there;
           place = good.messages (between m (record { index = i; generation = (hosts i).generation })
               (Place seg epoch digest entries closed)) there;
-        })
-        (all-stood sent masters hosts c good i m seg unfreed) (λ old e. (host.held m).each seg old e) is
+        }) (all-stood sent masters hosts c good i m seg unfreed) (λ old e. (host.held m).each seg old e) is
 
 moved-append : (sent : List Message) (masters : ServerId → Master) (hosts hosts_now : ℕ → HostNode) (c : Coordinator)
     (i : ℕ) (m : ServerId) (seg offset : ℕ) (entries : List Entry) → Good sent masters hosts c →
     In (between m (server_of (hosts i)) (Append seg offset entries)) sent →
     BackupMoved sent masters hosts_now c (hosts i) (stores (hosts i).backup m seg (Append seg offset entries))
 moved-append sent masters hosts hosts_now c i m seg offset entries good at =
-    moved-stores sent masters hosts_now c (hosts i) m seg (Append seg offset entries) host.own (at-own-index sent masters i (hosts i) host)
+    moved-stores (Append seg offset entries) host.own (at-own-index host)
     (λ unfreed after is. subst (λ (z : ServerId). Changed sent m (masters m).log z.index (hosts i).generation seg
     (replica_of seg ((hosts i).backup.held m).replicas) after) (sym same) (changed after is))
   where
@@ -460,7 +427,7 @@ moved-append sent masters hosts hosts_now c i m seg offset entries good at =
     host = good.hosts_are i
 
     same : server_of (hosts i) ≡ record { index = i; generation = (hosts i).generation }
-    same = server-is sent masters i (hosts i) (good.hosts_are i)
+    same = server-is (good.hosts_are i)
 
     there : In (between m (record { index = i; generation = (hosts i).generation }) (Append seg offset entries)) sent
     there = subst (λ (x : ServerId). In (between m x (Append seg offset entries)) sent) same at
@@ -479,7 +446,7 @@ moved-close : (sent : List Message) (masters : ServerId → Master) (hosts hosts
     In (between m (server_of (hosts i)) (Close seg len)) sent →
     BackupMoved sent masters hosts_now c (hosts i) (stores (hosts i).backup m seg (Close seg len))
 moved-close sent masters hosts hosts_now c i m seg len good at =
-    moved-stores sent masters hosts_now c (hosts i) m seg (Close seg len) host.own (at-own-index sent masters i (hosts i) host)
+    moved-stores (Close seg len) host.own (at-own-index host)
     (λ unfreed after is. subst (λ (z : ServerId). Changed sent m (masters m).log z.index (hosts i).generation seg
     (replica_of seg ((hosts i).backup.held m).replicas) after) (sym same) (changed after is))
   where
@@ -487,13 +454,12 @@ moved-close sent masters hosts hosts_now c i m seg len good at =
     host = good.hosts_are i
 
     same : server_of (hosts i) ≡ record { index = i; generation = (hosts i).generation }
-    same = server-is sent masters i (hosts i) (good.hosts_are i)
+    same = server-is (good.hosts_are i)
 
     changed : (after : Replica) → replica_after (replica_of seg ((hosts i).backup.held m).replicas) (Close seg len) ≡ Some after →
         Changed sent m (masters m).log i (hosts i).generation seg (replica_of seg ((hosts i).backup.held m).replicas) after
-    changed after is =
-        changed-close sent m (masters m) (record { index = i; generation = (hosts i).generation }) seg len
-        (replica_of seg ((hosts i).backup.held m).replicas) after
+    changed after is = changed-close (masters m) (record { index = i; generation = (hosts i).generation })
+        (replica_of seg ((hosts i).backup.held m).replicas)
         (good.messages (between m (server_of (hosts i)) (Close seg len)) at) (λ old e. (host.held m).each seg old e) is
 
 -- every step on a message that was sent to the host's server
@@ -509,27 +475,24 @@ moved-backup sent masters hosts hosts_now c i (Server m) (Append seg offset entr
 moved-backup sent masters hosts hosts_now c i (Server m) (Close seg len) good at placed =
     moved-close sent masters hosts hosts_now c i m seg len good at
 moved-backup sent masters hosts hosts_now c i (Server m) (Free seg) good at placed =
-    moved-frees sent masters hosts_now c (hosts i) m seg (at-own-index sent masters i (hosts i) (good.hosts_are i))
+    moved-frees m seg (at-own-index (good.hosts_are i))
 moved-backup sent masters hosts hosts_now c i (Server asker) (Fetch attempt m seg len part) good at placed =
-    moved-fetch sent masters hosts_now c (hosts i) asker m attempt seg len part (good.hosts_are i).own
-    (at-own-index sent masters i (hosts i) (good.hosts_are i))
+    moved-fetch asker m attempt seg len part (good.hosts_are i).own (at-own-index (good.hosts_are i))
 moved-backup sent masters hosts hosts_now c i from (Gather attempt m) good at placed =
-    moved-fences sent masters hosts_now c (hosts i) attempt m (good.hosts_are i).own
-    (at-own-index sent masters i (hosts i) (good.hosts_are i))
+    moved-fences (good.hosts_are i).own (at-own-index (good.hosts_are i))
     (good.messages (record { from = from; to = Server (server_of (hosts i)); body = Gather attempt m }) at) placed
-moved-backup sent masters hosts hosts_now c i from _ good at placed =
-    moved-still sent masters hosts_now c (hosts i) (at-own-index sent masters i (hosts i) (good.hosts_are i))
+moved-backup sent masters hosts hosts_now c i from _ good at placed = moved-still (at-own-index (good.hosts_are i))
 
 -- A restart
 
 -- what a restarted backup keeps is a part of what it had
-pub moved-restart : (sent messages : List Message) (masters : ServerId → Master) (m : ServerId)
-    (index generation generation_now : ℕ) (kept : List (ServerId × ℕ)) (held : Held) → Quiet messages →
+pub moved-restart : {sent messages : List Message} (masters : ServerId → Master) {m : ServerId}
+    {index generation generation_now : ℕ} (kept : List (ServerId × ℕ)) {held : Held} → Quiet messages →
     generation ≤ generation_now →
     GoodHeld sent m (masters m).log index generation held →
     GoodHeld (sent ++ messages) m (masters m).log index generation_now (restarted kept m held)
-moved-restart sent messages masters m index generation generation_now kept held quiet up good =
-    held-quiet sent messages masters m index generation generation_now (restarted kept m held) quiet up (record {
+moved-restart masters kept {held} quiet up good =
+    held-quiet masters quiet up (record {
       ascending = Ascending-filter _ held.replicas good.ascending;
-      each = λ s replica at. good.each s replica (replica_of-filter _ s replica held.replicas good.ascending at);
+      each = λ s replica at. good.each s replica (replica_of-filter _ s held.replicas good.ascending at);
     })

@@ -22,43 +22,42 @@ pub record PlaceHeard (sent : List Message) (m : ServerId) (master : Master) (z 
   pub place : IsPlace sent m master.log z s e digest entries closed
 
 -- a closed Place is whole, of a segment below the head
-whole-place : (sent : List Message) (m : ServerId) (master : Master) (z : ServerId) (s e : ℕ) (digest : List ℕ)
-    (entries : List Entry) (closed : Bool) →
+whole-place : {sent : List Message} {m : ServerId} {master : Master} {z : ServerId} {s e : ℕ} {digest : List ℕ}
+    {entries : List Entry} {closed : Bool} →
     PlaceHeard sent m master z s e digest entries closed → closed ≡ true →
     (s < master.log.head) × (length entries ≡ length (log_in master.log s))
-whole-place sent m master z s e digest entries closed h shut_so =
-    ((h.good.shut_below s (h.place.whole shut_so).0).1, ap length (h.place.whole shut_so).1)
+whole-place {s} h shut_so = ((h.good.shut_below s (h.place.whole shut_so).0).1, ap length (h.place.whole shut_so).1)
 
 -- the entries of the Place itself were made
-place-entries-made : (sent : List Message) (m : ServerId) (master : Master) (z : ServerId) (s e : ℕ) (digest : List ℕ)
-    (entries : List Entry) (closed : Bool) →
+place-entries-made : {sent : List Message} {m : ServerId} {master : Master} {z : ServerId} {s e : ℕ} {digest : List ℕ}
+    {entries : List Entry} {closed : Bool} →
     PlaceHeard sent m master z s e digest entries closed → (k : ℕ) (x : Entry) → slice_get entries k ≡ Some x → HasMade sent m s k x
-place-entries-made sent m master z s e digest entries closed h k x there =
+place-entries-made {sent} {m} {z} {s} {e} {digest} {entries} {closed} h k x there =
     let n : 0 + k ≡ k = omega arith in
     subst (λ place. HasMade sent m s place x) n (place-made sent m z s e digest entries closed h.at k x there)
 
 -- the entries of a good replica were made
-replica-made : (sent : List Message) (m : ServerId) (master : Master) (index generation s : ℕ) (old : Replica) →
+replica-made : {sent : List Message} {m : ServerId} (master : Master) {index generation s : ℕ} {old : Replica} →
     GoodReplica sent m master.log index generation s old →
     (k : ℕ) (x : Entry) → slice_get old.entries k ≡ Some x → HasMade sent m s k x
-replica-made sent m master index generation s old good k x there =
+replica-made {sent} {m} master {s} {old} good k x there =
     let found : (entry : Entry) × (slice_get (log_in master.log s) k ≡ Some entry) × HasMade sent m s k entry =
-    good.copy.made k (get-within old.entries k x there) in
-    let in_log : slice_get (log_in master.log s) k ≡ Some x = get-begins old.entries (log_in master.log s) good.begins k x there in
+    good.copy.made k (get-within old.entries k there) in
+    let in_log : slice_get (log_in master.log s) k ≡ Some x = get-begins old.entries good.begins k there in
     let first : slice_get (log_in master.log s) k ≡ Some found.0 = found.1 in
     let same : found.0 ≡ x = cc in
     subst (HasMade sent m s k) same found.2
 
 -- no replica was there
-placed-new : (sent : List Message) (m : ServerId) (master : Master) (z : ServerId) (s e : ℕ) (digest : List ℕ)
-    (entries : List Entry) (closed : Bool) →
+placed-new : {sent : List Message} {m : ServerId} {master : Master} {z : ServerId} {s e : ℕ} {digest : List ℕ}
+    {entries : List Entry} {closed : Bool} →
     PlaceHeard sent m master z s e digest entries closed → AllStood sent z m s None →
     Changed sent m master.log z.index z.generation s None (record { epoch = e; closed = closed; digest = digest; entries = entries })
-placed-new sent m master z s e digest entries closed h stood = record {
+placed-new {sent} {m} {master} {z} {s} {e} {digest} {entries} {closed} h stood = record {
   good = record {
     begins = h.place.begins;
     copy = placed-copy sent m master z s e digest entries closed closed entries digest h.at h.place h.place.begins
-        (place-entries-made sent m master z s e digest entries closed h) (whole-place sent m master z s e digest entries closed h)
+        (place-entries-made h) (whole-place h)
         (λ open_so. (open_so, omega arith)) h.place.digest_is (split closed if_closed if_open);
   };
   epoch = λ old never. absurd (none_some old never);
@@ -70,9 +69,8 @@ placed-new sent m master z s e digest entries closed h stood = record {
     none_some old never = cc
 
     if_closed : closed ≡ true → AboveTold sent m z.index s e closed (length entries)
-    if_closed shut_so = subst (λ b. AboveTold sent m z.index s e b (length entries)) (sym shut_so)
-        (above-whole sent m master.log z.index s e (length entries) h.fine
-        (whole-place sent m master z s e digest entries closed h shut_so).1)
+    if_closed shut_so = subst (λ b. AboveTold sent m z.index s e b (length entries)) (sym shut_so) (above-whole h.fine
+        (whole-place h shut_so).1)
 
     if_open : closed ≡ false → AboveTold sent m z.index s e closed (length entries)
     if_open open_so = above-proper sent m master z s e digest entries None (length entries) closed h.good
@@ -80,13 +78,13 @@ placed-new sent m master z s e digest entries closed h stood = record {
         (λ old never. absurd (none_some old never)) (λ old never. absurd (none_some old never))
 
 -- a closed one takes the epoch
-placed-closed : (sent : List Message) (m : ServerId) (master : Master) (z : ServerId) (s e : ℕ) (digest : List ℕ)
-    (entries : List Entry) (closed : Bool) (old : Replica) →
+placed-closed : {sent : List Message} {m : ServerId} {master : Master} {z : ServerId} {s e : ℕ} {digest : List ℕ}
+    {entries : List Entry} {closed : Bool} {old : Replica} →
     PlaceHeard sent m master z s e digest entries closed → GoodReplica sent m master.log z.index z.generation s old →
     old.epoch ≤ e → old.closed ≡ true →
     Changed sent m master.log z.index z.generation s (Some old) (record old { epoch = e })
-placed-closed sent m master z s e digest entries closed old h good up shut_so =
-    changed-some sent m master.log z.index z.generation s old (record old { epoch = e }) (record {
+placed-closed {sent} {m} {z} {s} {e} {digest} {entries} {closed} {old} h good up shut_so =
+    changed-some (record {
       begins = good.begins;
       copy = record {
         opened = good.copy.opened;
@@ -102,16 +100,16 @@ placed-closed sent m master z s e digest entries closed old h good up shut_so =
     }) up (omega arith) (λ same. same)
   where
     told : AboveTold sent m z.index s e true (length old.entries)
-    told = above-whole sent m master.log z.index s e (length old.entries) h.fine (good.copy.whole shut_so).1
+    told = above-whole h.fine (good.copy.whole shut_so).1
 
 -- an open one grows, and closes where the Place is closed
-placed-more : (sent : List Message) (m : ServerId) (master : Master) (z : ServerId) (s e : ℕ) (digest : List ℕ)
-    (entries : List Entry) (closed : Bool) (old : Replica) →
+placed-more : {sent : List Message} {m : ServerId} {master : Master} {z : ServerId} {s e : ℕ} {digest : List ℕ}
+    {entries : List Entry} {closed : Bool} {old : Replica} →
     PlaceHeard sent m master z s e digest entries closed → AllStood sent z m s (Some old) →
     GoodReplica sent m master.log z.index z.generation s old → old.epoch ≤ e → old.closed ≡ false →
     Changed sent m master.log z.index z.generation s (Some old) (placed_open old e entries closed)
-placed-more sent m master z s e digest entries closed old h stood good up open_so =
-    changed-some sent m master.log z.index z.generation s old (placed_open old e entries closed) (record {
+placed-more {sent} {m} {master} {z} {s} {e} {digest} {entries} {closed} {old} h stood good up open_so =
+    changed-some (record {
       begins = begins;
       copy = placed-copy sent m master z s e digest entries closed mark all old.digest h.at h.place begins made whole
           unclosed good.copy.digest_is (split closed if_closed if_open);
@@ -125,15 +123,14 @@ placed-more sent m master z s e digest entries closed old h stood good up open_s
 
     stands : Stands entries 0 (log_in master.log s)
     stands k x there = let n : 0 + k ≡ k = omega arith in subst (λ j. slice_get (log_in master.log s) j ≡ Some x)
-        (sym n) (get-begins entries (log_in master.log s) h.place.begins k x there)
+        (sym n) (get-begins entries h.place.begins k there)
 
     begins : Begins (grown old.entries 0 entries) (log_in master.log s)
     begins = begins-places (grown old.entries 0 entries) (log_in master.log s)
         (grown-places (log_in master.log s) old.entries 0 entries (omega arith) good.begins stands)
 
     made : (k : ℕ) (x : Entry) → slice_get (grown old.entries 0 entries) k ≡ Some x → HasMade sent m s k x
-    made = grown-made sent m s old.entries 0 entries (omega arith)
-        (replica-made sent m master z.index z.generation s old good)
+    made = grown-made sent m s old.entries 0 entries (omega arith) (replica-made master good)
         (place-made sent m z s e digest entries closed h.at)
 
     longer : length old.entries ≤ length (grown old.entries 0 entries)
@@ -147,7 +144,7 @@ placed-more sent m master z s e digest entries closed old h stood good up open_s
     whole-length shut_so =
         let of_log : length (grown old.entries 0 entries) ≤ length (log_in master.log s) =
         begins-length (grown old.entries 0 entries) (log_in master.log s) begins in
-        let is : length entries ≡ length (log_in master.log s) = (whole-place sent m master z s e digest entries closed h shut_so).1 in
+        let is : length entries ≡ length (log_in master.log s) = (whole-place h shut_so).1 in
         let long : length entries ≤ length (grown old.entries 0 entries) = as_long in
         omega arith
 
@@ -160,7 +157,7 @@ placed-more sent m master z s e digest entries closed old h stood good up open_s
     whole marked =
         let shut_so : closed ≡ true = (and_parts closed (nat_eq (length (grown old.entries 0 entries)) (length entries)) marked).0 in
         let is : (s < master.log.head) × (length entries ≡ length (log_in master.log s)) =
-        whole-place sent m master z s e digest entries closed h shut_so in
+        whole-place h shut_so in
         (is.0, whole-length shut_so ∙ is.1)
 
     unclosed : (closed && nat_eq (length (grown old.entries 0 entries)) (length entries)) ≡ false →
@@ -175,7 +172,7 @@ placed-more sent m master z s e digest entries closed old h stood good up open_s
         AboveTold sent m z.index s e (closed && nat_eq (length (grown old.entries 0 entries)) (length entries))
         (length (grown old.entries 0 entries))
     if_closed shut_so = subst (λ b. AboveTold sent m z.index s e b (length (grown old.entries 0 entries))) (sym (mark-true shut_so))
-        (above-whole sent m master.log z.index s e (length (grown old.entries 0 entries)) h.fine (whole (mark-true shut_so)).1)
+        (above-whole h.fine (whole (mark-true shut_so)).1)
 
     if_open : closed ≡ false →
         AboveTold sent m z.index s e (closed && nat_eq (length (grown old.entries 0 entries)) (length entries))
@@ -183,29 +180,26 @@ placed-more sent m master z s e digest entries closed old h stood good up open_s
     if_open is = above-proper sent m master z s e digest entries (Some old) (length (grown old.entries 0 entries))
         (closed && nat_eq (length (grown old.entries 0 entries)) (length entries)) h.good
         (subst (λ b. In (between m z (Place s e digest entries b)) sent) is h.at) stood
-        (λ other same. subst (λ (r : Replica). length r.entries ≤ length (grown old.entries 0 entries)) (some-same old other same) longer)
-        (λ other same shut_so. true_false (sym shut_so ∙ (ap (λ (r : Replica). r.closed) (sym (some-same old other same)) ∙ open_so)))
+        (λ other same. subst (λ (r : Replica). length r.entries ≤ length (grown old.entries 0 entries)) (some-same same) longer)
+        (λ other same shut_so. true_false (sym shut_so ∙ (ap (λ (r : Replica). r.closed) (sym (some-same same)) ∙ open_so)))
 
 -- all that a Place can make of a replica
-pub changed-place : (sent : List Message) (m : ServerId) (master : Master) (z : ServerId) (s e : ℕ) (digest : List ℕ)
-    (entries : List Entry) (closed : Bool) (before : Option Replica) (after : Replica) →
+pub changed-place : {sent : List Message} {m : ServerId} {master : Master} {z : ServerId} {s e : ℕ} {digest : List ℕ}
+    {entries : List Entry} {closed : Bool} (before : Option Replica) {after : Replica} →
     PlaceHeard sent m master z s e digest entries closed → AllStood sent z m s before →
     ((old : Replica) → before ≡ Some old → GoodReplica sent m master.log z.index z.generation s old) →
     replica_after before (Place s e digest entries closed) ≡ Some after → Changed sent m master.log z.index z.generation s before after
-changed-place sent m master z s e digest entries closed None after h stood good is =
-    subst (λ (r : Replica). Changed sent m master.log z.index z.generation s None r)
-    (some-same (record { epoch = e; closed = closed; digest = digest; entries = entries }) after is)
-    (placed-new sent m master z s e digest entries closed h stood)
-changed-place sent m master z s e digest entries closed (Some old) after h stood good is =
-    subst (λ (r : Replica). Changed sent m master.log z.index z.generation s (Some old) r)
-    (some-same (placed old e entries closed) after is)
+changed-place {sent} {m} {master} {z} {s} None h stood good is =
+    subst (λ (r : Replica). Changed sent m master.log z.index z.generation s None r) (some-same is)
+    (placed-new h stood)
+changed-place {sent} {m} {master} {z} {s} {e} {entries} {closed} (Some old) h stood good is =
+    subst (λ (r : Replica). Changed sent m master.log z.index z.generation s (Some old) r) (some-same is)
     (either (λ (r : Replica). Changed sent m master.log z.index z.generation s (Some old) r) (nat_lt e old.epoch) old
-    (cond old.closed (record old { epoch = e }) (placed_open old e entries closed))
-    (λ _. changed-none sent m master.log z.index z.generation s old (good old refl))
+    (cond old.closed (record old { epoch = e }) (placed_open old e entries closed)) (λ _. changed-none (good old refl))
     (λ low. either (λ (r : Replica). Changed sent m master.log z.index z.generation s (Some old) r) old.closed
     (record old { epoch = e }) (placed_open old e entries closed)
-    (λ shut_so. placed-closed sent m master z s e digest entries closed old h (good old refl) (ltb-false e old.epoch low) shut_so)
-    (λ open_so. placed-more sent m master z s e digest entries closed old h stood (good old refl) (ltb-false e old.epoch low) open_so)))
+    (λ shut_so. placed-closed h (good old refl) (ltb-false e old.epoch low) shut_so)
+    (λ open_so. placed-more h stood (good old refl) (ltb-false e old.epoch low) open_so)))
 
 -- Appends
 
@@ -217,7 +211,7 @@ appended-more : (sent : List Message) (m : ServerId) (master : Master) (z : Serv
     Changed sent m master.log z.index z.generation s (Some old)
     (record old { entries = grown old.entries offset entries })
 appended-more sent m master z s offset entries old at append good no_gap open_so =
-    changed-some sent m master.log z.index z.generation s old (record old { entries = grown old.entries offset entries }) (record {
+    changed-some (record {
       begins = begins;
       copy = record {
         opened = good.copy.opened;
@@ -225,7 +219,7 @@ appended-more sent m master z s offset entries old at append good no_gap open_so
             let found : (x : Entry) × (slice_get (grown old.entries offset entries) o ≡ Some x) =
             get-below (grown old.entries offset entries) o below in (
               found.0,
-              get-begins (grown old.entries offset entries) (log_in master.log s) begins o found.0 found.1,
+              get-begins (grown old.entries offset entries) begins o found.1,
               made o found.0 found.1,
             ));
         within = begins-length (grown old.entries offset entries) (log_in master.log s) begins;
@@ -245,7 +239,7 @@ appended-more sent m master z s offset entries old at append good no_gap open_so
 
     made : (k : ℕ) (x : Entry) → slice_get (grown old.entries offset entries) k ≡ Some x → HasMade sent m s k x
     made = grown-made sent m s old.entries offset entries no_gap
-        (replica-made sent m master z.index z.generation s old good) (append-made sent m z s offset entries at)
+        (replica-made master good) (append-made sent m z s offset entries at)
 
     longer : length old.entries ≤ length (grown old.entries offset entries)
     longer = grown-longer old.entries offset entries
@@ -269,25 +263,22 @@ pub changed-append : (sent : List Message) (m : ServerId) (master : Master) (z :
     replica_after before (Append s offset entries) ≡ Some after → Changed sent m master.log z.index z.generation s before after
 changed-append sent m master z s offset entries None after at append good is = cc
 changed-append sent m master z s offset entries (Some old) after at append good is =
-    subst (λ (r : Replica). Changed sent m master.log z.index z.generation s (Some old) r)
-    (some-same (appended old offset entries) after is)
+    subst (λ (r : Replica). Changed sent m master.log z.index z.generation s (Some old) r) (some-same is)
     (either (λ (r : Replica). Changed sent m master.log z.index z.generation s (Some old) r)
     (not old.closed && nat_le offset (length old.entries))
-    (record old { entries = grown old.entries offset entries }) old
-    (λ both.
+    (record old { entries = grown old.entries offset entries }) old (λ both.
     let parts : (not old.closed ≡ true) × (nat_le offset (length old.entries) ≡ true) =
     and_parts (not old.closed) (nat_le offset (length old.entries)) both in
     appended-more sent m master z s offset entries old at append (good old refl)
-    (leb-true offset (length old.entries) parts.1) (not-true old.closed parts.0))
-    (λ _. changed-none sent m master.log z.index z.generation s old (good old refl)))
+    (leb-true offset (length old.entries) parts.1) (not-true old.closed parts.0)) (λ _. changed-none (good old refl)))
 
 -- Closes
 
-closed-whole : (sent : List Message) (m : ServerId) (master : Master) (z : ServerId) (s len : ℕ) (old : Replica) →
+closed-whole : {sent : List Message} {m : ServerId} (master : Master) (z : ServerId) {s len : ℕ} {old : Replica} →
     IsClose master.log s len → GoodReplica sent m master.log z.index z.generation s old → length old.entries ≡ len →
     Changed sent m master.log z.index z.generation s (Some old) (record old { closed = true })
-closed-whole sent m master z s len old close good same =
-    changed-some sent m master.log z.index z.generation s old (record old { closed = true }) (record {
+closed-whole master z close good same =
+    changed-some (record {
       begins = good.begins;
       copy = record {
         opened = good.copy.opened;
@@ -302,15 +293,14 @@ closed-whole sent m master z s len old close good same =
       };
     }) (omega arith) (omega arith) (λ _. refl)
 
-pub changed-close : (sent : List Message) (m : ServerId) (master : Master) (z : ServerId) (s len : ℕ)
-    (before : Option Replica) (after : Replica) →
+pub changed-close : {sent : List Message} {m : ServerId} (master : Master) (z : ServerId) {s len : ℕ}
+    (before : Option Replica) {after : Replica} →
     IsClose master.log s len → ((old : Replica) → before ≡ Some old → GoodReplica sent m master.log z.index z.generation s old) →
     replica_after before (Close s len) ≡ Some after → Changed sent m master.log z.index z.generation s before after
-changed-close sent m master z s len None after close good is = cc
-changed-close sent m master z s len (Some old) after close good is =
-    subst (λ (r : Replica). Changed sent m master.log z.index z.generation s (Some old) r) (some-same (closed_at old len) after is)
+changed-close master z None close good is = cc
+changed-close {sent} {m} master z {s} {len} (Some old) close good is =
+    subst (λ (r : Replica). Changed sent m master.log z.index z.generation s (Some old) r) (some-same is)
     (either (λ (r : Replica). Changed sent m master.log z.index z.generation s (Some old) r) (closes old len)
-    (record old { closed = true }) old
-    (λ both. closed-whole sent m master z s len old close (good old refl)
+    (record old { closed = true }) old (λ both. closed-whole master z close (good old refl)
     (eqb-true (length old.entries) len (and_parts (not old.closed) (nat_eq (length old.entries) len) both).1))
-    (λ _. changed-none sent m master.log z.index z.generation s old (good old refl)))
+    (λ _. changed-none (good old refl)))

@@ -25,9 +25,9 @@ use Rattle.rc_model.proofs.Tests.{true_false}
 use Rattle.rc_model.proofs.Granting.{greater-left, greater-right}
 
 -- one message
-says-one : (c : Coordinator) (to : Addr) (body : Body) → coordinator_body_said c to body →
+says-one : (c : Coordinator) {to : Addr} {body : Body} → coordinator_body_said c to body →
     Each (Says c) (record { from = AtCoordinator; to = to; body = body } ∷ [])
-says-one c to body holds = each-one (Says c) (record { from = AtCoordinator; to = to; body = body }) (refl, holds)
+says-one c {to} {body} holds = each-one (Says c) (record { from = AtCoordinator; to = to; body = body }) (refl, holds)
 
 module _ (sent : List Message) (c : Coordinator) (good : GoodCoordinator sent c) where
   abbrev Hears : Addr → Body → Type 0
@@ -37,36 +37,34 @@ module _ (sent : List Message) (c : Coordinator) (good : GoodCoordinator sent c)
   Moved after = CoordinatorMoved sent c after
 
   -- nothing changes but what no fact speaks of
-  quiet : (ready : ServerId → Bool) (tablets : List Tablet) (grants : List Grant) (last : ℕ) (messages : List Message) →
+  quiet : {ready : ServerId → Bool} {tablets : List Tablet} {grants : List Grant} {last : ℕ} {messages : List Message} →
       let new : Coordinator = record c { ready = ready; tablets = tablets; grants = grants; last_term = last } in
       Each (Says new) messages → Moved (new, messages)
-  quiet ready tablets grants last messages says =
-      moved-kept sent c (record c { ready = ready; tablets = tablets; grants = grants; last_term = last }) messages
+  quiet says = moved-kept
       good refl refl (record { crashed = λ m e. e; least = λ m. below-refl (c.least m); least_stays = λ m e. refl }) good.servers says
 
-  still : (to : Addr) (body : Body) → coordinator_body_said c to body →
+  still : {to : Addr} {body : Body} → coordinator_body_said c to body →
       Moved (c, record { from = AtCoordinator; to = to; body = body } ∷ [])
-  still to body says = quiet c.ready c.tablets c.grants c.last_term (record { from = AtCoordinator; to = to; body = body } ∷ [])
-      (says-one c to body says)
+  still says = quiet (says-one c says)
 
   stays : Stays c Hears Moved
   stays = record {
-    refuses = λ fault. still Outside (Refused (code_of fault)) tt;
-    denies = λ id fault other. still (Server id) (Refused (code_of fault)) tt;
-    lists = λ id. still (Server id) (list_body c.servers) good.servers;
-    repeats = λ id term grant is found. still (Server id) (own_body grant) tt;
-    lacks = λ id number term part is none. still (Server id) (Refused (code_of NoTable)) tt;
-    ticks = quiet c.ready c.tablets c.grants c.last_term (coordinator_ticks c) (each-ticks c (Says c) (record {
+    refuses = λ fault. still tt;
+    denies = λ id fault other. still tt;
+    lists = λ id. still good.servers;
+    repeats = λ id term grant is found. still tt;
+    lacks = λ id number term part is none. still tt;
+    ticks = quiet (each-ticks c (Says c) (record {
       lists = λ id. (refl, good.servers);
       gathers = λ number attempt id is. (
         refl,
-        record { attempt = attempt; numbered = numbered-at c number attempt is; master_is = refl },
+        record { attempt = attempt; numbered = numbered-at c attempt is; master_is = refl },
       );
       plans = λ number attempt decision is decided id part parts e. (
         refl,
         record {
           attempt = attempt;
-          numbered = numbered-at c number attempt is;
+          numbered = numbered-at c attempt is;
           master_is = refl;
           decision = decision;
           decided = decided;
@@ -87,11 +85,11 @@ module _ (sent : List Message) (c : Coordinator) (good : GoodCoordinator sent c)
     says : (new : Coordinator) → Each (Says new) after.1
 
   -- other servers, among which the crashed stay so
-  came : (servers : ServerList) (tablets : List Tablet) →
+  came : {servers : ServerList} {tablets : List Tablet} →
       ((m : ServerId) → has_crashed c.servers m ≡ true → has_crashed servers m ≡ true) →
       OnDifferentHosts (up_rows servers.rows) →
       Came (record c { servers = servers; tablets = tablets }, spreads_list servers)
-  came servers tablets crashed apart = record {
+  came {servers} crashed apart = record {
     attempts = refl;
     current = refl;
     kept = record { crashed = crashed; least = λ m. below-refl (c.least m); least_stays = λ m e. refl };
@@ -103,7 +101,7 @@ module _ (sent : List Message) (c : Coordinator) (good : GoodCoordinator sent c)
       has_crashed new.servers master ≡ true → Moved ((begins_attempt new master).0, messages ++ (begins_attempt new master).1)
   begun new messages master p has =
       let next : Coordinator = (begins_attempt new master).0 in
-      moved-added sent c next (messages ++ (begins_attempt new master).1) (new_attempt master) good
+      moved-added (new_attempt master) good
       (ap (λ (attempts : List Attempt). attempts ++ new_attempt master ∷ []) p.attempts)
       (ap (λ (table : ServerId → ℕ). put_id table master (length new.attempts + 1)) p.current ∙
       ap (λ (attempts : List Attempt). put_id c.current master (length attempts + 1)) p.attempts)
@@ -114,16 +112,13 @@ module _ (sent : List Message) (c : Coordinator) (good : GoodCoordinator sent c)
 
   -- Commits
 
-  committed : (id : ServerId) (pair : Pair) → is_up c.servers id ≡ true → Moved (
+  committed : {id : ServerId} {pair : Pair} → is_up c.servers id ≡ true → Moved (
     record c { least = put_id c.least id (greater_pair (c.least id) pair) },
     from_coordinator id (CommitOk pair.seg pair.epoch) ∷ [],
   )
-  committed id pair is =
-      moved-kept sent c (record c { least = put_id c.least id (greater_pair (c.least id) pair) })
-      (from_coordinator id (CommitOk pair.seg pair.epoch) ∷ []) good refl refl
+  committed {id} {pair} is = moved-kept good refl refl
       (record { crashed = λ m e. e; least = rises; least_stays = stay }) good.servers
-      (says-one (record c { least = put_id c.least id (greater_pair (c.least id) pair) }) (Server id)
-      (CommitOk pair.seg pair.epoch) mine)
+      (says-one (record c { least = put_id c.least id (greater_pair (c.least id) pair) }) mine)
     where
       rises : (m : ServerId) → is_below (put_id c.least id (greater_pair (c.least id) pair) m) (c.least m) ≡ false
       rises m = put_id_each (λ (k : ServerId) (p : Pair). is_below p (c.least k) ≡ false) c.least id
@@ -144,9 +139,7 @@ module _ (sent : List Message) (c : Coordinator) (good : GoodCoordinator sent c)
   answered : (from : ServerId) (number : ℕ) (rows : List Row) (attempt : Attempt) →
       In (to_coordinator from (Replicas number rows)) sent → IsNumbered c.attempts number attempt →
       attempt.decided ≡ None → Moved (with_attempt c number (with_answer from rows attempt), [])
-  answered from number rows attempt at numbered undecided =
-      moved-changed sent c (with_attempt c number (with_answer from rows attempt)) [] number attempt
-      (with_answer from rows attempt) good numbered refl refl
+  answered from number rows attempt at numbered undecided = moved-changed good numbered refl refl
       (record { crashed = λ m e. e; least = λ m. below-refl (c.least m); least_stays = λ m e. refl }) good.servers
       refl undecided (record {
         crashed = was.crashed;
@@ -172,20 +165,17 @@ module _ (sent : List Message) (c : Coordinator) (good : GoodCoordinator sent c)
   -- Plans
 
   -- the decision on an attempt that is gathering
-  decided_on : (number : ℕ) (attempt : Attempt) (decision : Decision) (ids : List ServerId) →
+  decided_on : {number : ℕ} {attempt : Attempt} (decision : Decision) (ids : List ServerId) →
       IsNumbered c.attempts number attempt → attempt.decided ≡ None →
       pick (c.least attempt.master) attempt.replies ≡ Ok decision.plan → Moved (decides_on c number attempt decision ids)
-  decided_on number attempt decision ids numbered undecided picked =
-      moved-changed sent c new (plan_messages number attempt.master decision ids) number attempt now
-      good numbered refl refl
+  decided_on {number} {attempt} decision ids numbered undecided picked = moved-changed good numbered refl refl
       (record { crashed = λ m e. e; least = λ m. below-refl (c.least m); least_stays = λ m e. refl }) good.servers refl undecided (record {
         crashed = was.crashed;
         answered = λ y told there. In-left (to_coordinator y (Replicas number told)) sent
             (plan_messages number attempt.master decision ids) (was.answered y told there);
         picked = λ other e. (let same : decision ≡ other = cc in
             subst (λ (one : Decision). pick (c.least attempt.master) attempt.replies ≡ Ok one.plan) same picked);
-      })
-      (each-plans (Says new) number attempt.master decision (λ id part parts e. (refl, is_plan)) ids)
+      }) (each-plans (Says new) number attempt.master decision (λ id part parts e. (refl, is_plan)) ids)
     where
       now : Attempt
       now = record attempt { decided = Some decision }
@@ -199,7 +189,7 @@ module _ (sent : List Message) (c : Coordinator) (good : GoodCoordinator sent c)
       is_plan : IsPlan (decides_on c number attempt decision ids).0 number attempt.master decision.plan.head decision.plan.rows
       is_plan = record {
         attempt = record attempt { decided = Some decision };
-        numbered = numbered-set c.attempts number attempt (record attempt { decided = Some decision }) numbered;
+        numbered = numbered-set numbered;
         master_is = refl;
         decision = decision;
         decided = refl;
@@ -213,39 +203,33 @@ module _ (sent : List Message) (c : Coordinator) (good : GoodCoordinator sent c)
     same = record {
       attempts = refl;
       current = refl;
-      kept = kept-refl c;
+      kept = kept-refl;
       apart = good.servers;
       says = λ new. each-none (Says new);
     };
-    crashes = λ id is. came (crashed id c.servers) (marked_crashed id c.tablets)
-        (λ m e. crashed-stays-crashed id m c.servers e) (apart-crashed id c.servers good.servers);
-    enlists = λ id is. came (enlisted id c.servers) c.tablets
+    crashes = λ id is. came (λ m e. crashed-stays-crashed id m c.servers e) (apart-crashed id c.servers good.servers);
+    enlists = λ id is. came
         (λ m e. crashed-stays-enlisted id m c.servers e) (apart-enlisted id c.servers good.servers);
-    replaces = λ id older is. came (enlisted id c.servers) (marked_crashed older c.tablets)
+    replaces = λ id older is. came
         (λ m e. crashed-stays-enlisted id m c.servers e) (apart-enlisted id c.servers good.servers);
-    done = λ new messages p. moved-kept sent c new messages good p.attempts p.current p.kept p.apart (p.says new);
+    done = λ new messages p. moved-kept good p.attempts p.current p.kept p.apart (p.says new);
     begins = begun;
-    readies = λ id. quiet (put_id c.ready id true) c.tablets c.grants c.last_term []
-        (each-none (Says (record c { ready = put_id c.ready id true })));
-    commits = λ id pair h is. committed id pair is;
-    answers = λ from number rows attempt at is undecided. answered from number rows attempt at (numbered-at c number attempt is) undecided;
+    readies = λ id. quiet (each-none (Says (record c { ready = put_id c.ready id true })));
+    commits = λ id pair h is. committed is;
+    answers = λ from number rows attempt at is undecided. answered from number rows attempt at (numbered-at c attempt is) undecided;
     decides = λ master attempt plan id ids is undecided picked. (
-        let numbered : IsNumbered c.attempts (c.current master) attempt = numbered-at c (c.current master) attempt is in
-        decided_on (c.current master) attempt (decision_of c (c.current master) attempt.master plan (id ∷ ids)) (id ∷ ids)
+        let numbered : IsNumbered c.attempts (c.current master) attempt = numbered-at c attempt is in
+        decided_on (decision_of c (c.current master) attempt.master plan (id ∷ ids)) (id ∷ ids)
         numbered undecided
         (ap (λ (m : ServerId). pick (c.least m) attempt.replies) (good.current_master master attempt numbered) ∙ picked));
-    grants = λ id number term part is has. quiet c.ready (assigned part.range id part.term c.tablets)
-        (c.grants ++ grant_of number id part ∷ []) c.last_term (from_coordinator id (own_body (grant_of number id part)) ∷ [])
+    grants = λ id number term part is has. quiet
         (says-one (record c {
           tablets = assigned part.range id part.term c.tablets;
           grants = c.grants ++ grant_of number id part ∷ [];
-        }) (Server id) (own_body (grant_of number id part)) tt);
-    creates = λ table owner is fresh room. quiet c.ready (creates_table c table owner).0.tablets
-        (creates_table c table owner).0.grants (c.last_term + 1) (creates_table c table owner).1
-        (says-one (creates_table c table owner).0 (Server owner) (own_body (first_grant table owner (c.last_term + 1))) tt);
-    splits = λ table at tablet is holds inside unmarked room. quiet c.ready (split_at table at c.tablets) c.grants c.last_term
-        (coordinator_tells (SplitOk table at) ∷ [])
-        (says-one (record c { tablets = split_at table at c.tablets }) Outside (SplitOk table at) tt);
+        }) tt);
+    creates = λ table owner is fresh room. quiet (says-one (creates_table c table owner).0 tt);
+    splits = λ table at tablet is holds inside unmarked room. quiet
+        (says-one (record c { tablets = split_at table at c.tablets }) tt);
   }
 
   pub moved-suspects : (id : ServerId) → CoordinatorMoved sent c (suspects c id)
@@ -267,6 +251,6 @@ module _ (sent : List Message) (c : Coordinator) (good : GoodCoordinator sent c)
       CoordinatorMoved sent c (coordinator_takes c from body)
   moved-takes from body hear = walked-takes c Hears Came Moved stays moves from body hear
 
-  pub moved-step : (work : NodeWork) → ((message : Message) → work ≡ Deliver message → CoordinatorMayHear sent message.from message.body) →
+  pub moved-step : {work : NodeWork} → ((message : Message) → work ≡ Deliver message → CoordinatorMayHear sent message.from message.body) →
       CoordinatorMoved sent c (coordinator_step c work)
-  moved-step work hear = walked-step c Hears Came Moved stays moves work hear
+  moved-step {work} hear = walked-step c Hears Came Moved stays moves work hear

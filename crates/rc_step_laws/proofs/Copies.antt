@@ -17,34 +17,33 @@ pub In-either : {X P : Type 0} (x : X) (xs ys : List X) → In x (xs ++ ys) → 
 In-either x xs ys at old new = ⊎_elim old new (In-append x xs ys at)
 
 -- a segment grows, and below the head it doesn't
-pub grows-log : (sent : List Message) (m : ServerId) (old new : Log) → LogLater sent m old new → (s : ℕ) →
+pub grows-log : {sent : List Message} {m : ServerId} {old new : Log} → LogLater sent m old new → (s : ℕ) →
     Begins (log_in old s) (log_in new s)
-grows-log sent m old new later s =
-    begins-map (λ (one : Entry × Bool). one.0) (old.segments s).entries (new.segments s).entries (later.grows s)
+grows-log {old} later s = begins-map (λ (one : Entry × Bool). one.0) (old.segments s).entries (later.grows s)
 
-pub final-log : (sent : List Message) (m : ServerId) (old new : Log) → LogLater sent m old new → (s : ℕ) →
+pub final-log : {sent : List Message} {m : ServerId} {old new : Log} → LogLater sent m old new → {s : ℕ} →
     s < old.head → log_in new s ≡ log_in old s
-final-log sent m old new later s below = ap (map (λ (one : Entry × Bool). one.0)) (later.final s below)
+final-log later {s} below = ap (map (λ (one : Entry × Bool). one.0)) (later.final s below)
 
 -- more was sent
 abbrev pub More : List Message → List Message → Type 0
 More sent sent_now = (message : Message) → In message sent → In message sent_now
 
-pub told-more : (sent sent_now : List Message) → More sent sent_now → (x m : ServerId) (s e o : ℕ) →
+pub told-more : {sent sent_now : List Message} → More sent sent_now → {x m : ServerId} {s e o : ℕ} →
     HasTold sent x m s e o → HasTold sent_now x m s e o
-told-more sent sent_now more x m s e o t = record { len = t.len; closed = t.closed; above = t.above; told = more _ t.told }
+told-more more t = record { len = t.len; closed = t.closed; above = t.above; told = more _ t.told }
 
-pub told_closed-more : (sent sent_now : List Message) → More sent sent_now → (x m : ServerId) (s e : ℕ) →
+pub told_closed-more : {sent sent_now : List Message} → More sent sent_now → {x m : ServerId} {s e : ℕ} →
     HasToldClosed sent x m s e → HasToldClosed sent_now x m s e
-told_closed-more sent sent_now more x m s e t = record { len = t.len; told = more _ t.told }
+told_closed-more more t = record { len = t.len; told = more _ t.told }
 
-pub member-more : (sent sent_now : List Message) → More sent sent_now → (m : ServerId) (s e : ℕ) (x : ServerId) →
+pub member-more : {sent sent_now : List Message} → More sent sent_now → {m : ServerId} {s e : ℕ} {x : ServerId} →
     IsMember sent m s e x → IsMember sent_now m s e x
-member-more sent sent_now more m s e x p = record { digest = p.digest; entries = p.entries; placed = more _ p.placed }
+member-more more p = record { digest = p.digest; entries = p.entries; placed = more _ p.placed }
 
-pub placed-more : (sent sent_now : List Message) → More sent sent_now → (m : ServerId) (s e i g h : ℕ) → g ≤ h →
+pub placed-more : {sent sent_now : List Message} → More sent sent_now → {m : ServerId} {s e i g h : ℕ} → g ≤ h →
     IsPlacedAt sent m s e i g → IsPlacedAt sent_now m s e i h
-placed-more sent sent_now more m s e i g h up p = record {
+placed-more more {g} up p = record {
   to = p.to;
   digest = p.digest;
   entries = p.entries;
@@ -54,9 +53,9 @@ placed-more sent sent_now more m s e i g h up p = record {
   since = (let one : p.to.generation ≤ g = p.since in omega arith);
 }
 
-pub opened_at-more : (sent sent_now : List Message) → More sent sent_now → (m : ServerId) (s e i g h len : ℕ) → g ≤ h →
+pub opened_at-more : {sent sent_now : List Message} → More sent sent_now → {m : ServerId} {s e i g h len : ℕ} → g ≤ h →
     IsOpenedAt sent m s e i g len → IsOpenedAt sent_now m s e i h len
-opened_at-more sent sent_now more m s e i g h len up p = record {
+opened_at-more more {g} up p = record {
   to = p.to;
   digest = p.digest;
   entries = p.entries;
@@ -66,13 +65,13 @@ opened_at-more sent sent_now more m s e i g h len up p = record {
   enough = p.enough;
 }
 
-pub made-more : (sent sent_now : List Message) → More sent sent_now → (m : ServerId) (s o : ℕ) (entry : Entry) →
+pub made-more : {sent sent_now : List Message} → More sent sent_now → {m : ServerId} {s o : ℕ} {entry : Entry} →
     HasMade sent m s o entry → HasMade sent_now m s o entry
-made-more sent sent_now more m s o entry p = record { message = p.message; among = more _ p.among; from = p.from; holds = p.holds }
+made-more more p = record { message = p.message; among = more _ p.among; from = p.from; holds = p.holds }
 
-pub opened-later : (sent : List Message) (m : ServerId) (old new : Log) → LogLater sent m old new → (s : ℕ) →
+pub opened-later : {sent : List Message} {m : ServerId} {old new : Log} → LogLater sent m old new → {s : ℕ} →
     IsOpened old s → IsOpened new s
-opened-later sent m old new later s p =
+opened-later {old} {new} later {s} p =
     record { above = p.above; below = (let one : s ≤ old.head = p.below in let two : old.head ≤ new.head = later.head in omega arith) }
 
 -- New Places, each with what it must have
@@ -88,10 +87,10 @@ NoneNewUpTo sent sent_now m index generation = (x : ServerId) (s e len : ℕ) (c
     In (between x m (Stored s e len closed)) sent ⊎ (x.generation ≤ generation → ⊥)
 
 -- who was told of under an epoch that was there, and is a member, was one
-pub member-before : (sent sent_now : List Message) (m : ServerId) (old : Log) → OwnFine sent m old → NewPlaces sent sent_now m old →
-    (x y : ServerId) (s e len : ℕ) (closed : Bool) → In (between y m (Stored s e len closed)) sent →
+pub member-before : {sent sent_now : List Message} {m : ServerId} {old : Log} → OwnFine sent m old → NewPlaces sent sent_now m old →
+    {x : ServerId} (y : ServerId) {s e : ℕ} (len : ℕ) (closed : Bool) → In (between y m (Stored s e len closed)) sent →
     IsMember sent_now m s e x → IsMember sent m s e x
-member-before sent sent_now m old fine new x y s e len closed told p = by (new x s e p.digest p.entries false p.placed)
+member-before {sent} {m} {old} fine new {x} y {s} {e} len closed told p = by (new x s e p.digest p.entries false p.placed)
   where
     was : IsTold sent m old y s e len closed
     was = fine.told y s e len closed told
@@ -114,12 +113,12 @@ pub record CopyLives (sent sent_now : List Message) (m : ServerId) (old new : Lo
   pub none : NoneNewUpTo sent sent_now m index generation
 
 -- what is not above its host's copy, told before or after
-above-later : (sent sent_now : List Message) (m : ServerId) (old new : Log) (index generation s e : ℕ) (closed : Bool)
-    (len : ℕ) (digest : List ℕ) →
+above-later : {sent sent_now : List Message} {m : ServerId} {old new : Log} {index generation s e : ℕ} {closed : Bool}
+    {len : ℕ} {digest : List ℕ} →
     CopyLives sent sent_now m old new index generation → IsCopy sent m old index generation s e closed len digest →
-    (x : ServerId) (told_len o : ℕ) (told_mark : Bool) → x.index ≡ index → IsMember sent_now m s e x → o < told_len →
+    {x : ServerId} {told_len o : ℕ} (told_mark : Bool) → x.index ≡ index → IsMember sent_now m s e x → o < told_len →
     In (between x m (Stored s e told_len told_mark)) sent_now → o < len
-above-later sent sent_now m old new index generation s e closed len digest w c x told_len o told_mark on p above told =
+above-later {sent} {sent_now} {m} {old} {new} {index} {generation} {s} {e} {closed} {len} {digest} w c {x} {told_len} {o} told_mark on p above told =
     by (w.none x s e told_len told_mark on told)
   where
     new_told : IsTold sent_now m new x s e told_len told_mark
@@ -129,7 +128,7 @@ above-later sent sent_now m old new index generation s e closed len digest w c x
     if_closed : closed ≡ true → o < len
     if_closed shut_so =
         let whole : (s < old.head) × (len ≡ length (log_in old s)) = c.whole shut_so in
-        let same : length (log_in new s) ≡ length (log_in old s) = ap length (final-log sent_now m old new w.later s whole.0) in
+        let same : length (log_in new s) ≡ length (log_in old s) = ap length (final-log w.later whole.0) in
         let within : told_len ≤ length (log_in new s) = new_told.within in
         let e1 : len ≡ length (log_in old s) = whole.1 in
         omega arith
@@ -143,16 +142,15 @@ above-later sent sent_now m old new index generation s e closed len digest w c x
         absurd (not_upto (subst (λ (y : ServerId). y.generation ≤ generation) same at.since))
 
     by : In (between x m (Stored s e told_len told_mark)) sent ⊎ (x.generation ≤ generation → ⊥) → o < len
-    by (inl there) =
-        c.above x o on (member-before sent sent_now m old w.old_fine w.places x x s e told_len told_mark there p)
+    by (inl there) = c.above x o on (member-before w.old_fine w.places x told_len told_mark there p)
         (record { len = told_len; closed = told_mark; above = above; told = there })
     by (inr fresh) = split closed (if_closed) (if_open fresh)
 
-closed-later : (sent sent_now : List Message) (m : ServerId) (old new : Log) (index generation s e : ℕ) (closed : Bool)
-    (len : ℕ) (digest : List ℕ) →
+closed-later : {sent sent_now : List Message} {m : ServerId} {old new : Log} {index generation s e : ℕ} {closed : Bool}
+    {len : ℕ} {digest : List ℕ} →
     CopyLives sent sent_now m old new index generation → IsCopy sent m old index generation s e closed len digest →
-    (x : ServerId) → x.index ≡ index → IsMember sent_now m s e x → HasToldClosed sent_now x m s e → closed ≡ true
-closed-later sent sent_now m old new index generation s e closed len digest w c x on p t = by (w.none x s e t.len true on t.told)
+    {x : ServerId} → x.index ≡ index → IsMember sent_now m s e x → HasToldClosed sent_now x m s e → closed ≡ true
+closed-later {sent} {sent_now} {m} {index} {generation} {s} {e} {closed} {len} {digest} w c {x} on p t = by (w.none x s e t.len true on t.told)
   where
     if_open : (x.generation ≤ generation → ⊥) → closed ≡ false → closed ≡ true
     if_open not_upto open_so =
@@ -162,37 +160,34 @@ closed-later sent sent_now m old new index generation s e closed len digest w c 
         absurd (not_upto (subst (λ (y : ServerId). y.generation ≤ generation) same at.since))
 
     by : In (between x m (Stored s e t.len true)) sent ⊎ (x.generation ≤ generation → ⊥) → closed ≡ true
-    by (inl there) =
-        c.closed_too x on (member-before sent sent_now m old w.old_fine w.places x x s e t.len true there p)
+    by (inl there) = c.closed_too x on (member-before w.old_fine w.places x t.len true there p)
         (record { len = t.len; told = there })
     by (inr fresh) = split closed (λ (shut_so : closed ≡ true). shut_so) (if_open fresh)
 
 -- a copy lives on
-pub copy-later : (sent sent_now : List Message) (m : ServerId) (old new : Log) (index generation s e : ℕ)
-    (closed : Bool) (len : ℕ) (digest : List ℕ) →
+pub copy-later : {sent sent_now : List Message} {m : ServerId} {old new : Log} {index generation s e : ℕ}
+    {closed : Bool} {len : ℕ} {digest : List ℕ} →
     CopyLives sent sent_now m old new index generation → IsCopy sent m old index generation s e closed len digest →
     IsCopy sent_now m new index generation s e closed len digest
-copy-later sent sent_now m old new index generation s e closed len digest w c = record {
-  opened = opened-later sent_now m old new w.later s c.opened;
+copy-later {sent} {m} {old} {new} {s} {closed} {len} {digest} w c = record {
+  opened = opened-later w.later c.opened;
   made = λ o below.
       let one : (entry : Entry) × (slice_get (log_in old s) o ≡ Some entry) × HasMade sent m s o entry = c.made o below in (
         one.0,
-        get-begins (log_in old s) (log_in new s) (grows-log sent_now m old new w.later s) o one.0 one.1,
-        made-more sent sent_now w.more m s o one.0 one.2,
+        get-begins (log_in old s) (grows-log w.later s) o one.1,
+        made-more w.more one.2,
       );
-  within =
-      (let a : len ≤ length (log_in old s) = c.within in
+  within = (let a : len ≤ length (log_in old s) = c.within in
       let b : length (log_in old s) ≤ length (log_in new s) =
-      begins-length (log_in old s) (log_in new s) (grows-log sent_now m old new w.later s) in
+      begins-length (log_in old s) (log_in new s) (grows-log w.later s) in
       omega arith);
   whole = λ shut_so.
       let one : (s < old.head) × (len ≡ length (log_in old s)) = c.whole shut_so in
       let up : old.head ≤ new.head = w.later.head in
-      (omega arith, one.1 ∙ sym (ap length (final-log sent_now m old new w.later s one.0)));
-  placed = placed-more sent sent_now w.more m s e index generation generation (omega arith) c.placed;
-  opened_at = λ open_so. opened_at-more sent sent_now w.more m s e index generation generation len (omega arith) (c.opened_at open_so);
+      (omega arith, one.1 ∙ sym (ap length (final-log w.later one.0)));
+  placed = placed-more w.more (omega arith) c.placed;
+  opened_at = λ open_so. opened_at-more w.more (omega arith) (c.opened_at open_so);
   digest_is = c.digest_is ∙ sym (w.later.digest s c.opened.above c.opened.below);
-  above = λ x o on p t. above-later sent sent_now m old new index generation s e closed len digest w c x t.len o
-      t.closed on p t.above t.told;
-  closed_too = λ x on p t. closed-later sent sent_now m old new index generation s e closed len digest w c x on p t;
+  above = λ x o on p t. above-later w c t.closed on p t.above t.told;
+  closed_too = λ x on p t. closed-later w c on p t;
 }

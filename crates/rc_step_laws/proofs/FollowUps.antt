@@ -38,11 +38,10 @@ opening-is Closing e = true_false (sym e)
 opening-is Writing e = true_false (sym e)
 
 -- a change of phase: to Writing where all but the head are shut, or to another from one in which the head was empty
-phase-moved : (sent : List Message) (m : ServerId) (log : Log) (phase : Phase) → GoodLog sent m log → OwnFine sent m log
+phase-moved : {sent : List Message} {m : ServerId} {log : Log} {phase : Phase} → GoodLog sent m log → OwnFine sent m log
     → (phase ≡ Writing → 0 < log.head) → (phase ≡ Writing → (s : ℕ) → 0 < s → s < log.head → (log.segments s).shut ≡ true)
-    → ((phase ≡ Writing → ⊥) → log_in log log.head ≡ [])
-    → LogMoved sent m log (record log { phase = phase }) []
-phase-moved sent m log phase good fine opened shut empty = moved-log sent m log (record log { phase = phase }) [] good fine (record {
+    → ((phase ≡ Writing → ⊥) → log_in log log.head ≡ []) → LogMoved sent m log (record log { phase = phase }) []
+phase-moved {sent} {m} {log} {phase} good fine opened shut empty = moved-log good fine (record {
   later = later;
   says = λ message at. absurd at;
   own = good.own;
@@ -54,12 +53,11 @@ phase-moved sent m log phase good fine opened shut empty = moved-log sent m log 
   news = λ x s e digest entries at. absurd at;
   counted = counted-still sent (sent ++ []) m log (record log { phase = phase }) good later refl;
   digests = λ s over upto. absurd (omega arith);
-  durable_within = within-still sent (sent ++ []) m log (record log { phase = phase }) good later refl;
+  durable_within = within-still good later refl;
 })
   where
     later : LogLater (sent ++ []) m log (record log { phase = phase })
-    later = log-later (sent ++ []) m log (record log { phase = phase }) (omega arith)
-        (λ s. later-refl (sent ++ []) m log.head s (log.segments s))
+    later = log-later (omega arith) (λ s. later-refl)
 
     each : (s : ℕ) → GoodSegment (sent ++ []) m log.phase log.head s (log.segments s) →
         GoodSegment (sent ++ []) m phase log.head s (log.segments s)
@@ -76,36 +74,33 @@ phase-moved sent m log phase good fine opened shut empty = moved-log sent m log 
     }
 
 -- quiet messages after a move that sends nothing
-then-quiet : (sent : List Message) (m : ServerId) (old new : Log) (messages : List Message) → GoodLog sent m old →
+then-quiet : {sent : List Message} {m : ServerId} {old new : Log} {messages : List Message} → GoodLog sent m old →
     LogMoved sent m old new [] → AllQuiet m messages → LogMoved sent m old new messages
-then-quiet sent m old new messages good moved all =
-    log_moved-then sent m old new new [] messages good moved (quiet-moved (sent ++ []) m new messages moved.good moved.fine all)
+then-quiet good moved all = log_moved-then good moved (quiet-moved moved.good moved.fine all)
 
-ready-quiet : (m own : ServerId) → own ≡ m → AllQuiet m (to_coordinator own Ready ∷ [])
-ready-quiet m own is = quiet-one m (to_coordinator own Ready) (record { from = ap Server is; quiet = λ _ _ _ _ _ _. tt })
+ready-quiet : {m own : ServerId} → own ≡ m → AllQuiet m (to_coordinator own Ready ∷ [])
+ready-quiet is = quiet-one (record { from = ap Server is; quiet = λ _ _ _ _ _ _. tt })
 
-moved-start : (m : ServerId) (master : Master) → may_start master.log ≡ true →
+moved-start : {m : ServerId} (master : Master) → may_start master.log ≡ true →
     Kept m master (with_log master (starts master.log), to_coordinator master.log.own Ready ∷ [])
-moved-start m master e sent view = (
+moved-start master e sent view = (
     let both = and_parts (is_opening master.log.phase) (nat_eq master.log.head 1 && is_ready (head_of master.log)) e in
     let first : master.log.head ≡ 1 =
     eqb-true master.log.head 1 (and_parts (nat_eq master.log.head 1) (is_ready (head_of master.log)) both.1).0 in
     record {
-      log = then-quiet sent m master.log (starts master.log) (to_coordinator master.log.own Ready ∷ []) view.log
-          (phase-moved sent m master.log Writing view.log view.fine (λ _. omega arith)
-          (λ _ s above less. absurd (omega arith)) (λ quiet. absurd (quiet refl)))
-          (ready-quiet m master.log.own view.log.own);
+      log = then-quiet view.log (phase-moved view.log view.fine (λ _. omega arith)
+          (λ _ s above less. absurd (omega arith)) (λ quiet. absurd (quiet refl))) (ready-quiet view.log.own);
       known = view.known;
     })
 
-moved-placed : (m : ServerId) (master : Master) → may_close master.log ≡ true → Kept m master (with_log master (closes_old master.log), [])
-moved-placed m master e sent view = (
+moved-placed : {m : ServerId} (master : Master) → may_close master.log ≡ true → Kept m master (with_log master (closes_old master.log), [])
+moved-placed master e sent view = (
     let was : master.log.phase ≡ Opening =
     opening-is master.log.phase
     (and_parts (is_opening master.log.phase) (has_old_head master.log && all_placed (head_of master.log).config)
     e).0 in
     record {
-      log = phase-moved sent m master.log Closing view.log view.fine (λ writing. closing_writing writing)
+      log = phase-moved view.log view.fine (λ writing. closing_writing writing)
           (λ writing. closing_writing writing) (λ _. view.log.empty (λ writing. opening_writing (sym was ∙ writing)));
       known = view.known;
     })
@@ -128,19 +123,19 @@ close-no_place m own ids x s e t len digest entries closed at =
     let found = In-map (λ (id : ServerId). between own id (Close t len)) (between m x (Place s e digest entries closed)) ids at in
     let body : ◌≡◌ {A = Body} (Place s e digest entries closed) (Close t len) = ap (λ (message : Message). message.body) found.2 in cc
 
-moved-closing : (m : ServerId) (master : Master) → close_is_due master.log ≡ true → Kept m master (
+moved-closing : {m : ServerId} (master : Master) → close_is_due master.log ≡ true → Kept m master (
   with_log master (close_marked master.log),
   to_ids master.log.own (ids_of (filter (is_unclosed (old_head_of master.log)) (old_head_of master.log).config.members))
       (Close (master.log.head - 1) (length (old_head_of master.log).entries)),
 )
-moved-closing m master e sent view = (
+moved-closing {m} master e sent view = (
     let second = and_parts (is_closing log.phase)
     (has_old_head log && ((old_head_of log).config.committed && has_unclosed (old_head_of log))) e in
     let over = old_head-opened log
     (and_parts (has_old_head log) ((old_head_of log).config.committed && has_unclosed (old_head_of log)) second.1).0
     in
     record {
-      log = marked-moved sent m log (log.head - 1) (with_closes_sent (old_head_of log)) messages view.log view.fine
+      log = marked-moved view.log view.fine
           (record { above = over.0; below = omega arith }) (record { entries = refl; digest = refl; shut = refl; config = refl })
           (each-to_ids (MasterSays sent (sent ++ messages) m log (close_marked log)) log.own ids
           (Close (log.head - 1) (length (old_head_of log).entries)) (λ x at. record {
@@ -152,8 +147,7 @@ moved-closing m master e sent view = (
                   ∙ sym (ap (λ (segment : Segment). length (map (λ (one : Entry × Bool). one.0) segment.entries))
                   (put-same log.segments (log.head - 1) (with_closes_sent (old_head_of log))));
             };
-          }))
-          (λ x t f digest entries at. close-no_place m log.own ids x t f (log.head - 1)
+          })) (λ x t f digest entries at. close-no_place m log.own ids x t f (log.head - 1)
           (length (old_head_of log).entries) digest entries false at);
       known = view.known;
     })
@@ -169,41 +163,37 @@ moved-closing m master e sent view = (
 
 -- Writing in the new head
 
-freed-moved : (segs : List ℕ) (sent : List Message) (m : ServerId) (log : Log) → GoodLog sent m log →
+freed-moved : (segs : List ℕ) {sent : List Message} {m : ServerId} {log : Log} → GoodLog sent m log →
     OwnFine sent m log → ((s : ℕ) → In s segs → IsOpened log s) → LogMoved sent m log (with_freed segs log) []
-freed-moved [] sent m log good fine opened = quiet-moved sent m log [] good fine (quiet-none m)
-freed-moved (s ∷ segs) sent m log good fine opened =
+freed-moved [] {m} good fine opened = quiet-moved good fine (quiet-none m)
+freed-moved (s ∷ segs) {sent} {m} {log} good fine opened =
     let next : Log = with_segment s (record (log.segments s) { freed = true }) log in
     let first : LogMoved sent m log next [] =
-    marked-moved sent m log s (record (log.segments s) { freed = true }) [] good fine (opened s (inl refl))
+    marked-moved good fine (opened s (inl refl))
     (record { entries = refl; digest = refl; shut = refl; config = refl }) (λ message at. absurd at)
     (λ x t e digest entries at. absurd at) in
-    log_moved-then sent m log next (with_freed segs next) [] [] good first
-    (freed-moved segs (sent ++ []) m next first.good first.fine
+    log_moved-then good first (freed-moved segs first.good first.fine
     (λ t at. (let was = opened t (inr at) in record { above = was.above; below = was.below })))
 
-frees-quiet : (m : ServerId) (log : Log) (segs : List ℕ) → log.own ≡ m → AllQuiet m (frees_segments log segs)
-frees-quiet m log segs own = each-frees (IsQuietOf m) log segs (λ seg id at. record { from = ap Server own; quiet = λ _ _ _ _ _ _. tt })
+frees-quiet : {m : ServerId} (log : Log) (segs : List ℕ) → log.own ≡ m → AllQuiet m (frees_segments log segs)
+frees-quiet {m} log segs own = each-frees (IsQuietOf m) log segs (λ seg id at. record { from = ap Server own; quiet = λ _ _ _ _ _ _. tt })
 
-moved-shut : (m : ServerId) (master : Master) → may_write master.log ≡ true →
+moved-shut : {m : ServerId} (master : Master) → may_write master.log ≡ true →
     Kept m master (with_log master (writes_on master.log), frees_segments master.log (left_out master.log))
-moved-shut m master e sent view = (
+moved-shut {m} master e sent view = (
     let second = and_parts (is_closing log.phase) (has_old_head log && ((old_head_of log).shut && is_ready (head_of log))) e in
     let third = and_parts (has_old_head log) ((old_head_of log).shut && is_ready (head_of log)) second.1 in
     let over = old_head-opened log third.0 in
     let shut : (log.segments (log.head - 1)).shut ≡ true = (and_parts (old_head_of log).shut (is_ready (head_of log)) third.1).0 in
-    let first : LogMoved sent m log (starts log) [] = phase-moved sent m log Writing view.log view.fine
+    let first : LogMoved sent m log (starts log) [] = phase-moved view.log view.fine
     (λ _. omega arith) (λ _ s above less. all_shut shut s above less) (λ quiet. absurd (quiet refl)) in
     let freed : LogMoved (sent ++ []) m (starts log) (writes_on log) [] =
-    freed-moved (left_out log) (sent ++ []) m (starts log) first.good first.fine
-    (λ s at. (
+    freed-moved (left_out log) first.good first.fine (λ s at. (
     let there = (In-filter (λ seg. not (list_any (nat_eq seg) (head_of log).digest)) s (old_head_of log).digest at).0 in
     let p = (view.log.digests (log.head - 1) (record { above = over.0; below = omega arith })).upto s there in
     record { above = p.0; below = omega (arith, p.1) })) in
     record {
-      log = then-quiet sent m log (writes_on log) (frees_segments log (left_out log)) view.log
-          (log_moved-then sent m log (starts log) (writes_on log) [] [] view.log first freed)
-          (frees-quiet m log (left_out log) view.log.own);
+      log = then-quiet view.log (log_moved-then view.log first freed) (frees-quiet log (left_out log) view.log.own);
       known = view.known;
     })
   where
@@ -222,32 +212,31 @@ moved-shut m master e sent view = (
 
 -- Commits
 
-moved-commits : (sent : List Message) (m : ServerId) (master : Master) (s : ℕ) → GoodView sent m master →
+moved-commits : {sent : List Message} {m : ServerId} {master : Master} {s : ℕ} → GoodView sent m master →
     IsOpened master.log s → Moved sent m master (commits master s)
-moved-commits sent m master s view opened =
+moved-commits {m} {master} {s} view opened =
     let log : Log = master.log in
     let one : Message = to_coordinator log.own (Commit s (log.segments s).config.epoch) in
-    let quiet : AllQuiet m (one ∷ []) = quiet-one m one (record { from = ap Server view.log.own; quiet = λ _ _ _ _ _ _. tt }) in
+    let quiet : AllQuiet m (one ∷ []) = quiet-one (record { from = ap Server view.log.own; quiet = λ _ _ _ _ _ _. tt }) in
     let new : Segment = record (log.segments s) { commit_sent = true } in
     record {
-      log = marked-moved sent m log s new (one ∷ []) view.log view.fine opened
+      log = marked-moved view.log view.fine opened
           (record { entries = refl; digest = refl; shut = refl; config = refl })
-          (λ message at. quiet-says sent (sent ++ one ∷ []) m log (with_segment s new log) message (quiet message at))
+          (λ message at. quiet-says (quiet message at))
           (λ x t e digest entries at. quiet-no_place m x log t e digest entries false (one ∷ []) quiet at);
       known = view.known;
     }
 
-moved-change : (m : ServerId) (master : Master) (s : ℕ) → first_open master.log ≡ Some s → Kept m master (commits master s)
-moved-change m master s e sent view =
-    let there = (find-one (λ seg. not (master.log.segments seg).shut) (numbers_to master.log.head) s e).0 in
-    let p = numbers-In s master.log.head there in moved-commits sent m master s view (record { above = p.0; below = p.1 })
+moved-change : {m : ServerId} {master : Master} {s : ℕ} → first_open master.log ≡ Some s → Kept m master (commits master s)
+moved-change {master} {s} e sent view =
+    let there = (find-one (λ seg. not (master.log.segments seg).shut) (numbers_to master.log.head) e).0 in
+    let p = numbers-In s master.log.head there in moved-commits view (record { above = p.0; below = p.1 })
 
 -- Acknowledging
 
 -- no Place is a WriteOk
 write_ok-no_place : {P : Type 0} (m x own : ServerId) (s e : ℕ) (digest : List ℕ) (entries : List Entry) (closed : Bool)
-    (places : List LogPlace)
-    → In (between m x (Place s e digest entries closed)) (write_oks own places) → P
+    (places : List LogPlace) → In (between m x (Place s e digest entries closed)) (write_oks own places) → P
 write_ok-no_place {P} m x own s e digest entries closed places at =
     each-write_oks (λ message. message ≡ between m x (Place s e digest entries closed) → P) own places
     (λ place there client same. differ (ap (λ (message : Message). message.body) same))
@@ -256,9 +245,9 @@ write_ok-no_place {P} m x own s e digest entries closed places at =
     differ : {t o term table key version : ℕ} → ◌≡◌ {A = Body} (WriteOk t o term table key version) (Place s e digest entries closed) → P
     differ same = cc
 
-stored-moved : (sent : List Message) (m : ServerId) (log : Log) → GoodLog sent m log → OwnFine sent m log →
+stored-moved : {sent : List Message} {m : ServerId} {log : Log} → GoodLog sent m log → OwnFine sent m log →
     LogMoved sent m log (record log { durable = durable_now log }) (write_oks log.own (new_durable log))
-stored-moved sent m log good fine = moved-log sent m log new messages good fine (record {
+stored-moved {sent} {m} {log} good fine = moved-log good fine (record {
   later = later;
   says = says;
   own = good.own;
@@ -280,13 +269,13 @@ stored-moved sent m log good fine = moved-log sent m log new messages good fine 
     messages = write_oks log.own (new_durable log)
 
     later : LogLater (sent ++ messages) m log new
-    later = log-later (sent ++ messages) m log new (omega arith) (λ s. later-refl (sent ++ messages) m log.head s (log.segments s))
+    later = log-later (omega arith) (λ s. later-refl)
 
     -- each of these is among the places that are durable now
     among : (place : LogPlace) → In place (new_durable log) → (k : ℕ) × (k < durable_now log) × (slice_get (places_of log) k ≡ Some place)
     among place at =
         let found = Rattle.rc_model.proofs.Members.place_of (new_durable log) place at in
-        let taken = get-take (durable_now log) (places_of log) (log.durable + found.0) place
+        let taken = get-take (durable_now log) (places_of log) (log.durable + found.0)
         (sym (get-drop log.durable (take (durable_now log) (places_of log)) found.0) ∙ found.1) in
         (log.durable + found.0, taken.0, taken.1)
 
@@ -317,9 +306,9 @@ stored-moved sent m log good fine = moved-log sent m log new messages good fine 
         record {
           from = ap Server good.own;
           says = record {
-            safe = safe-grown sent (sent ++ messages) m log new place.seg place.offset grown safe;
+            safe = safe-grown grown safe;
             entry = place.entry;
-            holds = place-logged log place (places_to-are log.segments log.head p.0 place p.2);
+            holds = place-logged log (places_to-are log.head p.0 p.2);
             term_is = refl;
             table_is = refl;
             key_is = refl;
@@ -329,12 +318,12 @@ stored-moved sent m log good fine = moved-log sent m log new messages good fine 
 
 -- A segment that has become shut
 
-shut-moved : (sent : List Message) (m : ServerId) (log : Log) → GoodLog sent m log → OwnFine sent m log → shuts log ≡ true
+shut-moved : {sent : List Message} {m : ServerId} {log : Log} → GoodLog sent m log → OwnFine sent m log → shuts log ≡ true
     → LogMoved sent m log (with_segment (log.head - 1) (record (old_head_of log) { shut = true }) log) []
-shut-moved sent m log good fine e = put-moved sent m log s (record (old_head_of log) { shut = true }) [] good fine (record {
+shut-moved {sent} {m} {log} good fine e = put-moved good fine (record {
   opened = record { above = over.0; below = omega arith };
   later = record {
-    grows = begins-refl (old_head_of log).entries;
+    grows = begins-refl;
     final = λ below. refl;
     digest = λ upto. refl;
     epoch = λ upto. omega arith;
@@ -375,35 +364,33 @@ shut-moved sent m log good fine e = put-moved sent m log s (record (old_head_of 
         HasToldClosed sent x m (log.head - 1) (old_head_of log).config.epoch
     closed x at =
         let found = In-map (λ (member : Member). member.id) x (old_head_of log).config.members at in
-        let is : told_closed found.0.told ≡ true =
-        (and_parts (not found.0.lost) (told_closed found.0.told)
+        let is : told_closed found.0.told ≡ true = (and_parts (not found.0.lost) (told_closed found.0.told)
         (all-each is_closed found.0 (old_head_of log).config.members tests.1 found.1)).1 in
         subst (λ y. HasToldClosed sent y m (log.head - 1) (old_head_of log).config.epoch) (sym found.2)
         ((good.each (log.head - 1)).noted_closed found.0 found.1 is)
 
 -- All of them
 
-by_rule : (m : ServerId) → Followed (Kept m)
-by_rule m = record {
-  marks = λ master e sent view. record { log = shut-moved sent m master.log view.log view.fine e; known = view.known };
-  starts = moved-start m;
-  places = moved-placed m;
-  closes = moved-closing m;
-  shuts = moved-shut m;
-  commits = λ master seg e wants. moved-change m master seg e;
-  counts = λ master more sent view. record { log = stored-moved sent m master.log view.log view.fine; known = view.known };
+by_rule : {m : ServerId} → Followed (Kept m)
+by_rule {m} = record {
+  marks = λ master e sent view. record { log = shut-moved view.log view.fine e; known = view.known };
+  starts = moved-start;
+  places = moved-placed;
+  closes = moved-closing;
+  shuts = moved-shut;
+  commits = λ master seg e wants. moved-change e;
+  counts = λ master more sent view. record { log = stored-moved view.log view.fine; known = view.known };
   rolls = λ master ids writing room chosen sent view.
-      moved-opens_roll sent m master ids view (writing-is master.log.phase writing) chosen;
+      moved-opens_roll view (writing-is master.log.phase writing) chosen;
   replays = λ master entry entries is writing room sent view. (
       let next : Master = record master { ownership = after_replay master.ownership } in
-      let done : Moved sent m next (appends_entry next entry false) = moved-appends sent m next entry false
+      let done : Moved sent m next (appends_entry next entry false) = moved-appends entry false
       (record { log = view.log; fine = view.fine; known = view.known }) (writing-is master.log.phase writing) in
       record { log = done.log; known = done.known });
   answers = λ master term is sent view. (
       let one : Message = to_coordinator master.log.own (Recovered (attempt_of term master.tasks) term) in
-      moved-quiet sent m master (record master { ownership = after_answer (durable_replayed master) master.ownership })
-      (one ∷ []) view refl refl (quiet-one m one (record { from = ap Server view.log.own; quiet = λ _ _ _ _ _ _. tt })));
+      moved-quiet view refl refl (quiet-one (record { from = ap Server view.log.own; quiet = λ _ _ _ _ _ _. tt })));
 }
 
-pub moved-goes_on : (sent : List Message) (m : ServerId) (master : Master) → GoodView sent m master → Moved sent m master (goes_on master)
-moved-goes_on sent m master = kept-goes_on (Kept m) (joined m) (by_rule m) master sent
+pub moved-goes_on : {sent : List Message} {m : ServerId} {master : Master} → GoodView sent m master → Moved sent m master (goes_on master)
+moved-goes_on {sent} {m} {master} = kept-goes_on (Kept m) (joined m) (by_rule) master sent

@@ -64,12 +64,10 @@ apart-counted n ids p =
 
 apart-filter : (test : ServerId → Bool) (ids : List ServerId) → OnDifferentHosts ids → OnDifferentHosts (filter test ids)
 apart-filter test [] p = tt
-apart-filter test (id ∷ ids) p =
-    either OnDifferentHosts (test id) (id ∷ filter test ids) (filter test ids)
-    (λ _. (
-      not_on-each id (filter test ids) (λ y at. apart-not id y ids (In-filter test y ids at).0 p.0),
-      apart-filter test ids p.1,
-    )) (λ _. apart-filter test ids p.1)
+apart-filter test (id ∷ ids) p = either OnDifferentHosts (test id) (id ∷ filter test ids) (filter test ids) (λ _. (
+  not_on-each id (filter test ids) (λ y at. apart-not id y ids (In-filter test y ids at).0 p.0),
+  apart-filter test ids p.1,
+)) (λ _. apart-filter test ids p.1)
 
 pub insert-In : (y id : ServerId) (ids : List ServerId) → In y (insert_id id ids) → (y ≡ id) ⊎ In y ids
 insert-In y id [] at = at
@@ -116,12 +114,11 @@ apart-candidates seg own servers p =
     (apart-order (up_rows servers.rows) p))
 
 -- those who are chosen are on different hosts
-pub apart-choose : (seg : ℕ) (own : ServerId) (factor : ℕ) (servers : ServerList) (ids : List ServerId) →
+pub apart-choose : (seg : ℕ) (own : ServerId) (factor : ℕ) (servers : ServerList) {ids : List ServerId} →
     OnDifferentHosts (up_rows servers.rows) → choose seg own factor servers ≡ Some ids → OnDifferentHosts ids
-apart-choose seg own factor servers ids p e =
+apart-choose seg own factor servers {ids} p e =
     either (λ found. found ≡ Some ids → OnDifferentHosts ids) (nat_lt (length (candidates seg own servers)) factor) None
-    (Some (take factor (candidates seg own servers)))
-    (λ _ none. none_some none)
+    (Some (take factor (candidates seg own servers))) (λ _ none. none_some none)
     (λ _ some. subst OnDifferentHosts (inner some)
     (apart-take factor (candidates seg own servers) (apart-candidates seg own servers p))) e
   where
@@ -137,7 +134,7 @@ apart-choose seg own factor servers ids p e =
 first_free-apart : (ids taken : List ServerId) (id : ServerId) → first_free ids taken ≡ Some id → (y : ServerId) →
     In y taken → id.index ≡ y.index → ⊥
 first_free-apart ids taken id e y at same =
-    let found = find-one (λ (one : ServerId). not (list_any (λ (other : ServerId). nat_eq one.index other.index) taken)) ids id e in
+    let found = find-one (λ (one : ServerId). not (list_any (λ (other : ServerId). nat_eq one.index other.index) taken)) ids e in
     let taken_it : list_any (λ (other : ServerId). nat_eq id.index other.index) taken ≡ true =
     any-here (λ (other : ServerId). nat_eq id.index other.index) y taken at (eq-eqb id.index y.index same) in
     true_false (sym (sym (ap not taken_it) ∙ found.1))
@@ -150,10 +147,10 @@ record IsThen (first : Option ServerId) (others : ServerId → Option (List Serv
   rest_is : others id ≡ Some rest
   ids_are : ids ≡ id ∷ rest
 
-then-parts : (first : Option ServerId) (others : ServerId → Option (List ServerId)) (ids : List ServerId) →
+then-parts : (first : Option ServerId) {others : ServerId → Option (List ServerId)} {ids : List ServerId} →
     option_and_then (λ id. option_map (λ rest. id ∷ rest) (others id)) first ≡ Some ids → IsThen first others ids
-then-parts None others ids e = cc
-then-parts (Some id) others ids e = by (others id) refl e
+then-parts None e = cc
+then-parts (Some id) {others} {ids} e = by (others id) refl e
   where
     by : (found : Option (List ServerId)) → others id ≡ found → option_map (λ rest. id ∷ rest) found ≡ Some ids →
         IsThen (Some id) others ids
@@ -174,11 +171,11 @@ substitutes-each : (P : List ServerId → List Member → List ServerId → Type
     → P (id ∷ taken) members rest → P taken (member ∷ members) (id ∷ rest))
     → ((taken : List ServerId) (member : Member) (members : List Member) (found : List ServerId) → member.lost ≡ false →
     substitutes ids taken members ≡ Some found → P taken members found → P taken (member ∷ members) found)
-    → (taken : List ServerId) (members : List Member) (found : List ServerId) →
+    → (taken : List ServerId) (members : List Member) {found : List ServerId} →
     substitutes ids taken members ≡ Some found → P taken members found
-substitutes-each P ids none lost stays taken [] found e = let same : [] ≡ found = cc in subst (λ l. P taken [] l) same (none taken)
-substitutes-each P ids none lost stays taken (member ∷ members) found e =
-    by member.lost refl e (λ other more at. substitutes-each P ids none lost stays other members more at)
+substitutes-each P ids none lost stays taken [] {found} e = let same : [] ≡ found = cc in subst (λ l. P taken [] l) same (none taken)
+substitutes-each P ids none lost stays taken (member ∷ members) {found} e =
+    by member.lost refl e (λ other more at. substitutes-each P ids none lost stays other members at)
   where
     by : (b : Bool) → member.lost ≡ b →
         cond b (option_and_then (λ id. option_map (λ rest. id ∷ rest) (substitutes ids (id ∷ taken) members)) (first_free ids taken))
@@ -186,7 +183,7 @@ substitutes-each P ids none lost stays taken (member ∷ members) found e =
         → ((other more : List ServerId) → substitutes ids other members ≡ Some more → P other members more) →
         P taken (member ∷ members) found
     by true is e rec =
-        let p = then-parts (first_free ids taken) (λ id. substitutes ids (id ∷ taken) members) found e in
+        let p = then-parts (first_free ids taken) e in
         subst (λ l. P taken (member ∷ members) l) (sym p.ids_are)
         (lost taken member members p.id p.rest is p.first_is p.rest_is (rec (p.id ∷ taken) p.rest p.rest_is))
     by false is e rec = stays taken member members found is e (rec taken found e)
@@ -195,12 +192,11 @@ substitutes-each P ids none lost stays taken (member ∷ members) found e =
 abbrev FreeOf : List ServerId → List Member → List ServerId → Type 0
 FreeOf taken members found = (x y : ServerId) → In x found → In y taken → x.index ≡ y.index → ⊥
 
-substitutes-free : (ids taken : List ServerId) (members : List Member) (found : List ServerId) →
+substitutes-free : (ids taken : List ServerId) (members : List Member) {found : List ServerId} →
     substitutes ids taken members ≡ Some found → FreeOf taken members found
-substitutes-free ids taken members found e = substitutes-each FreeOf ids
-    (λ other x y at_x at_y same. absurd at_x)
+substitutes-free ids taken members e = substitutes-each FreeOf ids (λ other x y at_x at_y same. absurd at_x)
     (λ other member more id rest lost first_is rest_is rec x y at_x at_y same. by other id rest first_is rec x y at_x at_y same)
-    (λ other member more some stays is rec x y at_x at_y same. rec x y at_x at_y same) taken members found e
+    (λ other member more some stays is rec x y at_x at_y same. rec x y at_x at_y same) taken members e
   where
     by : (other : List ServerId) (id : ServerId) (rest : List ServerId) → first_free ids other ≡ Some id →
         ((x y : ServerId) → In x rest → (y ≡ id) ⊎ In y other → x.index ≡ y.index → ⊥)
@@ -225,27 +221,26 @@ staying-stays member members e =
     ap (λ b. map (λ (one : Member). one.id) (cond (not b) (member ∷ filter (λ one. not one.lost) members)
     (filter (λ one. not one.lost) members))) e
 
-replaced-lost : (member : Member) (members : List Member) (id : ServerId) (ids : List ServerId) → member.lost ≡ true →
+replaced-lost : (member : Member) (members : List Member) {id : ServerId} (ids : List ServerId) → member.lost ≡ true →
     replaced (member ∷ members) (id ∷ ids) ≡ new_member id ∷ replaced members ids
-replaced-lost member members id ids e = ap (λ b. cond b (new_member id ∷ replaced members ids) (member ∷ replaced members (id ∷ ids))) e
+replaced-lost member members {id} ids e = ap (λ b. cond b (new_member id ∷ replaced members ids) (member ∷ replaced members (id ∷ ids))) e
 
-replaced-stays : (member : Member) (members : List Member) (ids : List ServerId) → member.lost ≡ false →
+replaced-stays : {member : Member} (members : List Member) (ids : List ServerId) → member.lost ≡ false →
     replaced (member ∷ members) ids ≡ member ∷ replaced members ids
-replaced-stays member members [] e = ap (λ l. member ∷ l) (sym (replaced-none members))
-replaced-stays member members (id ∷ ids) e =
+replaced-stays {member} members [] e = ap (λ l. member ∷ l) (sym (replaced-none members))
+replaced-stays {member} members (id ∷ ids) e =
     ap (λ b. cond b (new_member id ∷ replaced members ids) (member ∷ replaced members (id ∷ ids))) e
 
 abbrev OnlyThese : List ServerId → List Member → List ServerId → Type 0
 OnlyThese taken members found = (y : ServerId) → In y (ids_of (replaced members found)) → In y found ⊎ In y (staying members)
 
-replaced-only : (ids taken : List ServerId) (members : List Member) (found : List ServerId) →
+replaced-only : (ids taken : List ServerId) (members : List Member) {found : List ServerId} →
     substitutes ids taken members ≡ Some found → OnlyThese taken members found
-replaced-only ids taken members found e = substitutes-each OnlyThese ids
-    (λ other y at. absurd at)
+replaced-only ids taken members e = substitutes-each OnlyThese ids (λ other y at. absurd at)
     (λ other member more id rest lost first_is rest_is rec y at. lost_first member more id rest lost rec y
-    (subst (λ l. In y (ids_of l)) (replaced-lost member more id rest lost) at))
+    (subst (λ l. In y (ids_of l)) (replaced-lost member more rest lost) at))
     (λ other member more some stays is rec y at. stays_first member more some stays rec y
-    (subst (λ l. In y (ids_of l)) (replaced-stays member more some stays) at)) taken members found e
+    (subst (λ l. In y (ids_of l)) (replaced-stays more some stays) at)) taken members e
   where
     lost_first : (member : Member) (more : List Member) (id : ServerId) (rest : List ServerId) → member.lost ≡ true →
         ((y : ServerId) → In y (ids_of (replaced more rest)) → In y rest ⊎ In y (staying more))
@@ -279,32 +274,30 @@ abbrev StillApart : List ServerId → List Member → List ServerId → Type 0
 StillApart taken members found = ((y : ServerId) → In y (staying members) → In y taken) →
     OnDifferentHosts (ids_of members) → OnDifferentHosts (ids_of (replaced members found))
 
-replaced-apart : (ids taken : List ServerId) (members : List Member) (found : List ServerId) →
+replaced-apart : (ids taken : List ServerId) (members : List Member) {found : List ServerId} →
     substitutes ids taken members ≡ Some found → StillApart taken members found
-replaced-apart ids taken members found e = substitutes-each StillApart ids
-    (λ other within p. tt)
+replaced-apart ids taken members e = substitutes-each StillApart ids (λ other within p. tt)
     (λ other member more id rest lost first_is rest_is rec within p.
     let still_in : (y : ServerId) → In y (staying more) → In y other =
     λ y at. within y (subst (λ l. In y l) (sym (staying-lost member more lost)) at) in
-    subst (λ l. OnDifferentHosts (ids_of l)) (sym (replaced-lost member more id rest lost)) (
+    subst (λ l. OnDifferentHosts (ids_of l)) (sym (replaced-lost member more rest lost)) (
       not_on-each id (ids_of (replaced more rest)) (λ y at same. lost_first other more id rest first_is rest_is still_in
-          y (replaced-only ids (id ∷ other) more rest rest_is y at) same),
+          y (replaced-only ids (id ∷ other) more rest_is y at) same),
       rec (λ y at. inr (still_in y at)) p.1,
-    ))
-    (λ other member more some stays is rec within p.
+    )) (λ other member more some stays is rec within p.
     let still_in : (y : ServerId) → (y ≡ member.id) ⊎ In y (staying more) → In y other =
     λ y at. within y (subst (λ l. In y l) (sym (staying-stays member more stays)) at) in
-    subst (λ l. OnDifferentHosts (ids_of l)) (sym (replaced-stays member more some stays)) (
+    subst (λ l. OnDifferentHosts (ids_of l)) (sym (replaced-stays more some stays)) (
       not_on-each member.id (ids_of (replaced more some)) (λ y at same. stays_first other member more some is still_in
-          p.0 y (replaced-only ids other more some is y at) same),
+          p.0 y (replaced-only ids other more is y at) same),
       rec (λ y at. still_in y (inr at)) p.1,
-    )) taken members found e
+    )) taken members e
   where
     lost_first : (other : List ServerId) (more : List Member) (id : ServerId) (rest : List ServerId) →
         first_free ids other ≡ Some id → substitutes ids (id ∷ other) more ≡ Some rest
         → ((y : ServerId) → In y (staying more) → In y other) → (y : ServerId) → In y rest ⊎ In y (staying more) → id.index ≡ y.index → ⊥
     lost_first other more id rest first_is rest_is within y (inl there) same =
-        substitutes-free ids (id ∷ other) more rest rest_is y id there (inl refl) (sym same)
+        substitutes-free ids (id ∷ other) more rest_is y id there (inl refl) (sym same)
     lost_first other more id rest first_is rest_is within y (inr there) same =
         first_free-apart ids other id first_is y (within y there) same
 
@@ -313,7 +306,7 @@ replaced-apart ids taken members found e = substitutes-each StillApart ids
         → ((y : ServerId) → (y ≡ member.id) ⊎ In y (staying more) → In y other) → NotOnHostOf member.id (ids_of more) →
         (y : ServerId) → In y some ⊎ In y (staying more) → member.id.index ≡ y.index → ⊥
     stays_first other member more some is within free y (inl there) same =
-        substitutes-free ids other more some is y member.id there (within member.id (inl refl)) (sym same)
+        substitutes-free ids other more is y member.id there (within member.id (inl refl)) (sym same)
     stays_first other member more some is within free y (inr there) same =
         apart-not member.id y (ids_of more) (staying-In y more there) free same
 
@@ -322,11 +315,11 @@ ids-anew [] = refl
 ids-anew (member ∷ members) = ap (λ ids. member.id ∷ ids) (ids-anew members)
 
 -- the members after a change are on different hosts
-pub apart-substituted : (ids : List ServerId) (members : List Member) (found : List ServerId) →
+pub apart-substituted : (ids : List ServerId) (members : List Member) {found : List ServerId} →
     OnDifferentHosts (ids_of members) → substitutes ids (staying members) members ≡ Some found
     → OnDifferentHosts (ids_of (map (λ member. new_member member.id) (replaced members found)))
-apart-substituted ids members found p e =
-    subst OnDifferentHosts (sym (ids-anew (replaced members found))) (replaced-apart ids (staying members) members found e (λ y at. at) p)
+apart-substituted ids members {found} p e =
+    subst OnDifferentHosts (sym (ids-anew (replaced members found))) (replaced-apart ids (staying members) members e (λ y at. at) p)
 
 -- Of rows with one id the first counts: those that are up stay on different hosts
 

@@ -26,15 +26,14 @@ use Rattle.rc_model.proofs.Sending.{each-to_ids}
 
 -- A segment whole, closed where it is shut, is a Place of it
 
-pub place-whole : (sent : List Message) (m : ServerId) (log : Log) (x : ServerId) (s : ℕ) (closed : Bool) →
-    IsOpened log s → (log.segments s).shut ≡ closed
-    → (closed ≡ false → In x (ids_of (log.segments s).config.members))
+pub place-whole : {sent : List Message} {m : ServerId} {log : Log} {x : ServerId} {s : ℕ} {closed : Bool} →
+    IsOpened log s → (log.segments s).shut ≡ closed → (closed ≡ false → In x (ids_of (log.segments s).config.members))
     → IsPlace sent m log x s (log.segments s).config.epoch (log.segments s).digest (log_in log s) closed
-place-whole sent m log x s closed opened is member = record {
+place-whole opened is member = record {
   opened = opened;
   epoch = omega arith;
   digest_is = refl;
-  begins = begins-refl (log_in log s);
+  begins = begins-refl;
   whole = λ e. (is ∙ e, refl);
   member = λ e same open_now. member e;
   told = λ e same shut. true_false (sym shut ∙ is ∙ e);
@@ -42,37 +41,29 @@ place-whole sent m log x s closed opened is member = record {
 
 -- Marks of lost members
 
-marked-log : (sent : List Message) (m : ServerId) (log : Log) (s : ℕ) (servers : ServerList) → GoodLog sent m log →
+marked-log : {sent : List Message} {m : ServerId} {log : Log} {s : ℕ} (servers : ServerList) → GoodLog sent m log →
     OwnFine sent m log → IsOpened log s
     → LogMoved sent m log (with_config s (with_lost servers (log.segments s).config) log) []
-marked-log sent m log s servers good fine opened =
-    config-moved sent m log s (with_lost servers (log.segments s).config) good fine opened
-    (steady-members sent m log.phase log.head s (log.segments s)
-    (map (lost_if_crashed servers) (log.segments s).config.members) (good.each s)
-    (λ _. ids-lost servers (log.segments s).config.members)
-    (each-lost sent m s (log.segments s).config.epoch servers (log.segments s).config.members
+marked-log {sent} {m} {log} {s} servers good fine opened = config-moved good fine opened (steady-members (good.each s)
+    (λ _. ids-lost servers (log.segments s).config.members) (each-lost servers (log.segments s).config.members
     (each-noted sent m log.phase log.head s (log.segments s) (good.each s))))
 
 -- A shut segment is refilled
 
-refilled-log : (sent : List Message) (m : ServerId) (log : Log) (s : ℕ) (servers : ServerList) (ids : List ServerId) →
+refilled-log : {sent : List Message} {m : ServerId} {log : Log} {s : ℕ} (servers : ServerList) (ids : List ServerId) →
     GoodLog sent m log → OwnFine sent m log → IsOpened log s → (log.segments s).shut ≡ true
-    → LogMoved sent m log (with_config s
-    (record (with_lost servers (log.segments s).config)
-    { members = replaced (with_lost servers (log.segments s).config).members ids }) log)
-    (to_ids log.own ids (place_of
+    → LogMoved sent m log (with_config s (record (with_lost servers (log.segments s).config)
+    { members = replaced (with_lost servers (log.segments s).config).members ids }) log) (to_ids log.own ids (place_of
     (with_config s (record (with_lost servers (log.segments s).config)
     { members = replaced (with_lost servers (log.segments s).config).members ids }) log) s
     ((with_config s (record (with_lost servers (log.segments s).config)
     { members = replaced (with_lost servers (log.segments s).config).members ids }) log).segments s).shut))
-refilled-log sent m log s servers ids good fine opened shut =
-    steady-moved sent m log s new messages good fine opened steady
+refilled-log {sent} {m} {log} {s} servers ids good fine opened shut = steady-moved good fine opened steady
     (each-to_ids (MasterSays sent (sent ++ messages) m log log_now) log.own ids
     (place_of log_now s (log_now.segments s).shut) (λ x at. record {
       from = ap Server good.own;
       says = (
-        place-whole (sent ++ messages) m log_now x s (log_now.segments s).shut
-            (record { above = opened.above; below = opened.below }) refl (λ e. true_false (sym shut_now ∙ e)),
+        place-whole (record { above = opened.above; below = opened.below }) refl (λ e. true_false (sym shut_now ∙ e)),
         record {
           long = (let same : length (log_in log_now s) ≡ length (log_in log s) = ap
               (λ (segment : Segment). length (map (λ (one : Entry × Bool). one.0) segment.entries)) at_new in
@@ -80,8 +71,7 @@ refilled-log sent m log s servers ids good fine opened shut =
           known = λ e upto under. true_false (sym shut_now ∙ e);
         },
       );
-    }))
-    (λ x t e digest entries at. (
+    })) (λ x t e digest entries at. (
     let place = place-to_ids m log.own ids x t e s (log_now.segments s).config.epoch digest (log_now.segments s).digest
     entries (log_in log_now s) false (log_now.segments s).shut at in
     true_false (sym shut_now ∙ sym place.1.closed_is)))
@@ -106,26 +96,24 @@ refilled-log sent m log s servers ids good fine opened shut =
     shut_now = ap (λ (segment : Segment). segment.shut) at_new ∙ shut
 
     steady : SegmentSteady sent m s (log.segments s) new
-    steady = steady-members sent m log.phase log.head s (log.segments s)
-        (replaced (map (lost_if_crashed servers) (log.segments s).config.members) ids) (good.each s)
-        (λ open_now. true_false (sym shut ∙ open_now))
+    steady = steady-members (good.each s) (λ open_now. true_false (sym shut ∙ open_now))
         (each-replaced sent m s (log.segments s).config.epoch (map (lost_if_crashed servers) (log.segments s).config.members) ids
-        (each-lost sent m s (log.segments s).config.epoch servers (log.segments s).config.members
+        (each-lost servers (log.segments s).config.members
         (each-noted sent m log.phase log.head s (log.segments s) (good.each s))))
 
 -- An open one takes a fresh epoch
 
-changed-log : (sent : List Message) (m : ServerId) (log : Log) (s : ℕ) (servers : ServerList) (ids : List ServerId) →
+changed-log : {sent : List Message} {m : ServerId} {log : Log} {s : ℕ} (servers : ServerList) {ids : List ServerId} →
     GoodLog sent m log → OwnFine sent m log → IsOpened log s → (log.segments s).shut ≡ false
     → substitutes_for log.own servers (with_lost servers (log.segments s).config) ≡ Some ids
     → LogMoved sent m log (with_segment s (under_new_epoch (changed (with_lost servers (log.segments s).config) ids) (log.segments s)) log)
     (to_ids log.own (map (λ member. member.id) (changed (with_lost servers (log.segments s).config) ids).members)
     (place_of (with_segment s (under_new_epoch (changed (with_lost servers (log.segments s).config) ids) (log.segments s)) log) s
     ((with_segment s (under_new_epoch (changed (with_lost servers (log.segments s).config) ids) (log.segments s)) log).segments s).shut))
-changed-log sent m log s servers ids good fine opened open_now found = put-moved sent m log s new messages good fine (record {
+changed-log {sent} {m} {log} {s} servers {ids} good fine opened open_now found = put-moved good fine (record {
   opened = opened;
   later = record {
-    grows = begins-refl old.entries;
+    grows = begins-refl;
     final = λ below. refl;
     digest = λ upto. refl;
     epoch = λ upto. omega arith;
@@ -144,7 +132,7 @@ changed-log sent m log s servers ids good fine opened open_now found = put-moved
       placed = In-right (between m x (Place s (old.config.epoch + 1) (log_now.segments s).digest (log_in log_now s)
           false)) sent messages (placed_it x at);
     };
-    apart = λ is. apart-substituted (candidates old.config.seg log.own servers) lost_members ids
+    apart = λ is. apart-substituted (candidates old.config.seg log.own servers) lost_members
         (subst OnDifferentHosts (sym (ids-lost servers old.config.members)) ((good.each s).apart open_now)) found;
     noted = λ member at o less. (each-new (sent ++ messages) m s (old.config.epoch + 1) (replaced lost_members ids) member at).len o less;
     noted_closed = λ member at told.
@@ -156,8 +144,7 @@ changed-log sent m log s servers ids good fine opened open_now found = put-moved
       (place_of log_now s (log_now.segments s).shut) (λ x at. record {
         from = ap Server good.own;
         says = (
-          place-whole (sent ++ messages) m log_now x s (log_now.segments s).shut
-              (record { above = opened.above; below = opened.below }) refl
+          place-whole (record { above = opened.above; below = opened.below }) refl
               (λ _. subst (λ (segment : Segment). In x (ids_of segment.config.members)) (sym at_new) at),
           record {
             long = (let same : length (log_in log_now s) ≡ length (log_in log s) = ap
@@ -219,81 +206,79 @@ changed-log sent m log s servers ids good fine opened open_now found = put-moved
 
 -- One segment
 
-moved-marked : (sent : List Message) (m : ServerId) (master : Master) (s : ℕ) (servers : ServerList) →
+moved-marked : {sent : List Message} {m : ServerId} {master : Master} {s : ℕ} (servers : ServerList) →
     GoodView sent m master → IsOpened master.log s
     → Moved sent m master (with_log master (with_config s (with_lost servers (master.log.segments s).config) master.log), [])
-moved-marked sent m master s servers view opened =
-    record { log = marked-log sent m master.log s servers view.log view.fine opened; known = view.known }
+moved-marked servers view opened =
+    record { log = marked-log servers view.log view.fine opened; known = view.known }
 
-moved-refills : (sent : List Message) (m : ServerId) (master : Master) (s : ℕ) (servers : ServerList)
+moved-refills : {sent : List Message} {m : ServerId} {master : Master} {s : ℕ} (servers : ServerList)
     (found : Option (List ServerId)) → GoodView sent m master → IsOpened master.log s
-    → (master.log.segments s).shut ≡ true
-    → Moved sent m master (places_segment s master
+    → (master.log.segments s).shut ≡ true → Moved sent m master (places_segment s master
     (refills s master.log (refills_with (with_lost servers (master.log.segments s).config) found)))
-moved-refills sent m master s servers None view opened shut = moved-marked sent m master s servers view opened
-moved-refills sent m master s servers (Some ids) view opened shut =
-    record { log = refilled-log sent m master.log s servers ids view.log view.fine opened shut; known = view.known }
+moved-refills servers None view opened shut = moved-marked servers view opened
+moved-refills servers (Some ids) view opened shut =
+    record { log = refilled-log servers ids view.log view.fine opened shut; known = view.known }
 
-moved-changes : (sent : List Message) (m : ServerId) (master : Master) (s : ℕ) (servers : ServerList)
+moved-changes : {sent : List Message} {m : ServerId} {master : Master} {s : ℕ} (servers : ServerList)
     (found : Option (List ServerId)) → GoodView sent m master → IsOpened master.log s
     → (master.log.segments s).shut ≡ false →
     substitutes_for master.log.own servers (with_lost servers (master.log.segments s).config) ≡ found
     → Moved sent m master (places_segment s master
     (opens_change s master.log (changes_to (with_lost servers (master.log.segments s).config) found)))
-moved-changes sent m master s servers None view opened open_now e = moved-marked sent m master s servers view opened
-moved-changes sent m master s servers (Some ids) view opened open_now e =
+moved-changes servers None view opened open_now e = moved-marked servers view opened
+moved-changes {sent} {m} {master} {s} servers (Some ids) view opened open_now e =
     either (λ result. Moved sent m master (places_segment s master (opens_change s master.log result)))
     (nat_lt (master.log.segments s).config.epoch LAST_EPOCH)
     (changed (with_lost servers (master.log.segments s).config) ids, Ok true)
     (with_lost servers (master.log.segments s).config, Err EpochsExhausted)
-    (λ _. record { log = changed-log sent m master.log s servers ids view.log view.fine opened open_now e; known = view.known })
-    (λ _. moved-marked sent m master s servers view opened)
+    (λ _. record { log = changed-log servers view.log view.fine opened open_now e; known = view.known })
+    (λ _. moved-marked servers view opened)
 
-moved-loses : (sent : List Message) (m : ServerId) (master : Master) (s : ℕ) → GoodView sent m master →
+moved-loses : {sent : List Message} {m : ServerId} {master : Master} {s : ℕ} → GoodView sent m master →
     IsOpened master.log s → Moved sent m master (places_segment s master (loses master.known s master.log))
-moved-loses sent m master s view opened =
+moved-loses {sent} {m} {master} {s} view opened =
     either (λ result. Moved sent m master (places_segment s master result)) (master.log.segments s).shut
     (refills s master.log (refill master.log.own master.known (master.log.segments s).config))
     (opens_change s master.log (lose master.log.own master.known (master.log.segments s).config))
-    (λ shut. moved-refills sent m master s master.known (substitutes_for master.log.own master.known marked_now) view opened shut)
+    (λ shut. moved-refills master.known (substitutes_for master.log.own master.known marked_now) view opened shut)
     (λ open_now. either (λ result. Moved sent m master (places_segment s master (opens_change s master.log result)))
     (any_lost marked_now.members)
     (changes_to marked_now (substitutes_for master.log.own master.known marked_now)) (marked_now, Ok false)
-    (λ _. moved-changes sent m master s master.known (substitutes_for master.log.own master.known marked_now) view opened open_now refl)
-    (λ _. moved-marked sent m master s master.known view opened))
+    (λ _. moved-changes master.known (substitutes_for master.log.own master.known marked_now) view opened open_now refl)
+    (λ _. moved-marked master.known view opened))
   where
     marked_now : Config
     marked_now = with_lost master.known (master.log.segments s).config
 
-moved-replaces_lost : (sent : List Message) (m : ServerId) (master : Master) (s : ℕ) → GoodView sent m master →
+moved-replaces_lost : {sent : List Message} {m : ServerId} {master : Master} {s : ℕ} → GoodView sent m master →
     IsOpened master.log s → Moved sent m master (replaces_lost master s)
-moved-replaces_lost sent m master s view opened =
+moved-replaces_lost {sent} {m} {master} {s} view opened =
     either (λ after. Moved sent m master after) (master.log.segments s).freed (master, [])
     (places_segment s master (loses master.known s master.log))
-    (λ _. still sent m master view) (λ _. moved-loses sent m master s view opened)
+    (λ _. still sent m master view) (λ _. moved-loses view opened)
 
 -- All of them
 
-moved-replaces_lost_of : (sent : List Message) (m : ServerId) (segs : List ℕ) (master : Master) →
+moved-replaces_lost_of : (sent : List Message) {m : ServerId} (segs : List ℕ) {master : Master} →
     GoodView sent m master → ((s : ℕ) → In s segs → IsOpened master.log s)
     → Moved sent m master (replaces_lost_of segs master)
-moved-replaces_lost_of sent m [] master view opened = still sent m master view
-moved-replaces_lost_of sent m (s ∷ segs) master view opened =
-    let first : Moved sent m master (replaces_lost master s) = moved-replaces_lost sent m master s view (opened s (inl refl)) in
-    moved-then_does sent m master (replaces_lost master s) (λ after. replaces_lost_of segs after) view first
-    (λ now. moved-replaces_lost_of (sent ++ (replaces_lost master s).1) m segs (replaces_lost master s).0 now
+moved-replaces_lost_of sent {m} [] {master} view opened = still sent m master view
+moved-replaces_lost_of sent {m} (s ∷ segs) {master} view opened =
+    let first : Moved sent m master (replaces_lost master s) = moved-replaces_lost view (opened s (inl refl)) in
+    moved-then_does (λ after. replaces_lost_of segs after) view first
+    (λ now. moved-replaces_lost_of (sent ++ (replaces_lost master s).1) segs now
     (λ t at. (let was = opened t (inr at) in record { above = was.above; below = omega (arith, was.below, first.log.later.head) })))
 
 -- The first head
 
-moved-opens_first : (sent : List Message) (m : ServerId) (master : Master) (found : Option (List ServerId)) →
-    GoodView sent m master → master.log.head ≡ 0
-    → choose 1 master.log.own master.log.factor master.known ≡ found →
+moved-opens_first : {sent : List Message} {m : ServerId} {master : Master} (found : Option (List ServerId)) →
+    GoodView sent m master → master.log.head ≡ 0 → choose 1 master.log.own master.log.factor master.known ≡ found →
     Moved sent m master (opens_first master (opened_on master.log (1 ∷ []) found))
-moved-opens_first sent m master None view none e = still sent m master view
-moved-opens_first sent m master (Some ids) view none e = record {
-  log = opens-moved sent m master.log (1 ∷ []) ids view.log view.fine (λ s above less. absurd (omega arith))
-      (apart-choose 1 master.log.own master.log.factor master.known ids view.known e)
+moved-opens_first {sent} {m} {master} None view none e = still sent m master view
+moved-opens_first {master} (Some ids) view none e = record {
+  log = opens-moved ids view.log view.fine (λ s above less. absurd (omega arith))
+      (apart-choose 1 master.log.own master.log.factor master.known view.known e)
       (record { own = inl (omega arith); upto = λ t at. by t at; lacks = λ t above less. absurd (omega arith) });
   known = view.known;
 }
@@ -302,33 +287,30 @@ moved-opens_first sent m master (Some ids) view none e = record {
     by t (inl same) = (omega arith, omega arith)
     by t (inr nothing) = absurd nothing
 
-moved-tries_first : (sent : List Message) (m : ServerId) (master : Master) → GoodView sent m master →
+moved-tries_first : {sent : List Message} {m : ServerId} {master : Master} → GoodView sent m master →
     Moved sent m master (tries_first master)
-moved-tries_first sent m master view =
+moved-tries_first {sent} {m} {master} view =
     either (λ after. Moved sent m master after) (nat_eq master.log.head 0 && is_up master.known master.log.own)
     (opens_first master (open_first master.known master.log)) (master, [])
-    (λ e. moved-opens_first sent m master (choose 1 master.log.own master.log.factor master.known) view
+    (λ e. moved-opens_first (choose 1 master.log.own master.log.factor master.known) view
     (eqb-true master.log.head 0 (and_parts (nat_eq master.log.head 0) (is_up master.known master.log.own) e).0) refl)
     (λ _. still sent m master view)
 
 -- The list rules
 
-pub moved-obeys : (sent : List Message) (m : ServerId) (master : Master) → GoodView sent m master → Moved sent m master (obeys_list master)
-moved-obeys sent m master view =
-    moved-then_does sent m master (replaces_lost_of (numbers_to master.log.head) master) tries_first view
-    (moved-replaces_lost_of sent m (numbers_to master.log.head) master view
+pub moved-obeys : {sent : List Message} {m : ServerId} {master : Master} → GoodView sent m master → Moved sent m master (obeys_list master)
+moved-obeys {sent} {master} view = moved-then_does tries_first view
+    (moved-replaces_lost_of sent (numbers_to master.log.head) view
     (λ s at. (let p = numbers-In s master.log.head at in record { above = p.0; below = p.1 })))
-    (λ now. moved-tries_first (sent ++ (replaces_lost_of (numbers_to master.log.head) master).1) m
-    (replaces_lost_of (numbers_to master.log.head) master).0 now)
+    (λ now. moved-tries_first now)
 
 -- a List message, with rows of which those that are up are on different hosts
-pub moved-takes_list : (sent : List Message) (m : ServerId) (master : Master) (version : ℕ)
+pub moved-takes_list : {sent : List Message} {m : ServerId} {master : Master} (version : ℕ)
     (rows : List (ServerId × Bool)) → GoodView sent m master → OnDifferentHosts (up_rows rows)
     → Moved sent m master (takes_list master (from_rows version rows))
-moved-takes_list sent m master version rows view apart =
+moved-takes_list {sent} {m} {master} version rows view apart =
     either (λ after. Moved sent m master after) (newer_than (from_rows version rows) master.known) (obeys_list knowing) (master, [])
-    (λ _. (let done = moved-obeys sent m knowing
-    (record { log = view.log; fine = view.fine; known = apart-rows rows apart }) in
+    (λ _. (let done = moved-obeys (record { log = view.log; fine = view.fine; known = apart-rows rows apart }) in
     record { log = done.log; known = done.known }))
     (λ _. still sent m master view)
   where

@@ -56,7 +56,7 @@ segment-more {sent} {sent_now} {m} {phase} {head} {s} {segment} more p = record 
   apart = p.apart;
   noted = λ member at o less. told-more more (p.noted member at o less);
   noted_closed = λ member at told. told_closed-more more (p.noted_closed member at told);
-  committed = λ is. committed-more sent sent_now m s segment.config.epoch more (p.committed is);
+  committed = λ is. committed-more sent sent_now m s more (p.committed is);
 }
 
 -- A move
@@ -91,9 +91,9 @@ new_places sent m old new messages says x s e digest entries closed at =
     In-either (between m x (Place s e digest entries closed)) sent messages at (λ there. inl there)
     (λ now. inr (places-said sent (sent ++ messages) m old new messages says x s e digest entries closed now).1)
 
-pub grown-moved : (sent : List Message) (m : ServerId) (old new : Log) (messages : List Message) → GoodLog sent m old →
+pub grown-moved : {sent : List Message} {m : ServerId} {old new : Log} {messages : List Message} → GoodLog sent m old →
     LogMoved sent m old new messages → Grown sent (sent ++ messages) m old new
-grown-moved sent m old new messages good moved = record {
+grown-moved {sent} {m} {old} {new} {messages} good moved = record {
   more = more-left sent messages;
   later = moved.later;
   places = new_places sent m old new messages moved.says;
@@ -101,26 +101,23 @@ grown-moved sent m old new messages good moved = record {
 }
 
 -- what was said stays right as the log goes on
-body_said-grown : (sent one_sent two_sent : List Message) (m : ServerId) (one two three : Log) (to : Addr)
+body_said-grown : (sent : List Message) {one_sent two_sent : List Message} {m : ServerId} (one : Log) {two three : Log} (to : Addr)
     (body : Body) → Grown one_sent two_sent m two three
     → body_said sent one_sent m one two to body → body_said sent two_sent m one three to body
-body_said-grown sent one_sent two_sent m one two three (Server x) (Place s e digest entries closed) grown p =
-    (place-grown one_sent two_sent m two three x s e digest entries closed grown p.0, p.1)
-body_said-grown sent one_sent two_sent m one two three Coordinator (Place s e digest entries closed) grown p = absurd p
-body_said-grown sent one_sent two_sent m one two three Outside (Place s e digest entries closed) grown p = absurd p
-body_said-grown sent one_sent two_sent m one two three to (Append s offset entries) grown p =
-    append-grown one_sent two_sent m two three s offset entries grown p
-body_said-grown sent one_sent two_sent m one two three to (Close s len) grown p = close-grown one_sent two_sent m two three s len grown p
-body_said-grown sent one_sent two_sent m one two three to (WriteOk s o term table key version) grown p =
-    write_ok-grown one_sent two_sent m two three s o term table key version grown p
-body_said-grown sent one_sent two_sent m one two three to _ grown p = p
+body_said-grown sent one (Server x) (Place s e digest entries closed) grown p = (place-grown grown p.0, p.1)
+body_said-grown sent one Coordinator (Place s e digest entries closed) grown p = absurd p
+body_said-grown sent one Outside (Place s e digest entries closed) grown p = absurd p
+body_said-grown sent one to (Append s offset entries) grown p = append-grown grown p
+body_said-grown sent one to (Close s len) grown p = close-grown grown p
+body_said-grown sent one to (WriteOk s o term table key version) grown p = write_ok-grown grown p
+body_said-grown sent one to _ grown p = p
 
 -- what is new after two moves
-place-earlier : (sent one_sent : List Message) (m : ServerId) (one two : Log) (x : ServerId) (s e : ℕ)
-    (entries : List Entry) (closed : Bool) → Grown sent one_sent m one two
+place-earlier : {sent one_sent : List Message} {m : ServerId} {one two : Log} {x : ServerId} {s e : ℕ}
+    {entries : List Entry} {closed : Bool} → Grown sent one_sent m one two
     → IsNewPlace one_sent m two x s e entries closed → IsNewPlace sent m one x s e entries closed
-place-earlier sent one_sent m one two x s e entries closed grown p = record {
-  long = (let longer = length-log one_sent m one two grown.later s in omega (arith, p.long));
+place-earlier {sent} {one_sent} {m} {one} {x} {s} {e} {entries} grown p = record {
+  long = (let longer = length-log grown.later s in omega (arith, p.long));
   known = λ is upto under. by upto under
       (p.known is (omega (arith, upto, grown.later.head)) (let higher = grown.later.epoch s upto in
       omega (arith, under)));
@@ -135,24 +132,23 @@ place-earlier sent one_sent m one two x s e entries closed grown p = record {
     by : s ≤ one.head → e ≤ (one.segments s).config.epoch → IsMember one_sent m s e x → IsMember sent m s e x
     by upto under at = either_one at upto under (grown.places x s e at.digest at.entries false at.placed)
 
-body_said-earlier : (sent one_sent two_sent : List Message) (m : ServerId) (one two three : Log) (to : Addr)
+body_said-earlier : {sent one_sent : List Message} (two_sent : List Message) {m : ServerId} {one two : Log} (three : Log) (to : Addr)
     (body : Body) → Grown sent one_sent m one two
     → body_said one_sent two_sent m two three to body → body_said sent two_sent m one three to body
-body_said-earlier sent one_sent two_sent m one two three (Server x) (Place s e digest entries closed) grown p =
-    (p.0, place-earlier sent one_sent m one two x s e entries closed grown p.1)
-body_said-earlier sent one_sent two_sent m one two three Coordinator (Place s e digest entries closed) grown p = absurd p
-body_said-earlier sent one_sent two_sent m one two three Outside (Place s e digest entries closed) grown p = absurd p
-body_said-earlier sent one_sent two_sent m one two three to _ grown p = p
+body_said-earlier two_sent three (Server x) (Place s e digest entries closed) grown p = (p.0, place-earlier grown p.1)
+body_said-earlier two_sent three Coordinator (Place s e digest entries closed) grown p = absurd p
+body_said-earlier two_sent three Outside (Place s e digest entries closed) grown p = absurd p
+body_said-earlier two_sent three to _ grown p = p
 
 -- two moves make one
-moved-at : (sent one_sent two_sent : List Message) (m : ServerId) (one two three : Log) (first second : List Message) →
+moved-at : {sent one_sent two_sent : List Message} {m : ServerId} {one two three : Log} {first second : List Message} →
     Grown sent one_sent m one two → Grown one_sent two_sent m two three
     → LogMovedAt sent one_sent m one two first → LogMovedAt one_sent two_sent m two three second →
     LogMovedAt sent two_sent m one three (first ++ second)
-moved-at sent one_sent two_sent m one two three first second early late p q = record {
+moved-at {sent} {two_sent} {m} {one} {three} {first} {second} early late p q = record {
   good = q.good;
   fine = q.fine;
-  later = log_later-trans one_sent two_sent m one two three late.more p.later q.later;
+  later = log_later-trans late.more p.later q.later;
   says = λ message at. by message (In-append message first second at);
 }
   where
@@ -160,22 +156,19 @@ moved-at sent one_sent two_sent m one two three first second early late p q = re
     by message (inl at) = (let old = p.says message at in
         record {
           from = old.from;
-          says = body_said-grown sent one_sent two_sent m one two three message.to message.body
-              late old.says;
+          says = body_said-grown sent one message.to message.body late old.says;
         })
     by message (inr at) = (let new = q.says message at in
         record {
           from = new.from;
-          says = body_said-earlier sent one_sent two_sent m one two three message.to
-              message.body early new.says;
+          says = body_said-earlier two_sent three message.to message.body early new.says;
         })
 
-pub log_moved-then : (sent : List Message) (m : ServerId) (one two three : Log) (first second : List Message) → GoodLog sent m one
+pub log_moved-then : {sent : List Message} {m : ServerId} {one two three : Log} {first second : List Message} → GoodLog sent m one
     → LogMoved sent m one two first → LogMoved (sent ++ first) m two three second → LogMoved sent m one three (first ++ second)
-log_moved-then sent m one two three first second good p q =
-    subst (λ now. LogMovedAt sent now m one three (first ++ second)) (append_assoc sent first second)
-    (moved-at sent (sent ++ first) ((sent ++ first) ++ second) m one two three first second
-    (grown-moved sent m one two first good p) (grown-moved (sent ++ first) m two three second p.good q) p q)
+log_moved-then {sent} {m} {one} {three} {first} {second} good p q =
+    subst (λ now. LogMovedAt sent now m one three (first ++ second)) (append_assoc sent first second) (moved-at
+    (grown-moved good p) (grown-moved p.good q) p q)
 
 -- A move by its parts
 
@@ -209,17 +202,17 @@ apart-not x y [] at apart same = absurd at
 apart-not x y (z ∷ ids) (inl e) apart same = apart.0 (same ∙ ap (λ (id : ServerId). id.index) e)
 apart-not x y (z ∷ ids) (inr rest) apart same = apart-not x y ids rest apart.1 same
 
-pub apart-same : (x y : ServerId) (ids : List ServerId) → OnDifferentHosts ids → In x ids → In y ids → x.index ≡ y.index → x ≡ y
-apart-same x y [] apart at_x at_y same = absurd at_x
-apart-same x y (z ∷ ids) apart (inl p) (inl q) same = p ∙ sym q
-apart-same x y (z ∷ ids) apart (inl p) (inr q) same = absurd (apart-not z y ids q apart.0 (sym (ap (λ (id : ServerId). id.index) p) ∙ same))
-apart-same x y (z ∷ ids) apart (inr p) (inl q) same =
+pub apart-same : {x y : ServerId} (ids : List ServerId) → OnDifferentHosts ids → In x ids → In y ids → x.index ≡ y.index → x ≡ y
+apart-same [] apart at_x at_y same = absurd at_x
+apart-same (z ∷ ids) apart (inl p) (inl q) same = p ∙ sym q
+apart-same {y} (z ∷ ids) apart (inl p) (inr q) same = absurd (apart-not z y ids q apart.0 (sym (ap (λ (id : ServerId). id.index) p) ∙ same))
+apart-same {x} (z ∷ ids) apart (inr p) (inl q) same =
     absurd (apart-not z x ids p apart.0 (sym (ap (λ (id : ServerId). id.index) q) ∙ sym same))
-apart-same x y (z ∷ ids) apart (inr p) (inr q) same = apart-same x y ids apart.1 p q same
+apart-same (z ∷ ids) apart (inr p) (inr q) same = apart-same ids apart.1 p q same
 
-pub moved-log : (sent : List Message) (m : ServerId) (old new : Log) (messages : List Message) → GoodLog sent m old →
+pub moved-log : {sent : List Message} {m : ServerId} {old new : Log} {messages : List Message} → GoodLog sent m old →
     OwnFine sent m old → MoveParts sent m old new messages → LogMoved sent m old new messages
-moved-log sent m old new messages good fine parts = record {
+moved-log {sent} {m} {old} {new} {messages} good fine parts = record {
   good = record {
     own = parts.own;
     none_below = parts.none_below;
@@ -228,11 +221,11 @@ moved-log sent m old new messages good fine parts = record {
     empty = parts.empty;
     each = parts.each;
     one_a_host = one;
-    counted = λ k place less at. safe-grown sent (sent ++ messages) m old new place.seg place.offset grown (parts.counted k place less at);
+    counted = λ k place less at. safe-grown grown (parts.counted k place less at);
     digests = λ s opened. split_head s opened;
     durable_within = parts.durable_within;
   };
-  fine = own_fine-grown sent (sent ++ messages) m old new grown fine place_of told_of;
+  fine = own_fine-grown grown fine place_of told_of;
   later = parts.later;
   says = parts.says;
 }
@@ -241,8 +234,7 @@ moved-log sent m old new messages good fine parts = record {
     grown = record {
       more = more-left sent messages;
       later = parts.later;
-      places = new_places sent m old new messages
-          parts.says;
+      places = new_places sent m old new messages parts.says;
       below = λ s is. (good.each s).shut_below is;
     }
 
@@ -266,8 +258,7 @@ moved-log sent m old new messages good fine parts = record {
 
         by : (s ≤ old.head) ⊎ (old.head < s) → IsDigest (sent ++ messages) m new s (new.segments s).digest
         by (inl upto) = subst (λ digest. IsDigest (sent ++ messages) m new s digest) (sym (parts.later.digest s opened.above upto))
-            (digest-grown sent (sent ++ messages) m old new s (old.segments s).digest grown
-            (good.digests s (record { above = opened.above; below = upto })))
+            (digest-grown grown (good.digests s (record { above = opened.above; below = upto })))
         by (inr over) = parts.digests s over opened.below
 
     news_of : (s e : ℕ) (x : ServerId) → IsMember (sent ++ messages) m s e x → IsMember sent m s e x ⊎ IsFresh old new x s e
@@ -290,4 +281,4 @@ moved-log sent m old new messages good fine parts = record {
         by (inl p) (inl q) = good.one_a_host s e x y p q same
         by (inl p) (inr q) = absurd (not_both s e x y p q)
         by (inr p) (inl q) = absurd (not_both s e y x q p)
-        by (inr p) (inr q) = apart-same x y (ids_of (new.segments s).config.members) ((parts.each s).apart p.opened) p.member q.member same
+        by (inr p) (inr q) = apart-same (ids_of (new.segments s).config.members) ((parts.each s).apart p.opened) p.member q.member same

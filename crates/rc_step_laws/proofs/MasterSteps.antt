@@ -20,9 +20,9 @@ use Rattle.rc_model.proofs.Tests.{true_false, either}
 
 -- A good master's view, and back
 
-pub view-of : (sent : List Message) (m : ServerId) (master : Master) → GoodMaster sent m master →
+pub view-of : {sent : List Message} {m : ServerId} {master : Master} → GoodMaster sent m master →
     OwnFine sent m master.log → GoodView sent m master
-view-of sent m master good fine = record {
+view-of good fine = record {
   log = record {
     own = good.own;
     none_below = good.none_below;
@@ -49,9 +49,9 @@ view-of sent m master good fine = record {
   known = good.known;
 }
 
-good-of : (sent : List Message) (m : ServerId) (master : Master) → GoodLog sent m master.log →
+good-of : {sent : List Message} {m : ServerId} {master : Master} → GoodLog sent m master.log →
     OnDifferentHosts (up_rows master.known.rows) → GoodMaster sent m master
-good-of sent m master log known = record {
+good-of log known = record {
   own = log.own;
   none_below = log.none_below;
   none_above = log.none_above;
@@ -73,10 +73,10 @@ good-of sent m master log known = record {
   durable_within = log.durable_within;
 }
 
-moved-of : (sent : List Message) (m : ServerId) (old : Master) (after : Master × List Message) →
+moved-of : {sent : List Message} {m : ServerId} {old : Master} {after : Master × List Message} →
     Moved sent m old after → MasterMoved sent m old after
-moved-of sent m old after moved = record {
-  good = good-of (sent ++ after.1) m after.0 moved.log.good moved.known;
+moved-of moved = record {
+  good = good-of moved.log.good moved.known;
   fine = moved.log.fine;
   later = moved.log.later;
   says = moved.log.says;
@@ -84,27 +84,25 @@ moved-of sent m old after moved = record {
 
 -- A plan
 
-moved-takes_plan : (sent : List Message) (m : ServerId) (attempt : ℕ) (crashed : ServerId) (rows : List PlanRow)
-    (parts : List Part) (master : Master) → GoodView sent m master
+moved-takes_plan : {sent : List Message} {m : ServerId} (attempt : ℕ) (crashed : ServerId) (rows : List PlanRow)
+    (parts : List Part) {master : Master} → GoodView sent m master
     → Moved sent m master (takes_plan attempt crashed rows parts master)
-moved-takes_plan sent m attempt crashed rows parts master =
-    kept-plan (Kept m) (joined m) attempt crashed rows parts
-    (λ one part at new more view. moved-quiet more m one (begun (task_of attempt crashed rows part) one)
-    (map (fetch_of one.log.own (task_of attempt crashed rows part)) rows) view refl refl
-    (fetches-quiet m one.log.own (task_of attempt crashed rows part) rows view.log.own)) master sent
+moved-takes_plan {sent} {m} attempt crashed rows parts {master} =
+    kept-plan (Kept m) (joined m) attempt crashed rows parts (λ one part at new more view. moved-quiet view refl refl
+    (fetches-quiet (task_of attempt crashed rows part) rows view.log.own)) master sent
 
 -- A message
 
 -- the log stays, and nothing is sent
-quietly : (sent : List Message) (m : ServerId) (old new : Master) → GoodView sent m old → new.log ≡ old.log →
+quietly : {sent : List Message} {m : ServerId} {old new : Master} → GoodView sent m old → new.log ≡ old.log →
     new.known ≡ old.known → Moved sent m old (new, [])
-quietly sent m old new view same known = moved-quiet sent m old new [] view same known (quiet-none m)
+quietly {m} view same known = moved-quiet view same known (quiet-none m)
 
-moved-deposes : (sent : List Message) (m : ServerId) (master : Master) (b : Bool) → GoodView sent m master →
+moved-deposes : {sent : List Message} {m : ServerId} {master : Master} (b : Bool) → GoodView sent m master →
     Moved sent m master (cond b (record master { deposed = true }) master, [])
-moved-deposes sent m master b view =
+moved-deposes {sent} {m} {master} b view =
     either (λ after. Moved sent m master (after, [])) b (record master { deposed = true }) master
-    (λ _. quietly sent m master (record master { deposed = true }) view refl refl) (λ _. still sent m master view)
+    (λ _. quietly view refl refl) (λ _. still sent m master view)
 
 list-heard : (sent : List Message) (m : ServerId) (from : Addr) (version : ℕ) (rows : List (ServerId × Bool)) →
     MayHear sent m from (ServersOf version rows) → OnDifferentHosts (up_rows rows)
@@ -118,54 +116,44 @@ commit-heard sent m (Server x) s e may = may
 commit-heard sent m Coordinator s e may = may
 commit-heard sent m Outside s e may = may
 
-moved-first : (sent : List Message) (m : ServerId) (master : Master) (from : Addr) (body : Body) →
+moved-first : {sent : List Message} {m : ServerId} {master : Master} (from : Addr) (body : Body) →
     GoodView sent m master → MayHear sent m from body → Moved sent m master (master_takes_first master from body)
-moved-first sent m master from (Write table key value) view may = moved-writes sent m master table key value view
-moved-first sent m master from (Read table key) view may = moved-reads sent m master table key view
-moved-first sent m master from (ServersOf version rows) view may =
-    moved-takes_list sent m master version rows view (list-heard sent m from version rows may)
-moved-first sent m master (Server from) (Stored s epoch len closed) view may = moved-stored sent m master from s epoch len closed view may
-moved-first sent m master from (CommitOk s epoch) view may = moved-commit sent m master s epoch view (commit-heard sent m from s epoch may)
-moved-first sent m master Coordinator (Refused reason) view may = moved-deposes sent m master (says_deposed reason) view
-moved-first sent m master from (Plan head attempt crashed rows parts) view may =
-    moved-takes_plan sent m attempt crashed rows parts master view
-moved-first sent m master (Server from) (Data attempt seg term entries) view may =
-    quietly sent m master (record master { ownership = put_data term seg from entries master.ownership }) view refl refl
-moved-first sent m master from (Own range term previous attempt) view may =
-    quietly sent m master (record master {
-      ownership = grant (record { range = range; term = term })
-          master.ownership;
-    }) view refl refl
-moved-first sent m master from body view may = still sent m master view
+moved-first from (Write table key value) view may = moved-writes table key value view
+moved-first from (Read table key) view may = moved-reads table key view
+moved-first {sent} {m} from (ServersOf version rows) view may =
+    moved-takes_list version rows view (list-heard sent m from version rows may)
+moved-first {sent} {m} {master} (Server from) (Stored s epoch len closed) view may = moved-stored sent m master from s epoch len closed view may
+moved-first {sent} {m} {master} from (CommitOk s epoch) view may = moved-commit sent m master s epoch view (commit-heard sent m from s epoch may)
+moved-first Coordinator (Refused reason) view may = moved-deposes (says_deposed reason) view
+moved-first from (Plan head attempt crashed rows parts) view may = moved-takes_plan attempt crashed rows parts view
+moved-first (Server from) (Data attempt seg term entries) view may = quietly view refl refl
+moved-first from (Own range term previous attempt) view may = quietly view refl refl
+moved-first {sent} {m} {master} from body view may = still sent m master view
 
-moved-deposed : (sent : List Message) (m : ServerId) (master : Master) (body : Body) → GoodView sent m master →
+moved-deposed : {sent : List Message} {m : ServerId} {master : Master} (body : Body) → GoodView sent m master →
     Moved sent m master (deposed_takes master body)
-moved-deposed sent m master (Write table key value) view = moved-refused sent m master Deposed view
-moved-deposed sent m master (Read table key) view = moved-refused sent m master Deposed view
-moved-deposed sent m master body view = still sent m master view
+moved-deposed (Write table key value) view = moved-refused Deposed view
+moved-deposed (Read table key) view = moved-refused Deposed view
+moved-deposed {sent} {m} {master} body view = still sent m master view
 
 -- The claims
 
 pub master_takes_keeps : MasterTakesKeeps
-master_takes_keeps sent m master from body good fine may = moved-of sent m master (master_takes master from body)
+master_takes_keeps sent m master from body good fine may = moved-of
     (either (λ after. Moved sent m master after) master.deposed (deposed_takes master body)
-    (then_does (master_takes_first master from body) goes_on)
-    (λ _. moved-deposed sent m master body view)
-    (λ _. moved-then_does sent m master (master_takes_first master from body) goes_on view (moved-first sent m master from body view may)
-    (λ now. moved-goes_on (sent ++ (master_takes_first master from body).1) m (master_takes_first master from body).0 now)))
+    (then_does (master_takes_first master from body) goes_on) (λ _. moved-deposed body view)
+    (λ _. moved-then_does goes_on view (moved-first from body view may) (λ now. moved-goes_on now)))
   where
     view : GoodView sent m master
-    view = view-of sent m master good fine
+    view = view-of good fine
 
 pub master_ticks_keeps : MasterTicksKeeps
-master_ticks_keeps sent m master good fine = moved-of sent m master (master_ticks master)
+master_ticks_keeps sent m master good fine = moved-of
     (either (λ after. Moved sent m master after) master.deposed (master, []) (then_does (ticks master) goes_on)
-    (λ _. still sent m master view)
-    (λ _. moved-then_does sent m master (ticks master) goes_on view (moved-ticks sent m master view)
-    (λ now. moved-goes_on (sent ++ (ticks master).1) m (ticks master).0 now)))
+    (λ _. still sent m master view) (λ _. moved-then_does goes_on view (moved-ticks view) (λ now. moved-goes_on now)))
   where
     view : GoodView sent m master
-    view = view-of sent m master good fine
+    view = view-of good fine
 
 pub new_master_is_good : NewMasterIsGood
 new_master_is_good m setup = record {

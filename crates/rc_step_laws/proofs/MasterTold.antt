@@ -17,11 +17,11 @@ pub each-noted : (sent : List Message) (m : ServerId) (phase : Phase) (head s : 
 each-noted sent m phase head s segment good member at = record { len = good.noted member at; closed = good.noted_closed member at }
 
 -- other members, or other notes of them, under the same epoch
-pub steady-members : (sent : List Message) (m : ServerId) (phase : Phase) (head s : ℕ) (old : Segment)
-    (members : List Member) → GoodSegment sent m phase head s old
+pub steady-members : {sent : List Message} {m : ServerId} {phase : Phase} {head s : ℕ} {old : Segment}
+    {members : List Member} → GoodSegment sent m phase head s old
     → (old.shut ≡ false → ids_of members ≡ ids_of old.config.members) → EachNoted sent m s old.config.epoch members
     → SegmentSteady sent m s old (record old { config = record old.config { members = members } })
-steady-members sent m phase head s old members good ids all = record {
+steady-members good ids all = record {
   entries = refl;
   digest = refl;
   shut = refl;
@@ -34,22 +34,20 @@ steady-members sent m phase head s old members good ids all = record {
 }
 
 -- the config stays
-steady-config : (sent : List Message) (m : ServerId) (phase : Phase) (head s : ℕ) (old : Segment) →
+steady-config : {sent : List Message} {m : ServerId} {phase : Phase} {head s : ℕ} {old : Segment} →
     GoodSegment sent m phase head s old → SegmentSteady sent m s old (record old { config = old.config })
-steady-config sent m phase head s old good = marked-steady sent m phase head s old (record old { config = old.config })
-    good (record { entries = refl; digest = refl; shut = refl; config = refl })
+steady-config good = marked-steady good (record { entries = refl; digest = refl; shut = refl; config = refl })
 
 -- a change of a config that says nothing
-pub config-moved : (sent : List Message) (m : ServerId) (log : Log) (s : ℕ) (config : Config) → GoodLog sent m log →
+pub config-moved : {sent : List Message} {m : ServerId} {log : Log} {s : ℕ} {config : Config} → GoodLog sent m log →
     OwnFine sent m log → IsOpened log s
     → SegmentSteady sent m s (log.segments s) (record (log.segments s) { config = config }) →
     LogMoved sent m log (with_config s config log) []
-config-moved sent m log s config good fine opened steady =
-    steady-moved sent m log s (record (log.segments s) { config = config }) [] good fine opened steady
+config-moved good fine opened steady = steady-moved good fine opened steady
     (λ message at. absurd at) (λ x t e digest entries at. absurd at)
 
-pub has-opened : (log : Log) (s : ℕ) → has_segment log s ≡ true → IsOpened log s
-has-opened log s e =
+pub has-opened : {log : Log} {s : ℕ} → has_segment log s ≡ true → IsOpened log s
+has-opened {log} {s} e =
     let both = and_parts (nat_lt 0 s) (nat_le s log.head) e in record { above = ltb-true 0 s both.0; below = leb-true s log.head both.1 }
 
 -- a Stored
@@ -59,8 +57,7 @@ stored-log : (sent : List Message) (m : ServerId) (log : Log) (from : ServerId) 
 stored-log sent m log from s epoch len closed good fine at =
     either (λ new. LogMoved sent m log new []) (has_segment log s)
     (with_config s (noted from epoch len closed (log.segments s).config) log) log
-    (λ has. config-moved sent m log s (noted from epoch len closed (log.segments s).config) good fine (has-opened log s has) steady)
-    (λ _. quiet-moved sent m log [] good fine (quiet-none m))
+    (λ has. config-moved good fine (has-opened has) steady) (λ _. quiet-moved good fine (quiet-none m))
   where
     old : Segment
     old = log.segments s
@@ -71,15 +68,13 @@ stored-log sent m log from s epoch len closed good fine at =
         (nat_eq epoch (log.segments s).config.epoch)
         (record (log.segments s).config {
           members = map (told_if_heard from len closed) (log.segments s).config.members;
-        }) (log.segments s).config
-        (λ e. steady-members sent m log.phase log.head s (log.segments s)
-        (map (told_if_heard from len closed) (log.segments s).config.members) (good.each s)
+        }) (log.segments s).config (λ e. steady-members (good.each s)
         (λ _. ids-told from len closed (log.segments s).config.members)
         (each-told sent m s (log.segments s).config.epoch from len closed
         (subst (λ n. In (between from m (Stored s n len closed)) sent)
         (eqb-true epoch (log.segments s).config.epoch e) at)
         (log.segments s).config.members (each-noted sent m log.phase log.head s (log.segments s) (good.each s))))
-        (λ _. steady-config sent m log.phase log.head s (log.segments s) (good.each s))
+        (λ _. steady-config (good.each s))
 
 pub moved-stored : (sent : List Message) (m : ServerId) (master : Master) (from : ServerId) (s epoch len : ℕ)
     (closed : Bool) → GoodView sent m master → In (between from m (Stored s epoch len closed)) sent
@@ -92,8 +87,7 @@ commit-log : (sent : List Message) (m : ServerId) (log : Log) (s epoch : ℕ) �
     In (from_coordinator m (CommitOk s epoch)) sent → LogMoved sent m log (commit_noted s epoch log) []
 commit-log sent m log s epoch good fine at =
     either (λ new. LogMoved sent m log new []) (has_segment log s) (with_config s (committed_at epoch (log.segments s).config) log) log
-    (λ has. config-moved sent m log s (committed_at epoch (log.segments s).config) good fine (has-opened log s has) steady)
-    (λ _. quiet-moved sent m log [] good fine (quiet-none m))
+    (λ has. config-moved good fine (has-opened has) steady) (λ _. quiet-moved good fine (quiet-none m))
   where
     steady : SegmentSteady sent m s (log.segments s) (record (log.segments s) { config = committed_at epoch (log.segments s).config })
     steady = either (λ config. SegmentSteady sent m s (log.segments s) (record (log.segments s) { config = config }))
@@ -109,8 +103,7 @@ commit-log sent m log s epoch good fine at =
           granted = λ _. inr (subst (λ n. In (from_coordinator m (CommitOk s n)) sent) (eqb-true epoch (log.segments s).config.epoch e) at);
           noted = (good.each s).noted;
           noted_closed = (good.each s).noted_closed;
-        })
-        (λ _. steady-config sent m log.phase log.head s (log.segments s) (good.each s))
+        }) (λ _. steady-config (good.each s))
 
 pub moved-commit : (sent : List Message) (m : ServerId) (master : Master) (s epoch : ℕ) → GoodView sent m master →
     In (from_coordinator m (CommitOk s epoch)) sent →

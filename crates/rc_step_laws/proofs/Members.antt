@@ -19,8 +19,8 @@ abbrev pub EachNoted : List Message → ServerId → ℕ → ℕ → List Member
 EachNoted sent m s e members = (member : Member) → In member members → NotedOf sent m s e member
 
 -- a new member has told nothing
-pub noted-new : (sent : List Message) (m : ServerId) (s e : ℕ) (id : ServerId) → NotedOf sent m s e (new_member id)
-noted-new sent m s e id = record { len = λ o less. absurd (omega arith); closed = λ is. cc }
+pub noted-new : {sent : List Message} {m : ServerId} {s e : ℕ} {id : ServerId} → NotedOf sent m s e (new_member id)
+noted-new = record { len = λ o less. absurd (omega arith); closed = λ is. cc }
 
 -- a change of each member that keeps what is noted
 each-mapped : (sent : List Message) (m : ServerId) (s e : ℕ) (f : Member → Member) →
@@ -89,9 +89,9 @@ ids-told from len closed members = ids-mapped (told_if_heard from len closed)
 
 -- Members are marked lost
 
-pub each-lost : (sent : List Message) (m : ServerId) (s e : ℕ) (servers : ServerList) (members : List Member) →
+pub each-lost : {sent : List Message} {m : ServerId} {s e : ℕ} (servers : ServerList) (members : List Member) →
     EachNoted sent m s e members → EachNoted sent m s e (map (lost_if_crashed servers) members)
-each-lost sent m s e servers members all = each-mapped sent m s e (lost_if_crashed servers)
+each-lost {sent} {m} {s} {e} servers members all = each-mapped sent m s e (lost_if_crashed servers)
     (λ member old. either (λ one. NotedOf sent m s e one) (has_crashed servers member.id) (record member { lost = true }) member
     (λ _. record { len = old.len; closed = old.closed }) (λ _. old)) members all
 
@@ -114,7 +114,7 @@ each-replaced sent m s e (one ∷ members) (id ∷ ids) all member at =
   where
     new_first : (In member (replaced members ids) → NotedOf sent m s e member) →
         (member ≡ new_member id) ⊎ In member (replaced members ids) → NotedOf sent m s e member
-    new_first rec (inl same) = subst (λ x. NotedOf sent m s e x) (sym same) (noted-new sent m s e id)
+    new_first rec (inl same) = subst (λ x. NotedOf sent m s e x) (sym same) (noted-new)
     new_first rec (inr rest) = rec rest
 
     old_first : (In member (replaced members (id ∷ ids)) → NotedOf sent m s e member) →
@@ -127,4 +127,4 @@ pub each-new : (sent : List Message) (m : ServerId) (s e : ℕ) (members : List 
     EachNoted sent m s e (map (λ member. new_member member.id) members)
 each-new sent m s e members member at =
     let found = In-map (λ (one : Member). new_member one.id) member members at in subst (λ one. NotedOf sent m s e one)
-    (sym found.2) (noted-new sent m s e found.0.id)
+    (sym found.2) (noted-new)

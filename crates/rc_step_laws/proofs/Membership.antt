@@ -16,9 +16,9 @@ record Places (to : Addr) (body : Body) (s e : ℕ) (x : ServerId) : Type 0 wher
   to_x : to ≡ Server x
   says : body ≡ Place s e digest entries false
 
-same-place : (seg s epoch e : ℕ) (digest : List ℕ) (entries : List Entry) (closed : Bool) → seg ≡ s → epoch ≡ e → closed ≡ false →
+same-place : {seg s epoch e : ℕ} {digest : List ℕ} {entries : List Entry} {closed : Bool} → seg ≡ s → epoch ≡ e → closed ≡ false →
     Place seg epoch digest entries closed ≡ Place s e digest entries false
-same-place seg s epoch e digest entries closed p q r j = Place (p j) (q j) digest entries (r j)
+same-place {digest} {entries} p q r j = Place (p j) (q j) digest entries (r j)
 
 placed-says : (to : Addr) (body : Body) (s e : ℕ) (x : ServerId) → In x (placed_to to body s e) → Places to body s e x
 placed-says (Server id) (Place seg epoch digest entries closed) s e x at =
@@ -31,8 +31,7 @@ placed-says (Server id) (Place seg epoch digest entries closed) s e x at =
       digest = digest;
       entries = entries;
       to_x = sym (ap Server same);
-      says = same-place seg s epoch e digest entries closed (grind (arith, nat_tests)) (grind (arith, nat_tests))
-          (grind (arith, nat_tests));
+      says = same-place (grind (arith, nat_tests)) (grind (arith, nat_tests)) (grind (arith, nat_tests));
     }
     here is (inr rest) = absurd rest
 placed-says (Server id) _ s e x at = absurd at
@@ -46,8 +45,7 @@ placed-said x s e digest entries =
 
 member-placed : (sent : List Message) (m x : ServerId) (s e : ℕ) → In x (members_of sent m s e) → IsMember sent m s e x
 member-placed [] m x s e at = absurd at
-member-placed (first ∷ sent) m x s e at =
-    by (member-placed sent m x s e)
+member-placed (first ∷ sent) m x s e at = by (member-placed sent m x s e)
     (In-gathered x (is_server m first.from) (placed_to first.to first.body s e) (members_of sent m s e) at)
   where
     by : (In x (members_of sent m s e) → IsMember sent m s e x) →

@@ -31,21 +31,20 @@ abbrev placed_on : ServerId → Log → List ℕ → List ServerId → List Mess
 placed_on m log digest ids = to_ids m ids (Place (log.head + 1) 0 digest [] false)
 
 -- what the new head's members are sent
-placed_head : (m : ServerId) (log : Log) (digest : List ℕ) (ids : List ServerId) → log.own ≡ m →
+placed_head : {m : ServerId} (log : Log) (digest : List ℕ) (ids : List ServerId) → log.own ≡ m →
     placed_on m log digest ids ≡ places_head (opens_head log digest ids)
-placed_head m log digest ids own = sym (
+placed_head log digest ids own = sym (
     ap (λ (segment : Segment). to_ids log.own (ids_of segment.config.members)
     (Place (log.head + 1) segment.config.epoch segment.digest (map (λ (one : Entry × Bool). one.0) segment.entries)
-    false))
-    (put-same log.segments (log.head + 1) (new_segment (log.head + 1) digest ids))
+    false)) (put-same log.segments (log.head + 1) (new_segment (log.head + 1) digest ids))
     ∙ ap (λ others. to_ids log.own others (Place (log.head + 1) 0 digest [] false)) (ids-new ids)
     ∙ ap (λ id. to_ids id ids (Place (log.head + 1) 0 digest [] false)) own)
 
-opened-moved : (sent : List Message) (m : ServerId) (log : Log) (digest : List ℕ) (ids : List ServerId) →
+opened-moved : {sent : List Message} {m : ServerId} {log : Log} {digest : List ℕ} (ids : List ServerId) →
     GoodLog sent m log → OwnFine sent m log
     → ((s : ℕ) → 0 < s → s < log.head → (log.segments s).shut ≡ true) → OnDifferentHosts ids → NewDigest sent m log digest
     → LogMoved sent m log (opens_head log digest ids) (placed_on m log digest ids)
-opened-moved sent m log digest ids good fine all_shut apart fits = moved-log sent m log new messages good fine (record {
+opened-moved {sent} {m} {log} {digest} ids good fine all_shut apart fits = moved-log good fine (record {
   later = later;
   says = says;
   own = good.own;
@@ -65,7 +64,7 @@ opened-moved sent m log digest ids good fine all_shut apart fits = moved-log sen
         upto = fits.upto;
         lacks = λ t above less. dead_or t (fits.lacks t above less);
       })));
-  durable_within = within-still sent sent_now m log new good later refl;
+  durable_within = within-still good later refl;
 })
   where
     h : ℕ
@@ -90,18 +89,17 @@ opened-moved sent m log digest ids good fine all_shut apart fits = moved-log sen
     none_there = good.none_above h (omega arith)
 
     later : LogLater sent_now m log new
-    later = log-later sent_now m log new (omega arith)
+    later = log-later (omega arith)
         (put_each (λ n segment. SegmentLater sent_now m log.head n (log.segments n) segment) log.segments h seg
         (subst (λ (old : Segment). SegmentLater sent_now m log.head h old seg) (sym none_there) (record {
-          grows = begins-refl [];
+          grows = begins-refl;
           final = λ below. absurd (omega arith);
           digest = λ upto. absurd (omega arith);
           epoch = λ upto. omega arith;
           shut = λ e. true_false (sym e);
           joined = λ x upto shut same at. absurd (omega arith);
           shuts = λ x upto before shut same at. absurd (omega arith);
-        }))
-        (λ n. later-refl sent_now m log.head n (log.segments n)))
+        })) (λ n. later-refl))
 
     says : (message : Message) → In message messages → MasterSays sent sent_now m log new message
     says = each-to_ids (MasterSays sent sent_now m log new) m ids (Place h 0 digest [] false) (λ x at. record {
@@ -136,7 +134,7 @@ opened-moved sent m log digest ids good fine all_shut apart fits = moved-log sen
       apart = p.apart;
       noted = λ member at o less. told-more (more-left sent messages) (p.noted member at o less);
       noted_closed = λ member at told. told_closed-more (more-left sent messages) (p.noted_closed member at told);
-      committed = λ e. committed-more sent sent_now m n (log.segments n).config.epoch (more-left sent messages) (p.committed e);
+      committed = λ e. committed-more sent sent_now m n (more-left sent messages) (p.committed e);
     }
       where
         below_or : (a b : ℕ) → (a ≤ b) ⊎ (b < a)
@@ -161,13 +159,11 @@ opened-moved sent m log digest ids good fine all_shut apart fits = moved-log sen
             (map-In (λ (id : ServerId). between m id (Place h 0 digest [] false)) x ids (subst (λ others. In x others) (ids-new ids) at));
       };
       apart = λ open_now. subst OnDifferentHosts (sym (ids-new ids)) apart;
-      noted = λ member at o less.
-          (let found = In-map new_member member ids at in
+      noted = λ member at o less. (let found = In-map new_member member ids at in
           absurd (let e : Rattle.rc_model.specs.Config.told_len member.told ≡ 0 = ap
           (λ (one : Rattle.rc_types.specs.declared.kept.Member.Member). Rattle.rc_model.specs.Config.told_len one.told)
           found.2 in omega arith));
-      noted_closed = λ member at told.
-          (let found = In-map new_member member ids at in
+      noted_closed = λ member at told. (let found = In-map new_member member ids at in
           true_false (sym told ∙ ap (λ (one : Rattle.rc_types.specs.declared.kept.Member.Member).
           Rattle.rc_model.specs.Config.told_closed one.told) found.2));
       committed = λ e. inl refl;
@@ -185,17 +181,17 @@ opened-moved sent m log digest ids good fine all_shut apart fits = moved-log sen
 
     dead_or : (t : ℕ) → In t digest ⊎ IsDead sent m log t → In t digest ⊎ IsDead sent_now m new t
     dead_or t (inl there) = inl there
-    dead_or t (inr dead) = inr (dead-grown sent sent_now m log new t (record {
+    dead_or t (inr dead) = inr (dead-grown (record {
       more = more-left sent messages;
       later = later;
       places = new_places sent m log new messages says;
       below = λ s is. (good.each s).shut_below is;
     }) dead)
 
-pub opens-moved : (sent : List Message) (m : ServerId) (log : Log) (digest : List ℕ) (ids : List ServerId) →
+pub opens-moved : {sent : List Message} {m : ServerId} {log : Log} {digest : List ℕ} (ids : List ServerId) →
     GoodLog sent m log → OwnFine sent m log
     → ((s : ℕ) → 0 < s → s < log.head → (log.segments s).shut ≡ true) → OnDifferentHosts ids → NewDigest sent m log digest
     → LogMoved sent m log (opens_head log digest ids) (places_head (opens_head log digest ids))
-opens-moved sent m log digest ids good fine all_shut apart fits =
-    subst (λ messages. LogMoved sent m log (opens_head log digest ids) messages) (placed_head m log digest ids good.own)
-    (opened-moved sent m log digest ids good fine all_shut apart fits)
+opens-moved {sent} {m} {log} {digest} ids good fine all_shut apart fits =
+    subst (λ messages. LogMoved sent m log (opens_head log digest ids) messages) (placed_head log digest ids good.own)
+    (opened-moved ids good fine all_shut apart fits)

@@ -18,18 +18,18 @@ pub record IsIn (seg offset k : ℕ) (entries : List (Entry × Bool)) (place : L
   pub offset_is : place.offset ≡ offset + k
   pub holds : slice_get entries k ≡ Some (place.entry, place.client)
 
-places_in-are : (seg offset : ℕ) (entries : List (Entry × Bool)) (k : ℕ) (place : LogPlace) →
+places_in-are : {seg : ℕ} (offset : ℕ) (entries : List (Entry × Bool)) (k : ℕ) {place : LogPlace} →
     slice_get (places_in seg offset entries) k ≡ Some place → IsIn seg offset k entries place
-places_in-are seg offset [] k place e = cc
-places_in-are seg offset (one ∷ entries) zero place e =
+places_in-are offset [] k e = cc
+places_in-are {seg} offset (one ∷ entries) zero {place} e =
     let same : ◌≡◌ {A = LogPlace} (record { seg = seg; offset = offset; entry = one.0; client = one.1 }) place = cc in
     record {
       seg_is = sym (ap (λ (p : LogPlace). p.seg) same);
       offset_is = sym (ap (λ (p : LogPlace). p.offset) same) ∙ omega arith;
       holds = ap (λ (p : LogPlace). Some (p.entry, p.client)) same;
     }
-places_in-are seg offset (one ∷ entries) (suc k) place e =
-    let rest = places_in-are seg (offset + 1) entries k place e in
+places_in-are offset (one ∷ entries) (suc k) e =
+    let rest = places_in-are (offset + 1) entries k e in
     record { seg_is = rest.seg_is; offset_is = rest.offset_is ∙ omega arith; holds = rest.holds }
 
 -- a place of a log: its segment is opened, and the entry stands there
@@ -38,9 +38,9 @@ pub record IsOf (segments : ℕ → Segment) (head : ℕ) (place : LogPlace) : T
   pub upto : place.seg ≤ head
   pub holds : slice_get (segments place.seg).entries place.offset ≡ Some (place.entry, place.client)
 
-place_here : (segments : ℕ → Segment) (n j : ℕ) (place : LogPlace) → IsIn (suc n) 0 j (segments (suc n)).entries place →
+place_here : {segments : ℕ → Segment} {n j : ℕ} {place : LogPlace} → IsIn (suc n) 0 j (segments (suc n)).entries place →
     IsOf segments (suc n) place
-place_here segments n j place p = record {
+place_here {segments} {n} {j} {place} p = record {
   above = (let e = p.seg_is in omega arith);
   upto = (let e = p.seg_is in omega arith);
   holds = (let e : place.offset ≡ j = p.offset_is ∙ omega arith in
@@ -48,35 +48,32 @@ place_here segments n j place p = record {
       (subst (λ k. slice_get (segments (suc n)).entries k ≡ Some (place.entry, place.client)) (sym e) p.holds));
 }
 
-pub places_to-are : (segments : ℕ → Segment) (n k : ℕ) (place : LogPlace) →
+pub places_to-are : {segments : ℕ → Segment} (n k : ℕ) {place : LogPlace} →
     slice_get (places_to segments n) k ≡ Some place → IsOf segments n place
-places_to-are segments zero k place e = cc
-places_to-are segments (suc n) k place e = by (places_to-are segments n k place)
-    (get-append (places_to segments n) (places_in (suc n) 0 (segments (suc n)).entries) k place e)
+places_to-are zero k e = cc
+places_to-are {segments} (suc n) k {place} e = by (places_to-are n k)
+    (get-append (places_to segments n) (places_in (suc n) 0 (segments (suc n)).entries) k e)
   where
     by : (slice_get (places_to segments n) k ≡ Some place → IsOf segments n place)
-        → (slice_get (places_to segments n) k ≡ Some place) ⊎
-        ((j : ℕ) × (k ≡ length (places_to segments n) + j) ×
-        (slice_get (places_in (suc n) 0 (segments (suc n)).entries) j ≡ Some place))
-        → IsOf segments (suc n) place
+        → (slice_get (places_to segments n) k ≡ Some place) ⊎ ((j : ℕ) × (k ≡ length (places_to segments n) + j) ×
+        (slice_get (places_in (suc n) 0 (segments (suc n)).entries) j ≡ Some place)) → IsOf segments (suc n) place
     by rec (inl old) = (let p = rec old in record { above = p.above; upto = (let q = p.upto in omega arith); holds = p.holds })
-    by rec (inr (j, p, q)) = place_here segments n j place (places_in-are (suc n) 0 (segments (suc n)).entries j place q)
+    by rec (inr (j, p, q)) = place_here (places_in-are 0 (segments (suc n)).entries j q)
 
 -- the entry of a place stands in the log
-pub place-logged : (log : Log) (place : LogPlace) → IsOf log.segments log.head place →
+pub place-logged : (log : Log) {place : LogPlace} → IsOf log.segments log.head place →
     slice_get (log_in log place.seg) place.offset ≡ Some place.entry
-place-logged log place p = map-get (λ (one : Entry × Bool). one.0) (log.segments place.seg).entries place.offset
-    (place.entry, place.client) p.holds
+place-logged log {place} p = map-get (λ (one : Entry × Bool). one.0) (log.segments place.seg).entries place.offset p.holds
 
 -- They only grow
 
 places_in-append : (seg offset : ℕ) (xs rest : List (Entry × Bool)) → Begins (places_in seg offset xs) (places_in seg offset (xs ++ rest))
 places_in-append seg offset [] rest = (places_in seg offset rest, refl)
-places_in-append seg offset (one ∷ xs) rest = begins-cons _ _ _ (places_in-append seg (offset + 1) xs rest)
+places_in-append seg offset (one ∷ xs) rest = begins-cons _ (places_in-append seg (offset + 1) xs rest)
 
-places_in-begins : (seg offset : ℕ) (xs ys : List (Entry × Bool)) → Begins xs ys →
+places_in-begins : (seg offset : ℕ) (xs : List (Entry × Bool)) {ys : List (Entry × Bool)} → Begins xs ys →
     Begins (places_in seg offset xs) (places_in seg offset ys)
-places_in-begins seg offset xs ys p =
+places_in-begins seg offset xs p =
     subst (λ zs. Begins (places_in seg offset xs) (places_in seg offset zs)) p.1 (places_in-append seg offset xs p.0)
 
 pub places_to-same : (old new : ℕ → Segment) (n : ℕ) → ((s : ℕ) → s ≤ n → (new s).entries ≡ (old s).entries) →
@@ -86,32 +83,30 @@ places_to-same old new (suc n) same =
     ap (λ l. l ++ places_in (suc n) 0 (new (suc n)).entries) (places_to-same old new n (λ s upto. same s (omega arith)))
     ∙ ap (λ l. places_to old n ++ places_in (suc n) 0 l) (same (suc n) (omega arith))
 
-append-begins : {X : Type 0} (xs ys zs : List X) → Begins ys zs → Begins (xs ++ ys) (xs ++ zs)
-append-begins xs ys zs p = (p.0, append_assoc xs ys p.0 ∙ ap (λ l. xs ++ l) p.1)
+append-begins : {X : Type 0} (xs ys : List X) {zs : List X} → Begins ys zs → Begins (xs ++ ys) (xs ++ zs)
+append-begins xs ys p = (p.0, append_assoc xs ys p.0 ∙ ap (λ l. xs ++ l) p.1)
 
 places_to-begins : (old new : ℕ → Segment) (n : ℕ) → ((s : ℕ) → s < n → (new s).entries ≡ (old s).entries) →
     Begins (old n).entries (new n).entries → Begins (places_to old n) (places_to new n)
-places_to-begins old new zero same more = begins-refl []
+places_to-begins old new zero same more = begins-refl
 places_to-begins old new (suc n) same more =
     subst (λ l. Begins (places_to old (suc n)) (l ++ places_in (suc n) 0 (new (suc n)).entries))
     (sym (places_to-same old new n (λ s upto. same s (omega arith))))
     (append-begins (places_to old n) (places_in (suc n) 0 (old (suc n)).entries)
-    (places_in (suc n) 0 (new (suc n)).entries)
-    (places_in-begins (suc n) 0 (old (suc n)).entries (new (suc n)).entries more))
+    (places_in-begins (suc n) 0 (old (suc n)).entries more))
 
 places_to-more : (segments : ℕ → Segment) (n d : ℕ) → Begins (places_to segments n) (places_to segments (d + n))
 places_to-more segments n zero = let e : 0 + n ≡ n = omega arith in
-    subst (λ k. Begins (places_to segments n) (places_to segments k)) (sym e) (begins-refl (places_to segments n))
+    subst (λ k. Begins (places_to segments n) (places_to segments k)) (sym e) (begins-refl)
 places_to-more segments n (suc d) =
     let e : suc d + n ≡ suc (d + n) = omega arith in
-    subst (λ k. Begins (places_to segments n) (places_to segments k)) (sym e)
-    (begins-trans (places_to segments n) (places_to segments (d + n)) (places_to segments (suc (d + n)))
+    subst (λ k. Begins (places_to segments n) (places_to segments k)) (sym e) (begins-trans (places_to segments n)
     (places_to-more segments n d) (places_in (suc (d + n)) 0 (segments (suc (d + n))).entries, refl))
 
-pub places-later : (sent : List Message) (m : ServerId) (old new : Log) → LogLater sent m old new → Begins (places_of old) (places_of new)
-places-later sent m old new later =
+pub places-later : {sent : List Message} {m : ServerId} {old new : Log} → LogLater sent m old new → Begins (places_of old) (places_of new)
+places-later {old} {new} later =
     let e : (new.head - old.head) + old.head ≡ new.head = omega (arith, later.head) in
-    begins-trans (places_of old) (places_to new.segments old.head) (places_of new)
+    begins-trans (places_of old)
     (places_to-begins old.segments new.segments old.head (λ s below. later.final s below) (later.grows old.head))
     (subst (λ n. Begins (places_to new.segments old.head) (places_to new.segments n)) e
     (places_to-more new.segments old.head (new.head - old.head)))
@@ -153,8 +148,8 @@ shut_counts x e ys = ap (λ b. cond b (length x.entries + durable_among ys) (dur
 open_counts : (x : Segment) → x.shut ≡ false → (ys : List Segment) → durable_among (x ∷ ys) ≡ durable_in x
 open_counts x e ys = ap (λ b. cond b (length x.entries + durable_among ys) (durable_in x)) e
 
-passes-more : (xs : List Segment) (x : Segment) → Passes xs → x.shut ≡ true → Passes (xs ++ x ∷ [])
-passes-more xs x p e = record {
+passes-more : {xs : List Segment} (x : Segment) → Passes xs → x.shut ≡ true → Passes (xs ++ x ∷ [])
+passes-more {xs} x p e = record {
   all = λ y at. by y (In-append y xs (x ∷ []) at);
   adds = λ ys. (
       let left : durable_among ((xs ++ x ∷ []) ++ ys) ≡ durable_among (xs ++ x ∷ ys) = ap durable_among (append_assoc xs (x ∷ []) ys) in
@@ -174,21 +169,21 @@ passes-more xs x p e = record {
     sum : (a b c d f g : ℕ) → d ≡ b + c → g ≡ a + f → f ≡ b + 0 → a + d ≡ g + c
     sum a b c d f g p q r = omega arith
 
-stops-open : (xs : List Segment) (x : Segment) → Passes xs → x.shut ≡ false → Stops (xs ++ x ∷ [])
-stops-open xs x p e ys =
+stops-open : {xs : List Segment} (x : Segment) → Passes xs → x.shut ≡ false → Stops (xs ++ x ∷ [])
+stops-open {xs} x p e ys =
     ap durable_among (append_assoc xs (x ∷ []) ys) ∙ p.adds (x ∷ ys) ∙ ap (λ n. durable_among xs + n)
     (open_counts x e ys ∙ sym (open_counts x e [])) ∙ sym (p.adds (x ∷ []))
 
 stops-more : (xs : List Segment) (x : Segment) → Stops xs → Stops (xs ++ x ∷ [])
 stops-more xs x p ys = ap durable_among (append_assoc xs (x ∷ []) ys) ∙ p (x ∷ ys) ∙ sym (p (x ∷ []))
 
-counts : (segments : ℕ → Segment) (n : ℕ) → Counts segments n
-counts segments zero = record {
+counts : {segments : ℕ → Segment} (n : ℕ) → Counts segments n
+counts zero = record {
   covered = λ k place less at. absurd (omega arith);
   within = omega arith;
   state = inl (record { all = λ x at. absurd at; adds = λ ys. omega arith }, refl);
 }
-counts segments (suc n) = by (counts segments n) (counts segments n).state (segments (suc n)).shut refl
+counts {segments} (suc n) = by (counts n) (counts n).state (segments (suc n)).shut refl
   where
     splits : map segments (numbers_to n ++ suc n ∷ []) ≡ map segments (numbers_to n) ++ segments (suc n) ∷ []
     splits = map-append segments (numbers_to n) (suc n ∷ [])
@@ -204,7 +199,7 @@ counts segments (suc n) = by (counts segments n) (counts segments n).state (segm
         (j < durable_in (segments (suc n)))
         → slice_get (places_in (suc n) 0 (segments (suc n)).entries) j ≡ Some place → IsCovered segments place
     at_end j place all reason at =
-        let here = places_in-are (suc n) 0 (segments (suc n)).entries j place at in
+        let here = places_in-are 0 (segments (suc n)).entries j at in
         let offset : j ≡ place.offset = omega (arith, here.offset_is) in
         record {
           reason = subst (λ s. ((segments s).shut ≡ true) ⊎ (place.offset < durable_in (segments s))) (sym here.seg_is)
@@ -218,12 +213,12 @@ counts segments (suc n) = by (counts segments n) (counts segments n).state (segm
         → ((j : ℕ) → k ≡ length (places_to segments n) + j →
         slice_get (places_in (suc n) 0 (segments (suc n)).entries) j ≡ Some place → IsCovered segments place)
         → slice_get (places_to segments (suc n)) k ≡ Some place → IsCovered segments place
-    cover k place old new at = which (get-append (places_to segments n) (places_in (suc n) 0 (segments (suc n)).entries) k place at)
+    cover k place old new at = which (get-append (places_to segments n) (places_in (suc n) 0 (segments (suc n)).entries) k at)
       where
         which : (slice_get (places_to segments n) k ≡ Some place) ⊎
             ((j : ℕ) × (k ≡ length (places_to segments n) + j) ×
             (slice_get (places_in (suc n) 0 (segments (suc n)).entries) j ≡ Some place)) → IsCovered segments place
-        which (inl there) = old (get-within (places_to segments n) k place there) there
+        which (inl there) = old (get-within (places_to segments n) k there) there
         which (inr (j, e, there)) = new j e there
 
     by : Counts segments n → (Passes (map segments (numbers_to n)) ×
@@ -239,7 +234,7 @@ counts segments (suc n) = by (counts segments n) (counts segments n).state (segm
           covered = λ k place less at. cover k place (λ within there. c.covered k place (omega (arith, full)) there)
               (λ j is there. at_end j place p (inl e) there) at;
           within = omega (arith, sum);
-          state = inl (subst Passes (sym splits) (passes-more (map segments (numbers_to n)) (segments (suc n)) p e), sum);
+          state = inl (subst Passes (sym splits) (passes-more (segments (suc n)) p e), sum);
         }
     by c (inl (p, full)) false e =
         let sum : counted_to segments (suc n) ≡ length (places_to segments n) + durable_in (segments (suc n)) =
@@ -249,7 +244,7 @@ counts segments (suc n) = by (counts segments n) (counts segments n).state (segm
           covered = λ k place less at. cover k place (λ within there. c.covered k place (omega (arith, full)) there)
               (λ j is there. at_end j place p (inr (past _ _ _ _ _ less sum is)) there) at;
           within = under _ _ _ _ _ sum grown (least (durable_len (segments (suc n)).config) (length (segments (suc n)).entries));
-          state = inr (subst Stops (sym splits) (stops-open (map segments (numbers_to n)) (segments (suc n)) p e));
+          state = inr (subst Stops (sym splits) (stops-open (segments (suc n)) p e));
         }
       where
         past : (k total l d j : ℕ) → k < total → total ≡ l + d → k ≡ l + j → j < d
@@ -271,7 +266,7 @@ counts segments (suc n) = by (counts segments n) (counts segments n).state (segm
 
 pub durable-covered : (log : Log) (k : ℕ) (place : LogPlace) → k < durable_now log →
     slice_get (places_of log) k ≡ Some place → IsCovered log.segments place
-durable-covered log k place less at = (counts log.segments log.head).covered k place less at
+durable-covered log k place less at = (counts log.head).covered k place less at
 
 pub durable-within : (log : Log) → durable_now log ≤ length (places_of log)
-durable-within log = (counts log.segments log.head).within
+durable-within log = (counts log.head).within

@@ -9,33 +9,32 @@ use Rattle.rc_model.proofs.Tests.{either}
 -- The list
 
 -- the new replica is found
-pub replica_of-put : (seg : ℕ) (replica : Replica) (replicas : List (ℕ × Replica)) →
+pub replica_of-put : (seg : ℕ) {replica : Replica} (replicas : List (ℕ × Replica)) →
     replica_of seg (put_replica seg replica replicas) ≡ Some replica
-replica_of-put seg replica [] = ap (λ b. cond b (Some replica) None) (eq-eqb seg seg refl)
-replica_of-put seg replica (one ∷ others) =
+replica_of-put seg {replica} [] = ap (λ b. cond b (Some replica) None) (eq-eqb seg seg refl)
+replica_of-put seg {replica} (one ∷ others) =
     either (λ all. replica_of seg all ≡ Some replica) (nat_lt seg one.0) ((seg, replica) ∷ one ∷ others)
     (cond (nat_eq seg one.0) ((seg, replica) ∷ others) (one ∷ put_replica seg replica others))
     (λ _. ap (λ b. cond b (Some replica) (replica_of seg (one ∷ others))) (eq-eqb seg seg refl))
     (λ _. either (λ all. replica_of seg all ≡ Some replica) (nat_eq seg one.0) ((seg, replica) ∷ others)
     (one ∷ put_replica seg replica others)
     (λ _. ap (λ b. cond b (Some replica) (replica_of seg others)) (eq-eqb seg seg refl))
-    (λ e. ap (λ b. cond b (Some one.1) (replica_of seg (put_replica seg replica others))) e ∙ replica_of-put seg replica others))
+    (λ e. ap (λ b. cond b (Some one.1) (replica_of seg (put_replica seg replica others))) e ∙ replica_of-put seg others))
 
 -- and of another segment nothing changes
-pub replica_of-other : (s seg : ℕ) (replica : Replica) (replicas : List (ℕ × Replica)) → (s ≡ seg → ⊥) →
+pub replica_of-other : {s seg : ℕ} (replica : Replica) (replicas : List (ℕ × Replica)) → (s ≡ seg → ⊥) →
     replica_of s (put_replica seg replica replicas) ≡ replica_of s replicas
-replica_of-other s seg replica [] differs = ap (λ b. cond b (Some replica) None) (ne_eqb s seg differs)
-replica_of-other s seg replica (one ∷ others) differs =
+replica_of-other {s} {seg} replica [] differs = ap (λ b. cond b (Some replica) None) (ne_eqb s seg differs)
+replica_of-other {s} {seg} replica (one ∷ others) differs =
     either (λ all. replica_of s all ≡ replica_of s (one ∷ others)) (nat_lt seg one.0) ((seg, replica) ∷ one ∷ others)
     (cond (nat_eq seg one.0) ((seg, replica) ∷ others) (one ∷ put_replica seg replica others))
     (λ _. ap (λ b. cond b (Some replica) (replica_of s (one ∷ others))) (ne_eqb s seg differs))
     (λ _. either (λ all. replica_of s all ≡ replica_of s (one ∷ others)) (nat_eq seg one.0) ((seg, replica) ∷ others)
-    (one ∷ put_replica seg replica others)
-    (λ e.
+    (one ∷ put_replica seg replica others) (λ e.
     let other : s ≡ one.0 → ⊥ = λ same. differs (same ∙ sym (eqb-true seg one.0 e)) in
     ap (λ b. cond b (Some replica) (replica_of s others)) (ne_eqb s seg differs) ∙
     sym (ap (λ b. cond b (Some one.1) (replica_of s others)) (ne_eqb s one.0 other)))
-    (λ _. ap (cond (nat_eq s one.0) (Some one.1)) (replica_of-other s seg replica others differs)))
+    (λ _. ap (cond (nat_eq s one.0) (Some one.1)) (replica_of-other replica others differs)))
 
 -- all numbers are above n, where the new one is too
 AllAbove-put : (n seg : ℕ) (replica : Replica) (replicas : List (ℕ × Replica)) → n < seg → AllAbove n replicas →
@@ -43,8 +42,7 @@ AllAbove-put : (n seg : ℕ) (replica : Replica) (replicas : List (ℕ × Replic
 AllAbove-put n seg replica [] less above = (less, tt)
 AllAbove-put n seg replica (one ∷ others) less above =
     either (AllAbove n) (nat_lt seg one.0) ((seg, replica) ∷ one ∷ others)
-    (cond (nat_eq seg one.0) ((seg, replica) ∷ others) (one ∷ put_replica seg replica others))
-    (λ _. (less, above))
+    (cond (nat_eq seg one.0) ((seg, replica) ∷ others) (one ∷ put_replica seg replica others)) (λ _. (less, above))
     (λ _. either (AllAbove n) (nat_eq seg one.0) ((seg, replica) ∷ others) (one ∷ put_replica seg replica others)
     (λ _. (less, above.1)) (λ _. (above.0, AllAbove-put n seg replica others less above.1)))
 
@@ -61,13 +59,11 @@ AllAbove-same n m replicas e above = subst (λ k. AllAbove k replicas) (sym e) a
 pub Ascending-put : (seg : ℕ) (replica : Replica) (replicas : List (ℕ × Replica)) → Ascending replicas →
     Ascending (put_replica seg replica replicas)
 Ascending-put seg replica [] up = (tt, tt)
-Ascending-put seg replica (one ∷ others) up =
-    either Ascending (nat_lt seg one.0) ((seg, replica) ∷ one ∷ others)
+Ascending-put seg replica (one ∷ others) up = either Ascending (nat_lt seg one.0) ((seg, replica) ∷ one ∷ others)
     (cond (nat_eq seg one.0) ((seg, replica) ∷ others) (one ∷ put_replica seg replica others))
     (λ e. let less : seg < one.0 = ltb-true seg one.0 e in ((less, AllAbove-less seg one.0 others less up.0), up))
     (λ e. either Ascending (nat_eq seg one.0) ((seg, replica) ∷ others) (one ∷ put_replica seg replica others)
-    (λ same. (AllAbove-same seg one.0 others (eqb-true seg one.0 same) up.0, up.1))
-    (λ other.
+    (λ same. (AllAbove-same seg one.0 others (eqb-true seg one.0 same) up.0, up.1)) (λ other.
     let less : one.0 < seg = (let a : one.0 ≤ seg = ltb-false seg one.0 e in let b : seg ≡ one.0 →
     ⊥ = eqb-false seg one.0 other in grind arith) in
     (AllAbove-put one.0 seg replica others less up.0, Ascending-put seg replica others up.1)))
@@ -82,10 +78,8 @@ AllAbove-in n (other ∷ others) one above (inr rest) = AllAbove-in n others one
 replica_of-in : (replicas : List (ℕ × Replica)) (one : ℕ × Replica) → Ascending replicas → In one replicas →
     replica_of one.0 replicas ≡ Some one.1
 replica_of-in [] one up at = absurd at
-replica_of-in (other ∷ others) one up (inl e) =
-    ap (λ b. cond b (Some other.1) (replica_of one.0 others))
-    (eq-eqb one.0 other.0 (ap (λ (some : ℕ × Replica). some.0) e)) ∙ ap (λ (some : ℕ × Replica). Some some.1)
-    (sym e)
+replica_of-in (other ∷ others) one up (inl e) = ap (λ b. cond b (Some other.1) (replica_of one.0 others))
+    (eq-eqb one.0 other.0 (ap (λ (some : ℕ × Replica). some.0) e)) ∙ ap (λ (some : ℕ × Replica). Some some.1) (sym e)
 replica_of-in (other ∷ others) one up (inr rest) =
     let less : other.0 < one.0 = AllAbove-in other.0 others one up.0 rest in
     ap (λ b. cond b (Some other.1) (replica_of one.0 others)) (ne_eqb one.0 other.0 (λ e. omega arith)) ∙ replica_of-in others one up.1 rest
@@ -119,24 +113,22 @@ AllAbove-filter test n (one ∷ others) above =
 
 pub Ascending-filter : (test : ℕ × Replica → Bool) (replicas : List (ℕ × Replica)) → Ascending replicas → Ascending (filter test replicas)
 Ascending-filter test [] up = tt
-Ascending-filter test (one ∷ others) up =
-    either Ascending (test one) (one ∷ filter test others) (filter test others)
+Ascending-filter test (one ∷ others) up = either Ascending (test one) (one ∷ filter test others) (filter test others)
     (λ _. (AllAbove-filter test one.0 others up.0, Ascending-filter test others up.1)) (λ _. Ascending-filter test others up.1)
 
 -- nothing at or below a number stands in a list that is above it
-replica_of-above : (s n : ℕ) (replicas : List (ℕ × Replica)) → s ≤ n → AllAbove n replicas → replica_of s replicas ≡ None
-replica_of-above s n [] upto above = refl
-replica_of-above s n (one ∷ others) upto above =
+replica_of-above : {s n : ℕ} (replicas : List (ℕ × Replica)) → s ≤ n → AllAbove n replicas → replica_of s replicas ≡ None
+replica_of-above [] upto above = refl
+replica_of-above {s} {n} (one ∷ others) upto above =
     let less : n < one.0 = above.0 in
-    ap (λ b. cond b (Some one.1) (replica_of s others)) (ne_eqb s one.0 (λ e. omega arith)) ∙ replica_of-above s n others upto above.1
+    ap (λ b. cond b (Some one.1) (replica_of s others)) (ne_eqb s one.0 (λ e. omega arith)) ∙ replica_of-above others upto above.1
 
 -- what stands in the part stands in the list
-pub replica_of-filter : (test : ℕ × Replica → Bool) (s : ℕ) (replica : Replica) (replicas : List (ℕ × Replica)) → Ascending replicas →
+pub replica_of-filter : (test : ℕ × Replica → Bool) (s : ℕ) {replica : Replica} (replicas : List (ℕ × Replica)) → Ascending replicas →
     replica_of s (filter test replicas) ≡ Some replica → replica_of s replicas ≡ Some replica
-replica_of-filter test s replica [] up e = e
-replica_of-filter test s replica (one ∷ others) up e =
-    by_test (test one) refl
-    (λ at. replica_of-filter test s replica others up.1 at) e
+replica_of-filter test s [] up e = e
+replica_of-filter test s {replica} (one ∷ others) up e = by_test (test one) refl
+    (λ at. replica_of-filter test s others up.1 at) e
   where
     none_some : {X : Type 0} (x : X) → None ≡ Some x → ⊥
     none_some x never = cc
@@ -147,7 +139,7 @@ replica_of-filter test s replica (one ∷ others) up e =
     skipped false differs at found = found
     skipped true same at found =
         let e : s ≡ one.0 = eqb-true s one.0 same in
-        let none : replica_of s others ≡ None = replica_of-above s one.0 others (omega arith) up.0 in
+        let none : replica_of s others ≡ None = replica_of-above others (omega arith) up.0 in
         absurd (none_some replica (sym none ∙ found))
 
     kept : (b : Bool) → nat_eq s one.0 ≡ b →
@@ -164,12 +156,12 @@ replica_of-filter test s replica (one ∷ others) up e =
     by_test false t rec at = skipped (nat_eq s one.0) refl at (rec at)
 
 -- what passes the test stays
-pub replica_of-passes : (test : ℕ × Replica → Bool) (s : ℕ) (replica : Replica) (replicas : List (ℕ × Replica)) →
+pub replica_of-passes : {test : ℕ × Replica → Bool} {s : ℕ} {replica : Replica} (replicas : List (ℕ × Replica)) →
     replica_of s replicas ≡ Some replica → ((one : ℕ × Replica) → one.0 ≡ s → test one ≡ true) →
     replica_of s (filter test replicas) ≡ Some replica
-replica_of-passes test s replica [] e passes = e
-replica_of-passes test s replica (one ∷ others) e passes =
-    by (test one) refl (nat_eq s one.0) refl (λ at. replica_of-passes test s replica others at passes) e
+replica_of-passes [] e passes = e
+replica_of-passes {test} {s} {replica} (one ∷ others) e passes =
+    by (test one) refl (nat_eq s one.0) refl (λ at. replica_of-passes others at passes) e
   where
     by : (b : Bool) → test one ≡ b → (same : Bool) → nat_eq s one.0 ≡ same →
         (replica_of s others ≡ Some replica → replica_of s (filter test others) ≡ Some replica) →
@@ -182,9 +174,8 @@ replica_of-passes test s replica (one ∷ others) e passes =
     by false t false same rec at = rec at
 
 -- of another segment nothing goes
-pub replica_of-without : (s seg : ℕ) (replica : Replica) (replicas : List (ℕ × Replica)) → (s ≡ seg → ⊥) →
+pub replica_of-without : {s seg : ℕ} {replica : Replica} (replicas : List (ℕ × Replica)) → (s ≡ seg → ⊥) →
     replica_of s replicas ≡ Some replica →
     replica_of s (without_replica seg replicas) ≡ Some replica
-replica_of-without s seg replica replicas differs e =
-    replica_of-passes (λ one. not (nat_eq seg one.0)) s replica replicas e
+replica_of-without {seg} replicas differs e = replica_of-passes replicas e
     (λ one same. ap not (ne_eqb seg one.0 (λ is. differs (sym (is ∙ same)))))

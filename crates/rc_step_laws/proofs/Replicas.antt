@@ -24,8 +24,8 @@ begins-places (x ∷ xs) (y ∷ ys) at =
     (rest.0, ap (λ (h : Entry). h ∷ (xs ++ rest.0)) (sym same) ∙ ap (λ (t : List Entry). y ∷ t) rest.1)
 
 -- a beginning as long as the whole is the whole
-pub begins-whole : (xs ys : List Entry) → Begins xs ys → length xs ≡ length ys → xs ≡ ys
-begins-whole xs ys b same = by b.0 b.1
+pub begins-whole : {xs ys : List Entry} → Begins xs ys → length xs ≡ length ys → xs ≡ ys
+begins-whole {xs} {ys} b same = by b.0 b.1
   where
     by : (rest : List Entry) → xs ++ rest ≡ ys → xs ≡ ys
     by [] e = sym (append-nil xs) ∙ e
@@ -38,12 +38,12 @@ begins-whole xs ys b same = by b.0 b.1
 pub grown-places : (log entries : List Entry) (offset : ℕ) (more : List Entry) → offset ≤ length entries →
     Begins entries log → Stands more offset log →
     (k : ℕ) (x : Entry) → slice_get (grown entries offset more) k ≡ Some x → slice_get log k ≡ Some x
-grown-places log entries offset more no_gap begins stands k x at = by (get-append entries (drop (length entries - offset) more) k x at)
+grown-places log entries offset more no_gap begins stands k x at = by (get-append entries (drop (length entries - offset) more) k at)
   where
     by : (slice_get entries k ≡ Some x) ⊎
         ((j : ℕ) × (k ≡ length entries + j) × (slice_get (drop (length entries - offset) more) j ≡ Some x)) →
         slice_get log k ≡ Some x
-    by (inl there) = get-begins entries log begins k x there
+    by (inl there) = get-begins entries begins k there
     by (inr (j, e, there)) =
         let place : offset + (length entries - offset + j) ≡ k = omega arith in
         subst (λ n. slice_get log n ≡ Some x) place
@@ -51,11 +51,10 @@ grown-places log entries offset more no_gap begins stands k x at = by (get-appen
 
 -- the same for what was sent
 pub grown-made : (sent : List Message) (m : ServerId) (s : ℕ) (entries : List Entry) (offset : ℕ) (more : List Entry) →
-    offset ≤ length entries →
-    ((k : ℕ) (x : Entry) → slice_get entries k ≡ Some x → HasMade sent m s k x) →
+    offset ≤ length entries → ((k : ℕ) (x : Entry) → slice_get entries k ≡ Some x → HasMade sent m s k x) →
     ((j : ℕ) (x : Entry) → slice_get more j ≡ Some x → HasMade sent m s (offset + j) x) →
     (k : ℕ) (x : Entry) → slice_get (grown entries offset more) k ≡ Some x → HasMade sent m s k x
-grown-made sent m s entries offset more no_gap old new k x at = by (get-append entries (drop (length entries - offset) more) k x at)
+grown-made sent m s entries offset more no_gap old new k x at = by (get-append entries (drop (length entries - offset) more) k at)
   where
     by : (slice_get entries k ≡ Some x) ⊎
         ((j : ℕ) × (k ≡ length entries + j) × (slice_get (drop (length entries - offset) more) j ≡ Some x)) →
@@ -106,25 +105,24 @@ pub record Changed (sent : List Message) (m : ServerId) (log : Log) (index gener
   pub longer : (old : Replica) → before ≡ Some old → length old.entries ≤ length after.entries
   pub closed : (old : Replica) → before ≡ Some old → old.closed ≡ true → after.closed ≡ true
 
-pub some-same : (one other : Replica) → Some one ≡ Some other → one ≡ other
-some-same one other e = cc
+pub some-same : {one other : Replica} → Some one ≡ Some other → one ≡ other
+some-same e = cc
 
 -- a change of a replica that was there
-pub changed-some : (sent : List Message) (m : ServerId) (log : Log) (index generation s : ℕ) (old new : Replica) →
+pub changed-some : {sent : List Message} {m : ServerId} {log : Log} {index generation s : ℕ} {old new : Replica} →
     GoodReplica sent m log index generation s new →
     old.epoch ≤ new.epoch → length old.entries ≤ length new.entries → (old.closed ≡ true → new.closed ≡ true) →
     Changed sent m log index generation s (Some old) new
-changed-some sent m log index generation s old new good up longer closed = record {
+changed-some {new} good up longer closed = record {
   good = good;
-  epoch = λ other e. subst (λ (r : Replica). r.epoch ≤ new.epoch) (some-same old other e) up;
-  longer = λ other e. subst (λ (r : Replica). length r.entries ≤ length new.entries) (some-same old other e) longer;
-  closed = λ other e. subst (λ (r : Replica). r.closed ≡ true → new.closed ≡ true) (some-same old other e) closed;
+  epoch = λ other e. subst (λ (r : Replica). r.epoch ≤ new.epoch) (some-same e) up;
+  longer = λ other e. subst (λ (r : Replica). length r.entries ≤ length new.entries) (some-same e) longer;
+  closed = λ other e. subst (λ (r : Replica). r.closed ≡ true → new.closed ≡ true) (some-same e) closed;
 }
 
-pub changed-none : (sent : List Message) (m : ServerId) (log : Log) (index generation s : ℕ) (old : Replica) →
+pub changed-none : {sent : List Message} {m : ServerId} {log : Log} {index generation s : ℕ} {old : Replica} →
     GoodReplica sent m log index generation s old → Changed sent m log index generation s (Some old) old
-changed-none sent m log index generation s old good =
-    changed-some sent m log index generation s old old good (omega arith) (omega arith) (λ same. same)
+changed-none good = changed-some good (omega arith) (omega arith) (λ same. same)
 
 -- what a host's running server has told of a segment still stands in its replica
 pub record Stood (before : Option Replica) (e len : ℕ) (closed : Bool) : Type 0 where
@@ -145,9 +143,9 @@ pub record AboveTold (sent : List Message) (m : ServerId) (index s e : ℕ) (clo
   pub closed_too : (x : ServerId) → x.index ≡ index → IsMember sent m s e x → HasToldClosed sent x m s e → closed ≡ true
 
 -- a whole closed copy is
-pub above-whole : (sent : List Message) (m : ServerId) (log : Log) (index s e len : ℕ) → OwnFine sent m log →
+pub above-whole : {sent : List Message} {m : ServerId} {log : Log} {index s e len : ℕ} → OwnFine sent m log →
     len ≡ length (log_in log s) → AboveTold sent m index s e true len
-above-whole sent m log index s e len fine whole = record {
+above-whole {log} {s} {e} {len} fine whole = record {
   above = λ x o on member told. (
       let within : told.len ≤ length (log_in log s) = (fine.told x s e told.len told.closed told.told).within in
       let less : o < told.len = told.above in
@@ -190,8 +188,7 @@ above-proper sent m master z s e digest entries before len closed good at stood 
 pub placed-copy : (sent : List Message) (m : ServerId) (master : Master) (z : ServerId) (s e : ℕ) (digest : List ℕ)
     (entries : List Entry) (closed : Bool) (mark : Bool) (all : List Entry) (digest_now : List ℕ) →
     In (between m z (Place s e digest entries closed)) sent → IsPlace sent m master.log z s e digest entries closed →
-    Begins all (log_in master.log s) →
-    ((k : ℕ) (x : Entry) → slice_get all k ≡ Some x → HasMade sent m s k x) →
+    Begins all (log_in master.log s) → ((k : ℕ) (x : Entry) → slice_get all k ≡ Some x → HasMade sent m s k x) →
     (mark ≡ true → (s < master.log.head) × (length all ≡ length (log_in master.log s))) →
     (mark ≡ false → (closed ≡ false) × (length entries ≤ length all)) → digest_now ≡ (master.log.segments s).digest →
     AboveTold sent m z.index s e mark (length all) → IsCopy sent m master.log z.index z.generation s e mark (length all) digest_now
@@ -199,7 +196,7 @@ placed-copy sent m master z s e digest entries closed mark all digest_now at pla
   opened = place.opened;
   made = λ o below. (
       let found : (x : Entry) × (slice_get all o ≡ Some x) = get-below all o below in
-      (found.0, get-begins all (log_in master.log s) begins o found.0 found.1, made o found.0 found.1));
+      (found.0, get-begins all begins o found.1, made o found.0 found.1));
   within = begins-length all (log_in master.log s) begins;
   whole = whole;
   placed = record { to = z; digest = digest; entries = entries; closed = closed; placed = at; host = refl; since = omega arith };

@@ -18,9 +18,9 @@ use Rattle.rc_model.proofs.Tests.{true_false}
 
 -- Dead segments
 
-of-parts : (term table key version : ℕ) (other : Entry) → (is_of term table key other && nat_lt version other.version) ≡ true
+of-parts : {term table key version : ℕ} (other : Entry) → (is_of term table key other && nat_lt version other.version) ≡ true
     → (other.term ≡ term) × (other.table ≡ table) × (other.key ≡ key) × (version < other.version)
-of-parts term table key version other e =
+of-parts {term} {table} {key} {version} other e =
     let both = and_parts (is_of term table key other) (nat_lt version other.version) e in
     let first = and_parts (nat_eq other.term term) (nat_eq other.table table && nat_eq other.key key) both.0 in
     let second = and_parts (nat_eq other.table table) (nat_eq other.key key) first.1 in (
@@ -30,55 +30,54 @@ of-parts term table key version other e =
       ltb-true version other.version both.1,
     )
 
-outdated-is : (sent : List Message) (m : ServerId) (master : Master) (entry : Entry) → GoodLog sent m master.log →
+outdated-is : {sent : List Message} {m : ServerId} (master : Master) {entry : Entry} → GoodLog sent m master.log →
     is_outdated (durable_entries master) entry ≡ true → IsOutdated sent m master.log entry
-outdated-is sent m master entry good e =
-    let found = any-one (λ (other : Entry). is_of entry.term entry.table entry.key other &&
-    nat_lt entry.version other.version) (durable_entries master) e in
-    let same = of-parts entry.term entry.table entry.key entry.version found.0 found.2 in
+outdated-is master good e =
+    let found = any-one (durable_entries master) e in
+    let same = of-parts found.0 found.2 in
     let at = In-take master.log.durable (entries_of master.log) found.0 found.1 in
-    let place = get-map (λ (one : LogPlace). one.entry) (places_of master.log) at.0 found.0 at.2 in
-    let is : IsOf master.log.segments master.log.head place.0 = places_to-are master.log.segments master.log.head at.0 place.0 place.1 in
+    let place = get-map (places_of master.log) at.0 at.2 in
+    let is : IsOf master.log.segments master.log.head place.0 = places_to-are master.log.head at.0 place.1 in
     record {
       seg = place.0.seg;
       offset = place.0.offset;
       other = found.0;
       safe = good.counted at.0 place.0 at.1 place.1;
-      holds = place-logged master.log place.0 is ∙ ap Some place.2;
+      holds = place-logged master.log is ∙ ap Some place.2;
       term = same.0;
       table = same.1;
       key = same.2;
       greater = same.3;
     }
 
-pub dead-is : (sent : List Message) (m : ServerId) (master : Master) (s : ℕ) → GoodLog sent m master.log →
+pub dead-is : {sent : List Message} {m : ServerId} (master : Master) {s : ℕ} → GoodLog sent m master.log →
     is_dead_segment master s ≡ true → IsDead sent m master.log s
-dead-is sent m master s good e =
+dead-is master {s} good e =
     let both = and_parts (master.log.segments s).shut (is_dead (durable_entries master) (log_in master.log s)) e in
     record {
       shut = both.0;
-      outdated = λ o entry at. outdated-is sent m master entry good
+      outdated = λ o entry at. outdated-is master good
           (all-each (is_outdated (durable_entries master)) entry (log_in master.log s) both.1
           (In-get (log_in master.log s) o entry at));
     }
 
 -- what is among the dead segments is dead
-dead-among : (sent : List Message) (m : ServerId) (master : Master) (s : ℕ) → GoodLog sent m master.log →
+dead-among : {sent : List Message} {m : ServerId} (master : Master) {s : ℕ} → GoodLog sent m master.log →
     list_any (nat_eq s) (dead_segments master) ≡ true → IsDead sent m master.log s
-dead-among sent m master s good e =
-    let found = any-one (nat_eq s) (dead_segments master) e in
+dead-among {sent} {m} master {s} good e =
+    let found = any-one (dead_segments master) e in
     let same : s ≡ found.0 = eqb-true s found.0 found.2 in
     subst (λ n. IsDead sent m master.log n) (sym same) (by master.free found.0 found.1)
   where
     by : (b : Bool) (t : ℕ) → In t (cond b (filter (is_dead_segment master) (head_of master.log).digest) []) → IsDead sent m master.log t
-    by true t at = dead-is sent m master t good (In-filter (is_dead_segment master) t (head_of master.log).digest at).1
+    by true t at = dead-is master good (In-filter (is_dead_segment master) t (head_of master.log).digest at).1
     by false t at = absurd at
 
 -- The digest of the next head
 
-pub next-digest : (sent : List Message) (m : ServerId) (master : Master) → GoodLog sent m master.log →
+pub next-digest : {sent : List Message} {m : ServerId} (master : Master) → GoodLog sent m master.log →
     0 < master.log.head → NewDigest sent m master.log (next_digest master.log (dead_segments master))
-next-digest sent m master good above = record {
+next-digest {sent} {m} master good above = record {
   own = In-right h old (h ∷ []) (inl refl);
   upto = λ t at. by_upto t (In-append t old (h ∷ []) at);
   lacks = λ t over less. by_lacks t (last_or t less) over;
@@ -113,8 +112,7 @@ next-digest sent m master good above = record {
     or_not false true e = true_false e
 
     in_old : (t : ℕ) → In t (head_of master.log).digest → (In t old ⊎ IsDead sent m master.log t)
-    in_old t at = split (list_any (nat_eq t) (dead_segments master))
-        (λ dead. inr (dead-among sent m master t good dead))
+    in_old t at = split (list_any (nat_eq t) (dead_segments master)) (λ dead. inr (dead-among master good dead))
         (λ alive. inl (filter-In test t (head_of master.log).digest at
         (or_not (nat_eq t master.log.head) (list_any (nat_eq t) (dead_segments master)) alive)))
 
@@ -127,8 +125,7 @@ next-digest sent m master good above = record {
     by_digest t (inr dead) = inr dead
 
     by_lacks : (t : ℕ) → (t ≡ master.log.head) ⊎ (t < master.log.head) → 0 < t → In t (old ++ h ∷ []) ⊎ IsDead sent m master.log t
-    by_lacks t (inl same) over =
-        inl (In-left t old (h ∷ [])
+    by_lacks t (inl same) over = inl (In-left t old (h ∷ [])
         (filter-In test t (head_of master.log).digest (subst (λ n. In n (head_of master.log).digest) (sym same) is.own)
         (or_left (nat_eq t master.log.head) (not (list_any (nat_eq t) (dead_segments master))) (eq-eqb t master.log.head same))))
     by_lacks t (inr less) over = by_digest t (is.lacks t over less)

@@ -13,33 +13,30 @@ use Rattle.rc_step_laws.proofs.Places.{IsOf, IsCovered, places_to-are, place-log
 use Rattle.rc_model.proofs.Tests.{true_false, either}
 
 -- the least that was told is told by each
-least_of-left : (o a b : ℕ) → o < min a b → o < a
-least_of-left o a b less = omega arith
+least_of-left : {o a : ℕ} (b : ℕ) → o < min a b → o < a
+least_of-left b less = omega arith
 
-least_of-right : (o a b : ℕ) → o < min a b → o < b
-least_of-right o a b less = omega arith
+least_of-right : {o : ℕ} (a : ℕ) {b : ℕ} → o < min a b → o < b
+least_of-right a less = omega arith
 
 least_told-below : (o : ℕ) (members : List Member) (member : Member) → o < least_told members → In member members → o < told_len member.told
 least_told-below o [] member less at = absurd at
 least_told-below o (one ∷ []) member less (inl e) = subst (λ (some : Member). o < told_len some.told) (sym e) less
 least_told-below o (one ∷ []) member less (inr rest) = absurd rest
 least_told-below o (one ∷ other ∷ members) member less (inl e) =
-    subst (λ (some : Member). o < told_len some.told) (sym e) (least_of-left o (told_len one.told) (least_told (other ∷ members)) less)
+    subst (λ (some : Member). o < told_len some.told) (sym e) (least_of-left (least_told (other ∷ members)) less)
 least_told-below o (one ∷ other ∷ members) member less (inr rest) =
-    least_told-below o (other ∷ members) member (least_of-right o (told_len one.told) (least_told (other ∷ members)) less) rest
+    least_told-below o (other ∷ members) member (least_of-right (told_len one.told) less) rest
 
 -- below the durable length the epoch is committed, and each member has told more
-pub durable_len-tells : (o : ℕ) (config : Config) → o < durable_len config →
+pub durable_len-tells : {o : ℕ} (config : Config) → o < durable_len config →
     (config.committed ≡ true) × ((member : Member) → In member config.members → o < told_len member.told)
-durable_len-tells o config less =
+durable_len-tells {o} config less =
     either (λ len. o < len → (config.committed ≡ true) × ((member : Member) → In member config.members → o < told_len member.told))
-    (config.committed && not (any_lost config.members)) (least_told config.members) 0
-    (λ e below. (
+    (config.committed && not (any_lost config.members)) (least_told config.members) 0 (λ e below. (
       (and_parts config.committed (not (any_lost config.members)) e).0,
-      λ member at.
-          least_told-below o config.members member below at,
-    ))
-    (λ _ below. absurd (omega arith)) less
+      λ member at. least_told-below o config.members member below at,
+    )) (λ _ below. absurd (omega arith)) less
 
 -- a member under the present epoch of a shut segment has told the whole
 shut-told : (sent : List Message) (m : ServerId) (log : Log) (s o : ℕ) (x : ServerId) → OwnFine sent m log →
@@ -58,12 +55,12 @@ open-told : (sent : List Message) (m : ServerId) (log : Log) (s o : ℕ) (x : Se
 open-told sent m log s o x good fine open_now below at =
     let placed = fine.places x s (log.segments s).config.epoch at.digest at.entries false at.placed in
     let found = In-map (λ (member : Member). member.id) x (log.segments s).config.members (placed.member refl refl open_now) in
-    let tells = (durable_len-tells o (log.segments s).config below).1 found.0 found.1 in
+    let tells = (durable_len-tells (log.segments s).config below).1 found.0 found.1 in
     subst (λ y. HasTold sent y m s (log.segments s).config.epoch o) (sym found.2) ((good.each s).noted found.0 found.1 o tells)
 
-pub covered-safe : (sent : List Message) (m : ServerId) (log : Log) (place : LogPlace) → GoodLog sent m log → OwnFine sent m log
+pub covered-safe : {sent : List Message} {m : ServerId} {log : Log} {place : LogPlace} → GoodLog sent m log → OwnFine sent m log
     → IsOf log.segments log.head place → IsCovered log.segments place → IsSafe sent m log place.seg place.offset
-covered-safe sent m log place good fine is covered = record {
+covered-safe {sent} {m} {log} {place} good fine is covered = record {
   opened = record { above = is.above; below = is.upto };
   logged = logged;
   epoch = (log.segments place.seg).config.epoch;
@@ -78,15 +75,15 @@ covered-safe sent m log place good fine is covered = record {
 }
   where
     logged : place.offset < length (log_in log place.seg)
-    logged = get-within (log_in log place.seg) place.offset place.entry (place-logged log place is)
+    logged = get-within (log_in log place.seg) place.offset (place-logged log is)
 
     below_len : (o : ℕ) (segment : Segment) → o < durable_in segment → o < durable_len segment.config
-    below_len o segment less = least_of-left o (durable_len segment.config) (length segment.entries) less
+    below_len o segment less = least_of-left (length segment.entries) less
 
     committed : ((log.segments place.seg).shut ≡ true) ⊎ (place.offset < durable_in (log.segments place.seg)) →
         (log.segments place.seg).config.committed ≡ true
     committed (inl shut) = (good.each place.seg).shut_committed shut
-    committed (inr less) = (durable_len-tells place.offset (log.segments place.seg).config
+    committed (inr less) = (durable_len-tells (log.segments place.seg).config
         (below_len place.offset (log.segments place.seg) less)).0
 
     durable : (log.segments place.seg).shut ≡ false → ((log.segments place.seg).shut ≡ true) ⊎
@@ -99,5 +96,5 @@ covered-safe sent m log place good fine is covered = record {
 pub durable-safe : (sent : List Message) (m : ServerId) (log : Log) (k : ℕ) (place : LogPlace) → GoodLog sent m log →
     OwnFine sent m log → k < durable_now log
     → slice_get (places_of log) k ≡ Some place → IsSafe sent m log place.seg place.offset
-durable-safe sent m log k place good fine less at = covered-safe sent m log place good fine
-    (places_to-are log.segments log.head k place at) (durable-covered log k place less at)
+durable-safe sent m log k place good fine less at = covered-safe good fine
+    (places_to-are log.head k at) (durable-covered log k place less at)

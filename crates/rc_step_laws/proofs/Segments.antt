@@ -27,9 +27,9 @@ pub record SegmentLater (sent : List Message) (m : ServerId) (head s : ℕ) (old
       In x (ids_of old.config.members) → HasToldClosed sent x m s new.config.epoch
 
 -- a segment that stays
-pub later-refl : (sent : List Message) (m : ServerId) (head s : ℕ) (segment : Segment) → SegmentLater sent m head s segment segment
-later-refl sent m head s segment = record {
-  grows = begins-refl segment.entries;
+pub later-refl : {sent : List Message} {m : ServerId} {head s : ℕ} {segment : Segment} → SegmentLater sent m head s segment segment
+later-refl = record {
+  grows = begins-refl;
   final = λ below. refl;
   digest = λ upto. refl;
   epoch = λ upto. omega arith;
@@ -39,9 +39,9 @@ later-refl sent m head s segment = record {
 }
 
 -- where each segment is later, the log is
-pub log-later : (sent : List Message) (m : ServerId) (old new : Log) → old.head ≤ new.head →
+pub log-later : {sent : List Message} {m : ServerId} {old new : Log} → old.head ≤ new.head →
     ((s : ℕ) → SegmentLater sent m old.head s (old.segments s) (new.segments s)) → LogLater sent m old new
-log-later sent m old new head each = record {
+log-later head each = record {
   head = head;
   grows = λ s. (each s).grows;
   final = λ s below. (each s).final below;
@@ -56,15 +56,13 @@ log-later sent m old new head each = record {
 pub counted-still : (sent sent_now : List Message) (m : ServerId) (old new : Log) → GoodLog sent m old →
     LogLater sent_now m old new → new.durable ≡ old.durable
     → (k : ℕ) (place : LogPlace) → k < new.durable → slice_get (places_of new) k ≡ Some place → IsSafe sent m old place.seg place.offset
-counted-still sent sent_now m old new good later same k place less at =
-    good.counted k place (omega (arith, same))
-    (get-begins_back (places_of old) (places_of new) (places-later sent_now m old new later) k place
-    (omega (arith, same, good.durable_within)) at)
+counted-still sent sent_now m old new good later same k place less at = good.counted k place (omega (arith, same))
+    (get-begins_back (places_of old) (places-later later) (omega (arith, same, good.durable_within)) at)
 
-pub within-still : (sent sent_now : List Message) (m : ServerId) (old new : Log) → GoodLog sent m old →
+pub within-still : {sent sent_now : List Message} {m : ServerId} {old new : Log} → GoodLog sent m old →
     LogLater sent_now m old new → new.durable ≡ old.durable → new.durable ≤ length (places_of new)
-within-still sent sent_now m old new good later same =
-    let longer = begins-length (places_of old) (places_of new) (places-later sent_now m old new later) in
+within-still {old} {new} good later same =
+    let longer = begins-length (places_of old) (places_of new) (places-later later) in
     omega (arith, same, good.durable_within)
 
 -- a change of one opened segment, with these messages
@@ -78,10 +76,10 @@ pub record SegmentParts (sent : List Message) (m : ServerId) (log : Log) (s : �
   pub news : (x : ServerId) (t e : ℕ) (digest : List ℕ) (entries : List Entry) → In (between m x (Place t e digest entries false)) messages
       → IsMember sent m t e x ⊎ IsFresh log (with_segment s new log) x t e
 
-pub put-moved : (sent : List Message) (m : ServerId) (log : Log) (s : ℕ) (new : Segment) (messages : List Message) →
+pub put-moved : {sent : List Message} {m : ServerId} {log : Log} {s : ℕ} {new : Segment} {messages : List Message} →
     GoodLog sent m log → OwnFine sent m log → SegmentParts sent m log s new messages
     → LogMoved sent m log (with_segment s new log) messages
-put-moved sent m log s new messages good fine parts = moved-log sent m log (with_segment s new log) messages good fine (record {
+put-moved {sent} {m} {log} {s} {new} {messages} good fine parts = moved-log good fine (record {
   later = later;
   says = parts.says;
   own = good.own;
@@ -98,13 +96,13 @@ put-moved sent m log s new messages good fine parts = moved-log sent m log (with
   news = parts.news;
   counted = counted-still sent (sent ++ messages) m log (with_segment s new log) good later refl;
   digests = λ t over upto. absurd (omega arith);
-  durable_within = within-still sent (sent ++ messages) m log (with_segment s new log) good later refl;
+  durable_within = within-still good later refl;
 })
   where
     later : LogLater (sent ++ messages) m log (with_segment s new log)
-    later = log-later (sent ++ messages) m log (with_segment s new log) (omega arith)
+    later = log-later (omega arith)
         (put_each (λ n segment. SegmentLater (sent ++ messages) m log.head n (log.segments n) segment) log.segments s
-        new parts.later (λ n. later-refl (sent ++ messages) m log.head n (log.segments n)))
+        new parts.later (λ n. later-refl))
 
 -- A change that keeps the entries, the mark and the epoch
 
@@ -121,10 +119,10 @@ pub record SegmentSteady (sent : List Message) (m : ServerId) (s : ℕ) (old new
   pub noted_closed : (member : Member) → In member new.config.members → told_closed member.told ≡ true →
       HasToldClosed sent member.id m s new.config.epoch
 
-steady-later : (sent sent_now : List Message) (m : ServerId) (head s : ℕ) (old new : Segment) →
+steady-later : {sent sent_now : List Message} {m : ServerId} {head s : ℕ} {old new : Segment} →
     SegmentSteady sent m s old new → SegmentLater sent_now m head s old new
-steady-later sent sent_now m head s old new p = record {
-  grows = subst (λ l. Begins old.entries l) (sym p.entries) (begins-refl old.entries);
+steady-later {old} p = record {
+  grows = subst (λ l. Begins old.entries l) (sym p.entries) (begins-refl);
   final = λ below. p.entries;
   digest = λ upto. p.digest;
   epoch = λ upto. omega (arith, p.epoch);
@@ -133,10 +131,10 @@ steady-later sent sent_now m head s old new p = record {
   shuts = λ x upto before shut same at. true_false (sym shut ∙ p.shut ∙ before);
 }
 
-steady-good : (sent sent_now : List Message) (m : ServerId) (phase : Phase) (head s : ℕ) (old new : Segment) →
+steady-good : {sent sent_now : List Message} {m : ServerId} {phase : Phase} {head s : ℕ} {old new : Segment} →
     More sent sent_now → SegmentSteady sent m s old new → GoodSegment sent m phase head s old
     → GoodSegment sent_now m phase head s new
-steady-good sent sent_now m phase head s old new more p good = record {
+steady-good {sent} {sent_now} {m} {s} {old} more p good = record {
   old_shut = λ above less. p.shut ∙ good.old_shut above less;
   writing_shut = λ writing above less. p.shut ∙ good.writing_shut writing above less;
   shut_below = λ e. good.shut_below (sym p.shut ∙ e);
@@ -148,21 +146,20 @@ steady-good sent sent_now m phase head s old new more p good = record {
   apart = λ open_now. (let was : old.shut ≡ false = sym p.shut ∙ open_now in subst OnDifferentHosts (sym (p.ids was)) (good.apart was));
   noted = λ member at o less. told-more more (p.noted member at o less);
   noted_closed = λ member at told. told_closed-more more (p.noted_closed member at told);
-  committed = λ e. committed-more sent sent_now m s new.config.epoch more (p.granted e);
+  committed = λ e. committed-more sent sent_now m s more (p.granted e);
 }
 
-pub steady-moved : (sent : List Message) (m : ServerId) (log : Log) (s : ℕ) (new : Segment) (messages : List Message) →
-    GoodLog sent m log → OwnFine sent m log → IsOpened log s
-    → SegmentSteady sent m s (log.segments s) new
+pub steady-moved : {sent : List Message} {m : ServerId} {log : Log} {s : ℕ} {new : Segment} {messages : List Message} →
+    GoodLog sent m log → OwnFine sent m log → IsOpened log s → SegmentSteady sent m s (log.segments s) new
     → ((message : Message) → In message messages → MasterSays sent (sent ++ messages) m log (with_segment s new log) message)
     → ((x : ServerId) (t e : ℕ) (digest : List ℕ) (entries : List Entry) →
     In (between m x (Place t e digest entries false)) messages →
     IsMember sent m t e x ⊎ IsFresh log (with_segment s new log) x t e)
     → LogMoved sent m log (with_segment s new log) messages
-steady-moved sent m log s new messages good fine opened steady says news = put-moved sent m log s new messages good fine (record {
+steady-moved {sent} {s} {messages} good fine opened steady says news = put-moved good fine (record {
   opened = opened;
-  later = steady-later sent (sent ++ messages) m log.head s (log.segments s) new steady;
-  good = steady-good sent (sent ++ messages) m log.phase log.head s (log.segments s) new (more-left sent messages) steady (good.each s);
+  later = steady-later steady;
+  good = steady-good (more-left sent messages) steady (good.each s);
   quiet = λ _. steady.entries;
   says = says;
   news = news;
@@ -175,9 +172,9 @@ pub record SegmentMarked (old new : Segment) : Type 0 where
   pub shut : new.shut ≡ old.shut
   pub config : new.config ≡ old.config
 
-pub marked-steady : (sent : List Message) (m : ServerId) (phase : Phase) (head s : ℕ) (old new : Segment) →
+pub marked-steady : {sent : List Message} {m : ServerId} {phase : Phase} {head s : ℕ} {old new : Segment} →
     GoodSegment sent m phase head s old → SegmentMarked old new → SegmentSteady sent m s old new
-marked-steady sent m phase head s old new good p = record {
+marked-steady {sent} {m} {s} good p = record {
   entries = p.entries;
   digest = p.digest;
   shut = p.shut;
@@ -193,14 +190,12 @@ marked-steady sent m phase head s old new good p = record {
 }
 
 -- a mark, with messages among which is no proper Place
-pub marked-moved : (sent : List Message) (m : ServerId) (log : Log) (s : ℕ) (new : Segment) (messages : List Message) →
-    GoodLog sent m log → OwnFine sent m log → IsOpened log s
-    → SegmentMarked (log.segments s) new
+pub marked-moved : {sent : List Message} {m : ServerId} {log : Log} {s : ℕ} {new : Segment} {messages : List Message} →
+    GoodLog sent m log → OwnFine sent m log → IsOpened log s → SegmentMarked (log.segments s) new
     → ((message : Message) → In message messages → MasterSays sent (sent ++ messages) m log (with_segment s new log) message)
     → ((x : ServerId) (t e : ℕ) (digest : List ℕ) (entries : List Entry) →
     In (between m x (Place t e digest entries false)) messages →
     IsMember sent m t e x ⊎ IsFresh log (with_segment s new log) x t e)
     → LogMoved sent m log (with_segment s new log) messages
-marked-moved sent m log s new messages good fine opened marked says news =
-    steady-moved sent m log s new messages good fine opened (marked-steady sent m log.phase log.head s (log.segments s)
-    new (good.each s) marked) says news
+marked-moved {s} good fine opened marked says news =
+    steady-moved good fine opened (marked-steady (good.each s) marked) says news

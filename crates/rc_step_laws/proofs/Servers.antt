@@ -13,8 +13,8 @@ crashed-parts true false e = (refl, refl)
 crashed-parts true true e = absurd (true_false (sym e))
 crashed-parts false mark e = absurd (true_false (sym e))
 
-crashed-join : (known mark : Bool) → known ≡ true → mark ≡ false → (known && cond mark false true) ≡ true
-crashed-join known mark k e = ap (λ b. b && cond mark false true) k ∙ ap (λ b. cond b false true) e
+crashed-join : {known mark : Bool} → known ≡ true → mark ≡ false → (known && cond mark false true) ≡ true
+crashed-join {mark} k e = ap (λ b. b && cond mark false true) k ∙ ap (λ b. cond b false true) e
 
 -- who has crashed isn't up
 pub crashed-not-up : (servers : ServerList) (m : ServerId) → has_crashed servers m ≡ true → is_up servers m ≡ false
@@ -39,13 +39,11 @@ marked-id_crashed id m (row ∷ rows) e = by (same_id m row.0) (same_id id row.0
 
 pub crashed-stays-crashed : (id m : ServerId) (servers : ServerList) → has_crashed servers m ≡ true →
     has_crashed (crashed id servers) m ≡ true
-crashed-stays-crashed id m servers e =
-    either (λ (now : ServerList). has_crashed now m ≡ true) (is_up servers id)
+crashed-stays-crashed id m servers e = either (λ (now : ServerList). has_crashed now m ≡ true) (is_up servers id)
     (record { version = servers.version + 1; rows = id_crashed id servers.rows }) servers
     (λ _. (let parts : (knows servers.rows m ≡ true) × (marked_up servers.rows m ≡ false) = crashed-parts
     (knows servers.rows m) (marked_up servers.rows m) e in
-    crashed-join (knows (id_crashed id servers.rows) m) (marked_up (id_crashed id servers.rows) m)
-    (knows-id_crashed id m servers.rows ∙ parts.0) (marked-id_crashed id m servers.rows parts.1)))
+    crashed-join (knows-id_crashed id m servers.rows ∙ parts.0) (marked-id_crashed id m servers.rows parts.1)))
     (λ _. e)
 
 knows-index_crashed : (index : ℕ) (m : ServerId) (rows : List (ServerId × Bool)) → knows (index_crashed index rows) m ≡ knows rows m
@@ -90,9 +88,7 @@ crashed-stays-enlisted id m servers e =
     let parts : (knows servers.rows m ≡ true) × (marked_up servers.rows m ≡ false) =
     crashed-parts (knows servers.rows m) (marked_up servers.rows m) e in
     let known : knows (index_crashed id.index servers.rows) m ≡ true = knows-index_crashed id.index m servers.rows ∙ parts.0 in
-    crashed-join (knows (index_crashed id.index servers.rows ++ (id, true) ∷ []) m)
-    (marked_up (index_crashed id.index servers.rows ++ (id, true) ∷ []) m)
-    (knows-longer m (index_crashed id.index servers.rows) ((id, true) ∷ []) known)
+    crashed-join (knows-longer m (index_crashed id.index servers.rows) ((id, true) ∷ []) known)
     (marked-longer m (index_crashed id.index servers.rows) ((id, true) ∷ []) known ∙ marked-index_crashed id.index m servers.rows parts.1)
 
 -- Of each host at most one id is up
@@ -125,8 +121,7 @@ apart-id_crashed id (row ∷ rows) p = by row.1 (same_id id row.0) (apart-id_cra
 
 pub apart-crashed : (id : ServerId) (servers : ServerList) → OnDifferentHosts (up_rows servers.rows) →
     OnDifferentHosts (up_rows (crashed id servers).rows)
-apart-crashed id servers p =
-    either (λ (now : ServerList). OnDifferentHosts (up_rows now.rows)) (is_up servers id)
+apart-crashed id servers p = either (λ (now : ServerList). OnDifferentHosts (up_rows now.rows)) (is_up servers id)
     (record { version = servers.version + 1; rows = id_crashed id servers.rows }) servers
     (λ _. apart-id_crashed id servers.rows p) (λ _. p)
 

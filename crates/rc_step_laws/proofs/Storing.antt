@@ -16,30 +16,29 @@ use Rattle.rc_model.proofs.Ids.{same_id-true, same_id-refl}
 use Rattle.rc_model.proofs.Tests.{true_false, either}
 
 -- ids that fail the test differ
-differs-id : (a b : ServerId) → same_id a b ≡ false → a ≡ b → ⊥
-differs-id a b no_match same = true_false (sym (subst (λ (c : ServerId). same_id a c ≡ true) same (same_id-refl a)) ∙ no_match)
+differs-id : {a b : ServerId} → same_id a b ≡ false → a ≡ b → ⊥
+differs-id {a} no_match same = true_false (sym (subst (λ (c : ServerId). same_id a c ≡ true) same (same_id-refl a)) ∙ no_match)
 
 -- nothing changes
-pub held_later-refl : (held : Held) → HeldLater held held
-held_later-refl held = record {
+pub held_later-refl : {held : Held} → HeldLater held held
+held_later-refl = record {
   replicas = λ s replica at.
       inl (record {
         replica = replica;
         kept = at;
         epoch = omega arith;
         enough = omega arith;
-        closed_too = λ same.
-            same;
+        closed_too = λ same. same;
       });
   freed = λ s same. same;
   fenced = λ same. same;
 }
 
 -- a Stored is no Place
-stored-no-place : (m x : ServerId) (s e : ℕ) (digest : List ℕ) (entries : List Entry) (closed : Bool) (y n : ServerId)
-    (t f len : ℕ) (mark : Bool) →
+stored-no-place : {m x : ServerId} {s e : ℕ} {digest : List ℕ} {entries : List Entry} {closed : Bool} {y n : ServerId}
+    {t f len : ℕ} {mark : Bool} →
     between m x (Place s e digest entries closed) ≡ between y n (Stored t f len mark) → ⊥
-stored-no-place m x s e digest entries closed y n t f len mark same =
+stored-no-place {s} {e} {digest} {entries} {closed} {t} {f} {len} {mark} same =
     let bodies : Place s e digest entries closed ≡ Stored t f len mark = ap (λ (one : Message). one.body) same in cc
 
 -- what a host's backup keeps of every master
@@ -47,18 +46,18 @@ abbrev pub AllHeld : List Message → (ServerId → Master) → HostNode → Typ
 AllHeld sent masters host = (m : ServerId) → GoodHeld sent m (masters m).log host.index host.generation (host.backup.held m)
 
 -- a changed replica is kept, and told
-pub moved-kept : (sent : List Message) (masters : ServerId → Master) (hosts : ℕ → HostNode) (c : Coordinator)
-    (host : HostNode) (m : ServerId) (seg : ℕ) (after : Replica) →
+pub moved-kept : {sent : List Message} {masters : ServerId → Master} {hosts : ℕ → HostNode} {c : Coordinator}
+    {host : HostNode} {m : ServerId} {seg : ℕ} {after : Replica} →
     host.backup.own ≡ server_of host → AllHeld sent masters host → (host.backup.held m).fenced ≡ false →
     Changed sent m (masters m).log host.index host.generation seg (replica_of seg (host.backup.held m).replicas) after →
     BackupMoved sent masters hosts c host (keeps host.backup m seg (Some after))
-moved-kept sent masters hosts c host m seg after own good unfenced changed = record {
+moved-kept {sent} {masters} {hosts} {c} {host} {m} {seg} {after} own good unfenced changed = record {
   own = refl;
   held = λ n. either (λ (held : Held). GoodHeld sent_now n (masters n).log host.index host.generation held)
       (same_id m n) held_now (host.backup.held n)
-      (λ same. of_same n (same_id-true m n same)) (λ other. of_other n (differs-id m n other));
+      (λ same. of_same n (same_id-true m n same)) (λ other. of_other n (differs-id other));
   later = λ n. either (λ (held : Held). HeldLater (host.backup.held n) held) (same_id m n) held_now (host.backup.held n)
-      (λ same. later_same n (same_id-true m n same)) (λ _. held_later-refl (host.backup.held n));
+      (λ same. later_same n (same_id-true m n same)) (λ _. held_later-refl);
   from = λ message at. from message at;
   says = λ message at. says message at;
 }
@@ -76,8 +75,7 @@ moved-kept sent masters hosts c host m seg after own good unfenced changed = rec
     more message at = In-left message sent (between host.backup.own m (Stored seg after.epoch (length after.entries) after.closed) ∷ []) at
 
     back : NoNewPlaces sent (sent ++ between host.backup.own m (Stored seg after.epoch (length after.entries) after.closed) ∷ [])
-    back n x s e digest entries closed at =
-        by (one-more (between n x (Place s e digest entries closed)) sent
+    back n x s e digest entries closed at = by (one-more (between n x (Place s e digest entries closed)) sent
         (between host.backup.own m (Stored seg after.epoch (length after.entries) after.closed)) at)
       where
         by : In (between n x (Place s e digest entries closed)) sent ⊎
@@ -85,17 +83,14 @@ moved-kept sent masters hosts c host m seg after own good unfenced changed = rec
             (Stored seg after.epoch (length after.entries) after.closed)) →
             In (between n x (Place s e digest entries closed)) sent
         by (inl there) = there
-        by (inr same) = absurd (stored-no-place n x s e digest entries closed host.backup.own m seg after.epoch
-            (length after.entries) after.closed same)
+        by (inr same) = absurd (stored-no-place same)
 
     -- what is newly told is told of this replica
-    newly : (n x : ServerId) (s e len : ℕ) (closed : Bool) →
-        In (between x n (Stored s e len closed))
+    newly : (n x : ServerId) (s e len : ℕ) (closed : Bool) → In (between x n (Stored s e len closed))
         (sent ++ between host.backup.own m (Stored seg after.epoch (length after.entries) after.closed) ∷ []) →
         In (between x n (Stored s e len closed)) sent ⊎ SameStored x host.backup.own n m s seg e after.epoch len
         (length after.entries) closed after.closed
-    newly n x s e len closed at =
-        by (one-more (between x n (Stored s e len closed)) sent
+    newly n x s e len closed at = by (one-more (between x n (Stored s e len closed)) sent
         (between host.backup.own m (Stored seg after.epoch (length after.entries) after.closed)) at)
       where
         by : In (between x n (Stored s e len closed)) sent ⊎
@@ -104,16 +99,13 @@ moved-kept sent masters hosts c host m seg after own good unfenced changed = rec
             In (between x n (Stored s e len closed)) sent ⊎ SameStored x host.backup.own n m s seg e after.epoch len
             (length after.entries) closed after.closed
         by (inl there) = inl there
-        by (inr same) = inr (same-stored x host.backup.own n m s seg e after.epoch len (length after.entries) closed after.closed same)
+        by (inr same) = inr (same-stored same)
 
     -- the replicas of another master
     of_other : (n : ServerId) → (m ≡ n → ⊥) →
         GoodHeld (sent ++ between host.backup.own m (Stored seg after.epoch (length after.entries) after.closed) ∷ []) n
         (masters n).log host.index host.generation (host.backup.held n)
-    of_other n differs = held-told sent
-        (sent ++ between host.backup.own m (Stored seg after.epoch (length after.entries) after.closed) ∷ []) n
-        (masters n).log host.index host.generation host.generation (host.backup.held n) more back (omega arith) nothing
-        (good n)
+    of_other n differs = held-told more back (omega arith) nothing (good n)
       where
         by : (x : ServerId) (s e len : ℕ) (closed : Bool) → In (between x n (Stored s e len closed)) sent ⊎
             SameStored x host.backup.own n m s seg e after.epoch len (length after.entries) closed after.closed →
@@ -131,9 +123,7 @@ moved-kept sent masters hosts c host m seg after own good unfenced changed = rec
     changed_now : GoodReplica
         (sent ++ between host.backup.own m (Stored seg after.epoch (length after.entries) after.closed) ∷ []) m
         (masters m).log host.index host.generation seg after
-    changed_now = replica-told sent
-        (sent ++ between host.backup.own m (Stored seg after.epoch (length after.entries) after.closed) ∷ []) m
-        (masters m).log host.index host.generation host.generation seg after more back (omega arith) upto changed.good
+    changed_now = replica-told more back (omega arith) upto changed.good
       where
         by : (x : ServerId) (len : ℕ) (mark : Bool) → In (between x m (Stored seg after.epoch len mark)) sent ⊎
             SameStored x host.backup.own m m seg seg after.epoch after.epoch len (length after.entries) mark
@@ -142,8 +132,7 @@ moved-kept sent masters hosts c host m seg after own good unfenced changed = rec
         by x len mark (inl there) = inl there
         by x len mark (inr same) = inr (
           (let e : len ≡ length after.entries = same.length_is in omega arith),
-          λ marked.
-              sym same.closed_is ∙ marked,
+          λ marked. sym same.closed_is ∙ marked,
         )
 
         upto : NewlyToldUpTo sent
@@ -155,11 +144,7 @@ moved-kept sent masters hosts c host m seg after own good unfenced changed = rec
     others_now : (s : ℕ) (replica : Replica) → (s ≡ seg → ⊥) → replica_of s (host.backup.held m).replicas ≡ Some replica →
         GoodReplica (sent ++ between host.backup.own m (Stored seg after.epoch (length after.entries) after.closed) ∷
         []) m (masters m).log host.index host.generation s replica
-    others_now s replica differs there =
-        replica-told sent (sent ++
-        between host.backup.own m (Stored seg after.epoch (length after.entries) after.closed) ∷ []) m (masters m).log
-        host.index host.generation host.generation s replica more back (omega arith) upto
-        ((good m).each s replica there)
+    others_now s replica differs there = replica-told more back (omega arith) upto ((good m).each s replica there)
       where
         by : (x : ServerId) (len : ℕ) (mark : Bool) → In (between x m (Stored s replica.epoch len mark)) sent ⊎
             SameStored x host.backup.own m m s seg replica.epoch after.epoch len (length after.entries) mark
@@ -184,7 +169,7 @@ moved-kept sent masters hosts c host m seg after own good unfenced changed = rec
       where
         here : (replica : Replica) → replica_of seg (put_replica seg after (host.backup.held m).replicas) ≡ Some replica → after ≡ replica
         here replica at = let found : replica_of seg (put_replica seg after (host.backup.held m).replicas) ≡ Some
-            after = replica_of-put seg after (host.backup.held m).replicas in cc
+            after = replica_of-put seg (host.backup.held m).replicas in cc
 
         by : (s : ℕ) (replica : Replica) → replica_of s (put_replica seg after (host.backup.held m).replicas) ≡ Some
             replica → (s ≡ seg) ⊎ (s ≡ seg → ⊥) →
@@ -196,12 +181,11 @@ moved-kept sent masters hosts c host m seg after own good unfenced changed = rec
             replica) same at) in
             subst (λ t. GoodReplica (sent ++
             between host.backup.own m (Stored seg after.epoch (length after.entries) after.closed) ∷ []) m
-            (masters m).log host.index host.generation t replica) (sym same)
-            (subst (λ (r : Replica). GoodReplica
+            (masters m).log host.index host.generation t replica) (sym same) (subst (λ (r : Replica). GoodReplica
             (sent ++ between host.backup.own m (Stored seg after.epoch (length after.entries) after.closed) ∷ []) m
             (masters m).log host.index host.generation seg r) is changed_now)
         by s replica at (inr differs) =
-            others_now s replica differs (sym (replica_of-other s seg after (host.backup.held m).replicas differs) ∙ at)
+            others_now s replica differs (sym (replica_of-other after (host.backup.held m).replicas differs) ∙ at)
 
     of_same : (n : ServerId) → m ≡ n →
         GoodHeld (sent ++ between host.backup.own m (Stored seg after.epoch (length after.entries) after.closed) ∷ []) n
@@ -229,24 +213,22 @@ moved-kept sent masters hosts c host m seg after own good unfenced changed = rec
             record {
               replica = after;
               kept = ap (λ t. replica_of t (put_replica seg after (host.backup.held m).replicas)) same ∙
-                  replica_of-put seg after (host.backup.held m).replicas;
+                  replica_of-put seg (host.backup.held m).replicas;
               epoch = changed.epoch replica there;
               enough = changed.longer replica there;
               closed_too = changed.closed replica there;
             }
         by s replica at (inr differs) = record {
           replica = replica;
-          kept = replica_of-other s seg after (host.backup.held m).replicas differs ∙ at;
+          kept = replica_of-other after (host.backup.held m).replicas differs ∙ at;
           epoch = omega arith;
           enough = omega arith;
           closed_too = λ same. same;
         }
 
-    later_same : (n : ServerId) → m ≡ n →
-        HeldLater (host.backup.held n)
+    later_same : (n : ServerId) → m ≡ n → HeldLater (host.backup.held n)
         (record (host.backup.held m) { replicas = put_replica seg after (host.backup.held m).replicas })
-    later_same n same = subst
-        (λ (k : ServerId). HeldLater (host.backup.held k)
+    later_same n same = subst (λ (k : ServerId). HeldLater (host.backup.held k)
         (record (host.backup.held m) { replicas = put_replica seg after (host.backup.held m).replicas })) same later_m
 
     from : (message : Message) →
@@ -261,9 +243,7 @@ moved-kept sent masters hosts c host m seg after own good unfenced changed = rec
       opened = changed.good.copy.opened;
       within = changed.good.copy.within;
       whole = changed.good.copy.whole;
-      placed = placed-more sent
-          (sent ++ between host.backup.own m (Stored seg after.epoch (length after.entries) after.closed) ∷ []) more m
-          seg after.epoch host.index host.generation host.generation (omega arith) changed.good.copy.placed;
+      placed = placed-more more (omega arith) changed.good.copy.placed;
     }
 
     stands : StillStands (put_id host.backup.held m
@@ -274,7 +254,7 @@ moved-kept sent masters hosts c host m seg after own good unfenced changed = rec
         (record (host.backup.held m) { replicas = put_replica seg after (host.backup.held m).replicas })))
         (record {
           replica = after;
-          kept = replica_of-put seg after (host.backup.held m).replicas;
+          kept = replica_of-put seg (host.backup.held m).replicas;
           epoch = omega arith;
           enough = omega arith;
           closed_too = λ same. same;
@@ -283,8 +263,7 @@ moved-kept sent masters hosts c host m seg after own good unfenced changed = rec
     says : (message : Message) → In message (between host.backup.own m (Stored seg after.epoch (length after.entries) after.closed) ∷ []) →
         backup_body_said (sent ++ between host.backup.own m (Stored seg after.epoch (length after.entries) after.closed)
         ∷ []) masters hosts c host (keeps host.backup m seg (Some after)).0 message.to message.body
-    says message (inl same) =
-        subst (λ (one : Message).
+    says message (inl same) = subst (λ (one : Message).
         backup_body_said (sent ++ between host.backup.own m (Stored seg after.epoch (length after.entries) after.closed)
         ∷ []) masters hosts c host (keeps host.backup m seg (Some after)).0 one.to one.body) (sym same)
         (is_told, (stands, unfenced))

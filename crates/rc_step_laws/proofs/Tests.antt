@@ -17,9 +17,9 @@ all-each test x (y ∷ xs) e (inl same) = ap test same ∙ (and_parts (test y) (
 all-each test x (y ∷ xs) e (inr rest) = all-each test x xs (and_parts (test y) (list_all test xs) e).1 rest
 
 -- where one passes, here it is
-pub any-one : {X : Type 0} (test : X → Bool) (xs : List X) → list_any test xs ≡ true → (x : X) × (In x xs) × (test x ≡ true)
-any-one test [] e = cc
-any-one test (y ∷ xs) e = by (test y) refl e (any-one test xs)
+pub any-one : {X : Type 0} {test : X → Bool} (xs : List X) → list_any test xs ≡ true → (x : X) × (In x xs) × (test x ≡ true)
+any-one [] e = cc
+any-one {test} (y ∷ xs) e = by (test y) refl e (any-one xs)
   where
     by : (b : Bool) → test y ≡ b → (b || list_any test xs) ≡ true →
         (list_any test xs ≡ true → (x : _) × (In x xs) × (test x ≡ true)) →
@@ -34,9 +34,9 @@ any-here test x (y ∷ xs) (inl same) e = ap (λ b. b || list_any test xs) (ap t
 any-here test x (y ∷ xs) (inr rest) e = or_right (test y) (list_any test xs) (any-here test x xs rest e)
 
 -- what is found is one of the list and passes
-pub find-one : {X : Type 0} (test : X → Bool) (xs : List X) (x : X) → find test xs ≡ Some x → In x xs × (test x ≡ true)
-find-one test [] x e = cc
-find-one test (y ∷ xs) x e = by (test y) refl e (find-one test xs x)
+pub find-one : {X : Type 0} (test : X → Bool) (xs : List X) {x : X} → find test xs ≡ Some x → In x xs × (test x ≡ true)
+find-one test [] e = cc
+find-one test (y ∷ xs) {x} e = by (test y) refl e (find-one test xs)
   where
     by : (b : Bool) → test y ≡ b → cond b (Some y) (find test xs) ≡ Some x →
         (find test xs ≡ Some x → In x xs × (test x ≡ true)) → ((x ≡ y) ⊎ In x xs) × (test x ≡ true)
@@ -44,28 +44,28 @@ find-one test (y ∷ xs) x e = by (test y) refl e (find-one test xs x)
     by false here e rec = (let p = rec e in (inr p.0, p.1))
 
 -- what stands in a mapped list is the image of what stands there
-pub get-map : {X Y : Type 0} (f : X → Y) (xs : List X) (k : ℕ) (y : Y) → slice_get (map f xs) k ≡ Some y →
+pub get-map : {X Y : Type 0} {f : X → Y} (xs : List X) (k : ℕ) {y : Y} → slice_get (map f xs) k ≡ Some y →
     (x : X) × (slice_get xs k ≡ Some x) × (f x ≡ y)
-get-map f [] k y e = cc
-get-map f (x ∷ xs) zero y e = (x, refl, (let same : f x ≡ y = cc in same))
-get-map f (x ∷ xs) (suc k) y e = get-map f xs k y e
+get-map [] k e = cc
+get-map {f} (x ∷ xs) zero {y} e = (x, refl, (let same : f x ≡ y = cc in same))
+get-map (x ∷ xs) (suc k) e = get-map xs k e
 
-pub map-get : {X Y : Type 0} (f : X → Y) (xs : List X) (k : ℕ) (x : X) → slice_get xs k ≡ Some x → slice_get (map f xs) k ≡ Some (f x)
-map-get f xs k x e = slice_get-map f xs k ∙ ap (option_map f) e
+pub map-get : {X Y : Type 0} (f : X → Y) (xs : List X) (k : ℕ) {x : X} → slice_get xs k ≡ Some x → slice_get (map f xs) k ≡ Some (f x)
+map-get f xs k e = slice_get-map f xs k ∙ ap (option_map f) e
 
 -- a member of the first so many stands at one of the first places
 pub In-take : {X : Type 0} (n : ℕ) (xs : List X) (x : X) → In x (take n xs) → (k : ℕ) × (k < n) × (slice_get xs k ≡ Some x)
-In-take n xs x at = let found = place_of (take n xs) x at in let taken = get-take n xs found.0 x found.1 in (found.0, taken.0, taken.1)
+In-take n xs x at = let found = place_of (take n xs) x at in let taken = get-take n xs found.0 found.1 in (found.0, taken.0, taken.1)
 
 -- what stands at a place of a list within a beginning of it stood there
-pub get-begins_back : {X : Type 0} (xs ys : List X) → Begins xs ys → (k : ℕ) (x : X) → k < length xs →
+pub get-begins_back : {X : Type 0} (xs : List X) {ys : List X} → Begins xs ys → {k : ℕ} {x : X} → k < length xs →
     slice_get ys k ≡ Some x → slice_get xs k ≡ Some x
-get-begins_back xs ys p k x less e =
+get-begins_back xs {ys} p {k} {x} less e =
     let found = get-below xs k less in
-    let there : slice_get ys k ≡ Some found.0 = get-begins xs ys p k found.0 found.1 in
+    let there : slice_get ys k ≡ Some found.0 = get-begins xs p k found.1 in
     let same : found.0 ≡ x = cc in
     subst (λ y. slice_get xs k ≡ Some y) same found.1
 
 -- one more in front of both
-pub begins-cons : {X : Type 0} (x : X) (xs ys : List X) → Begins xs ys → Begins (x ∷ xs) (x ∷ ys)
-begins-cons x xs ys p = (p.0, ap (λ l. x ∷ l) p.1)
+pub begins-cons : {X : Type 0} {x : X} (xs : List X) {ys : List X} → Begins xs ys → Begins (x ∷ xs) (x ∷ ys)
+begins-cons {x} xs p = (p.0, ap (λ l. x ∷ l) p.1)

@@ -25,10 +25,10 @@ pub record Again (sent sent_now : List Message) (m : ServerId) (log : Log) (mess
   pub news : (x : ServerId) (s e : ℕ) (digest : List ℕ) (entries : List Entry) →
       message ≡ between m x (Place s e digest entries false) → IsMember sent m s e x
 
-again-quiet : (sent sent_now : List Message) (m : ServerId) (log : Log) (message : Message) → IsQuietOf m message →
+again-quiet : {sent sent_now : List Message} {m : ServerId} {log : Log} {message : Message} → IsQuietOf m message →
     Again sent sent_now m log message
-again-quiet sent sent_now m log message is = record {
-  says = quiet-says sent sent_now m log log message is;
+again-quiet {m} {log} is = record {
+  says = quiet-says is;
   news = λ x s e digest entries same. absurd (subst (λ (one : Message). IsQuiet one.body) same is.quiet [] [] m log log Coordinator);
 }
 
@@ -37,9 +37,9 @@ record BodyAgain (sent sent_now : List Message) (m : ServerId) (log : Log) (x : 
   says : body_said sent sent_now m log log (Server x) body
   news : (s e : ℕ) (digest : List ℕ) (entries : List Entry) → body ≡ Place s e digest entries false → IsMember sent m s e x
 
-again-to : (sent sent_now : List Message) (m : ServerId) (log : Log) (x : ServerId) (body : Body) → log.own ≡ m →
+again-to : {sent sent_now : List Message} {m : ServerId} {log : Log} {x : ServerId} {body : Body} → log.own ≡ m →
     BodyAgain sent sent_now m log x body → Again sent sent_now m log (between log.own x body)
-again-to sent sent_now m log x body own p = record {
+again-to {sent} {m} {x} {body} own p = record {
   says = record { from = ap Server own; says = p.says };
   news = λ y s e digest entries same. (
       let addressee : ◌≡◌ {A = Addr} (Server x) (Server y) = ap (λ (message : Message). message.to) same in
@@ -53,7 +53,7 @@ again-place : (sent sent_now : List Message) (m : ServerId) (log : Log) (x : Ser
     → BodyAgain sent sent_now m log x (place_of log s false)
 again-place sent sent_now m log x s good opened open_now at = record {
   says = (
-    place-whole sent_now m log x s false opened open_now (λ _. at),
+    place-whole opened open_now (λ _. at),
     record { long = omega arith; known = λ is upto under. member },
   );
   news = λ t e digest entries same. (
@@ -66,11 +66,11 @@ again-place sent sent_now m log x s good opened open_now at = record {
     member = (good.each s).complete x opened.above opened.below open_now at
 
 -- a shut one whole, closed
-again-closed : (sent sent_now : List Message) (m : ServerId) (log : Log) (x : ServerId) (s : ℕ) → IsOpened log s →
+again-closed : {sent sent_now : List Message} {m : ServerId} {log : Log} {x : ServerId} {s : ℕ} → IsOpened log s →
     (log.segments s).shut ≡ true → BodyAgain sent sent_now m log x (place_of log s true)
-again-closed sent sent_now m log x s opened shut = record {
+again-closed opened shut = record {
   says = (
-    place-whole sent_now m log x s true opened shut (λ e. true_false e),
+    place-whole opened shut (λ e. true_false e),
     record { long = omega arith; known = λ is upto under. true_false is },
   );
   news = λ t e digest entries same. (let ends : true ≡ false = cc in true_false ends);
@@ -80,12 +80,12 @@ again-closed sent sent_now m log x s opened shut = record {
 stands-lacking : (entries : List (Entry × Bool)) (n : ℕ) →
     Stands (map (λ (one : Entry × Bool). one.0) (drop n entries)) n (map (λ (one : Entry × Bool). one.0) entries)
 stands-lacking entries n k entry at =
-    let found = get-map (λ (one : Entry × Bool). one.0) (drop n entries) k entry at in
-    map-get (λ (one : Entry × Bool). one.0) entries (n + k) found.0 (sym (get-drop n entries k) ∙ found.1) ∙ ap Some found.2
+    let found = get-map (drop n entries) k at in
+    map-get (λ (one : Entry × Bool). one.0) entries (n + k) (sym (get-drop n entries k) ∙ found.1) ∙ ap Some found.2
 
-again-append : (sent sent_now : List Message) (m : ServerId) (log : Log) (x : ServerId) (s n : ℕ) → IsOpened log s
+again-append : {sent sent_now : List Message} {m : ServerId} {log : Log} {x : ServerId} {s n : ℕ} → IsOpened log s
     → BodyAgain sent sent_now m log x (Append s n (map (λ (one : Entry × Bool). one.0) (drop n (log.segments s).entries)))
-again-append sent sent_now m log x s n opened = record {
+again-append {log} {s} {n} opened = record {
   says = record { opened = opened; stands = stands-lacking (log.segments s).entries n };
   news = λ t e digest entries same. absurd (differ same);
 }
@@ -94,9 +94,9 @@ again-append sent sent_now m log x s n opened = record {
         ◌≡◌ {A = Body} (Append s n others) (Place t e digest entries false) → ⊥
     differ same = cc
 
-again-close : (sent sent_now : List Message) (m : ServerId) (log : Log) (x : ServerId) (s : ℕ) → IsOpened log s →
+again-close : {sent sent_now : List Message} {m : ServerId} {log : Log} {x : ServerId} {s : ℕ} → IsOpened log s →
     s + 1 ≡ log.head → BodyAgain sent sent_now m log x (Close s (length (log.segments s).entries))
-again-close sent sent_now m log x s opened old = record {
+again-close {log} {s} opened old = record {
   says = record {
     above = opened.above;
     final = omega arith;
@@ -108,13 +108,11 @@ again-close sent sent_now m log x s opened old = record {
     differ : {t e len : ℕ} {digest : List ℕ} {entries : List Entry} → ◌≡◌ {A = Body} (Close s len) (Place t e digest entries false) → ⊥
     differ same = cc
 
-again-copied : (sent sent_now : List Message) (m : ServerId) (log : Log) → GoodLog sent m log → Copied (Again sent sent_now m log) log
-again-copied sent sent_now m log good = record {
+again-copied : {sent sent_now : List Message} {m : ServerId} {log : Log} → GoodLog sent m log → Copied (Again sent sent_now m log) log
+again-copied {sent} {sent_now} {m} {log} good = record {
   place = λ member s closed at shut among. place member s closed (opened s at) shut among;
-  append = λ member s len at. again-to sent sent_now m log member.id _ good.own
-      (again-append sent sent_now m log member.id s len (opened s at));
-  close = λ member s at old. again-to sent sent_now m log member.id _ good.own
-      (again-close sent sent_now m log member.id s (opened s at) old);
+  append = λ member s len at. again-to good.own (again-append (opened s at));
+  close = λ member s at old. again-to good.own (again-close (opened s at) old);
 }
   where
     opened : (s : ℕ) → In s (numbers_to log.head) → IsOpened log s
@@ -122,44 +120,39 @@ again-copied sent sent_now m log good = record {
 
     place : (member : Member) (s : ℕ) (closed : Bool) → IsOpened log s → (log.segments s).shut ≡ closed →
         In member (log.segments s).config.members → Again sent sent_now m log (between log.own member.id (place_of log s closed))
-    place member s false is open_now among = again-to sent sent_now m log member.id (place_of log s false) good.own
+    place member s false is open_now among = again-to good.own
         (again-place sent sent_now m log member.id s good is open_now
         (map-In (λ (one : Member). one.id) member (log.segments s).config.members among))
-    place member s true is shut among = again-to sent sent_now m log member.id (place_of log s true) good.own
-        (again-closed sent sent_now m log member.id s is shut)
+    place member s true is shut among = again-to good.own (again-closed is shut)
 
-pub fetches-quiet : (m own : ServerId) (task : Task) (rows : List PlanRow) → own ≡ m → AllQuiet m (map (fetch_of own task) rows)
-fetches-quiet m own task rows is =
+pub fetches-quiet : {m own : ServerId} (task : Task) (rows : List PlanRow) → own ≡ m → AllQuiet m (map (fetch_of own task) rows)
+fetches-quiet {m} {own} task rows is =
     each-map (IsQuietOf m) (fetch_of own task) rows (λ row at. record { from = ap Server is; quiet = λ _ _ _ _ _ _. tt })
 
 -- All of it
 
-moved-reminds : (sent : List Message) (m : ServerId) (before : Log) (master : Master) → GoodView sent m master →
+moved-reminds : {sent : List Message} {m : ServerId} (before : Log) {master : Master} → GoodView sent m master →
     Moved sent m master (reminds before master)
-moved-reminds sent m before master view = record {
-  log = same-moved sent m master.log (reminds before master).1 view.log view.fine
-      (λ message at. (again message at).says)
+moved-reminds {sent} {m} before {master} view = record {
+  log = same-moved view.log view.fine (λ message at. (again message at).says)
       (λ x s e digest entries at. (again (between m x (Place s e digest entries false)) at).news x s e digest entries refl);
   known = view.known;
 }
   where
     quiet : {message : Message} → IsQuietOf m message → Again sent (sent ++ (reminds before master).1) m master.log message
-    quiet {message} is = again-quiet sent (sent ++ (reminds before master).1) m master.log message is
+    quiet {message} is = again-quiet is
 
     again : Each (Again sent (sent ++ (reminds before master).1) m master.log) (reminds before master).1
     again = each-reminds (Again sent (sent ++ (reminds before master).1) m master.log) before master
-        (again-copied sent (sent ++ (reminds before master).1) m master.log view.log)
+        (again-copied view.log)
         (λ seg awaits. quiet (record { from = ap Server view.log.own; quiet = λ _ _ _ _ _ _. tt })) (record {
           fetch = λ task row given among. quiet (record { from = ap Server view.log.own; quiet = λ _ _ _ _ _ _. tt });
           recovered = λ state among awaits. quiet (record { from = ap Server view.log.own; quiet = λ _ _ _ _ _ _. tt });
           ready = quiet (record { from = ap Server view.log.own; quiet = λ _ _ _ _ _ _. tt });
         })
 
-pub moved-ticks : (sent : List Message) (m : ServerId) (master : Master) → GoodView sent m master → Moved sent m master (ticks master)
-moved-ticks sent m master view =
-    either (λ after. Moved sent m master after) (is_up master.known master.log.own)
+pub moved-ticks : {sent : List Message} {m : ServerId} {master : Master} → GoodView sent m master → Moved sent m master (ticks master)
+moved-ticks {sent} {m} {master} view = either (λ after. Moved sent m master after) (is_up master.known master.log.own)
     (then_does (obeys_list master) (reminds master.log)) (master, to_coordinator master.log.own Enlist ∷ [])
-    (λ _. moved-then_does sent m master (obeys_list master) (reminds master.log) view (moved-obeys sent m master view)
-    (λ now. moved-reminds (sent ++ (obeys_list master).1) m master.log (obeys_list master).0 now))
-    (λ _. moved-quiet sent m master master (to_coordinator master.log.own Enlist ∷ []) view refl refl
-    (quiet-one m (to_coordinator master.log.own Enlist) (record { from = ap Server view.log.own; quiet = λ _ _ _ _ _ _. tt })))
+    (λ _. moved-then_does (reminds master.log) view (moved-obeys view) (λ now. moved-reminds master.log now))
+    (λ _. moved-quiet view refl refl (quiet-one (record { from = ap Server view.log.own; quiet = λ _ _ _ _ _ _. tt })))

@@ -19,33 +19,33 @@ pub record Moved (sent : List Message) (m : ServerId) (old : Master) (after : Ma
   pub log : LogMoved sent m old.log after.0.log after.1
   pub known : OnDifferentHosts (up_rows after.0.known.rows)
 
-pub view-after : (sent : List Message) (m : ServerId) (old : Master) (after : Master × List Message) →
+pub view-after : {sent : List Message} {m : ServerId} {old : Master} {after : Master × List Message} →
     Moved sent m old after → GoodView (sent ++ after.1) m after.0
-view-after sent m old after moved = record { log = moved.log.good; fine = moved.log.fine; known = moved.known }
+view-after moved = record { log = moved.log.good; fine = moved.log.fine; known = moved.known }
 
 -- one rule after another
-pub moved-then : (sent : List Message) (m : ServerId) (one : Master) (done after : Master × List Message) →
+pub moved-then : {sent : List Message} {m : ServerId} {one : Master} {done after : Master × List Message} →
     GoodView sent m one → Moved sent m one done → Moved (sent ++ done.1) m done.0 after
     → Moved sent m one (after.0, done.1 ++ after.1)
-moved-then sent m one done after view p q = record {
-  log = log_moved-then sent m one.log done.0.log after.0.log done.1 after.1 view.log p.log q.log;
+moved-then view p q = record {
+  log = log_moved-then view.log p.log q.log;
   known = q.known;
 }
 
-pub moved-then_does : (sent : List Message) (m : ServerId) (one : Master) (done : Master × List Message)
+pub moved-then_does : {sent : List Message} {m : ServerId} {one : Master} {done : Master × List Message}
     (rule : Master → Master × List Message) → GoodView sent m one → Moved sent m one done
     → (GoodView (sent ++ done.1) m done.0 → Moved (sent ++ done.1) m done.0 (rule done.0)) → Moved sent m one (then_does done rule)
-moved-then_does sent m one done rule view p next = moved-then sent m one done (rule done.0) view p (next (view-after sent m one done p))
+moved-then_does rule view p next = moved-then view p (next (view-after p))
 
 -- The log stays
 
-pub same-moved : (sent : List Message) (m : ServerId) (log : Log) (messages : List Message) → GoodLog sent m log → OwnFine sent m log
+pub same-moved : {sent : List Message} {m : ServerId} {log : Log} {messages : List Message} → GoodLog sent m log → OwnFine sent m log
     → ((message : Message) → In message messages → MasterSays sent (sent ++ messages) m log log message)
     → ((x : ServerId) (s e : ℕ) (digest : List ℕ) (entries : List Entry) →
     In (between m x (Place s e digest entries false)) messages → IsMember sent m s e x)
     → LogMoved sent m log log messages
-same-moved sent m log messages good fine says news = moved-log sent m log log messages good fine (record {
-  later = log_later-refl (sent ++ messages) m log;
+same-moved {sent} {messages} good fine says news = moved-log good fine (record {
+  later = log_later-refl;
   says = says;
   own = good.own;
   none_below = good.none_below;
@@ -72,9 +72,9 @@ pub record IsQuietOf (m : ServerId) (message : Message) : Type 0 where
 abbrev pub AllQuiet : ServerId → List Message → Type 0
 AllQuiet m messages = (message : Message) → In message messages → IsQuietOf m message
 
-pub quiet-says : (sent sent_now : List Message) (m : ServerId) (old new : Log) (message : Message) →
+pub quiet-says : {sent sent_now : List Message} {m : ServerId} {old new : Log} {message : Message} →
     IsQuietOf m message → MasterSays sent sent_now m old new message
-quiet-says sent sent_now m old new message is =
+quiet-says {sent} {sent_now} {m} {old} {new} {message} is =
     record { from = is.from; says = is.quiet sent sent_now m old new message.to }
 
 -- no Place is among them
@@ -84,31 +84,30 @@ pub quiet-no_place : {P : Type 0} (m x : ServerId) (log : Log) (s e : ℕ) (dige
 quiet-no_place m x log s e digest entries closed messages all at =
     absurd ((all (between m x (Place s e digest entries closed)) at).quiet [] [] m log log Coordinator)
 
-pub quiet-moved : (sent : List Message) (m : ServerId) (log : Log) (messages : List Message) → GoodLog sent m log →
+pub quiet-moved : {sent : List Message} {m : ServerId} {log : Log} {messages : List Message} → GoodLog sent m log →
     OwnFine sent m log → AllQuiet m messages → LogMoved sent m log log messages
-quiet-moved sent m log messages good fine all = same-moved sent m log messages good fine
-    (λ message at. quiet-says sent (sent ++ messages) m log log message (all message at))
+quiet-moved {m} {log} {messages} good fine all = same-moved good fine (λ message at. quiet-says (all message at))
     (λ x s e digest entries at. quiet-no_place m x log s e digest entries false messages all at)
 
 -- a step whose view has this log and these servers still, and that says nothing of note
-pub moved-quiet : (sent : List Message) (m : ServerId) (old new : Master) (messages : List Message) →
+pub moved-quiet : {sent : List Message} {m : ServerId} {old new : Master} {messages : List Message} →
     GoodView sent m old → new.log ≡ old.log → new.known ≡ old.known → AllQuiet m messages
     → Moved sent m old (new, messages)
-moved-quiet sent m old new messages view same known all = record {
-  log = subst (λ log. LogMoved sent m old.log log messages) (sym same) (quiet-moved sent m old.log messages view.log view.fine all);
+moved-quiet {sent} {m} {old} {messages} view same known all = record {
+  log = subst (λ log. LogMoved sent m old.log log messages) (sym same) (quiet-moved view.log view.fine all);
   known = subst (λ servers. OnDifferentHosts (up_rows servers.rows)) (sym known) view.known;
 }
 
 pub quiet-none : (m : ServerId) → AllQuiet m []
 quiet-none m message at = absurd at
 
-pub quiet-one : (m : ServerId) (one : Message) → IsQuietOf m one → AllQuiet m (one ∷ [])
-quiet-one m one is message (inl e) = subst (IsQuietOf m) (sym e) is
-quiet-one m one is message (inr rest) = absurd rest
+pub quiet-one : {m : ServerId} {one : Message} → IsQuietOf m one → AllQuiet m (one ∷ [])
+quiet-one {m} is message (inl e) = subst (IsQuietOf m) (sym e) is
+quiet-one is message (inr rest) = absurd rest
 
 -- nothing happens
 pub still : (sent : List Message) (m : ServerId) (master : Master) → GoodView sent m master → Moved sent m master (master, [])
-still sent m master view = moved-quiet sent m master master [] view refl refl (quiet-none m)
+still sent m master view = moved-quiet view refl refl (quiet-none m)
 
 -- Whatever was sent
 
@@ -119,8 +118,8 @@ Kept m master after = (sent : List Message) → GoodView sent m master → Moved
 pub joined : (m : ServerId) → Joined (Kept m)
 joined m = record {
   still = λ master sent view. still sent m master view;
-  both = λ one two first after p q sent view. moved-then sent m one (two, first) after view (p sent view)
-      (q (sent ++ first) (view-after sent m one (two, first) (p sent view)));
+  both = λ one two first after p q sent view. moved-then view (p sent view)
+      (q (sent ++ first) (view-after (p sent view)));
 }
 
 -- To several
@@ -132,9 +131,9 @@ pub record SamePlace (x id : ServerId) (s e : ℕ) (closed : Bool) (t f : ℕ) (
   pub closed_is : closed ≡ ends
 
 -- a Place among these is theirs
-same-place : (m own x id : ServerId) (s e t f : ℕ) (digest other : List ℕ) (entries others : List Entry) (closed ends : Bool)
+same-place : {m own x id : ServerId} {s e t f : ℕ} {digest other : List ℕ} {entries others : List Entry} {closed ends : Bool}
     → between m x (Place s e digest entries closed) ≡ between own id (Place t f other others ends) → SamePlace x id s e closed t f ends
-same-place m own x id s e t f digest other entries others closed ends same =
+same-place {x} {id} {s} {e} {t} {f} {digest} {other} {entries} {others} {closed} {ends} same =
     let addressee : ◌≡◌ {A = Addr} (Server x) (Server id) = ap (λ (message : Message). message.to) same in
     let body : ◌≡◌ {A = Body} (Place s e digest entries closed) (Place t f other others ends) =
     ap (λ (message : Message). message.body) same in
@@ -147,7 +146,7 @@ pub place-to_ids : (m own : ServerId) (ids : List ServerId) (x : ServerId) (s e 
 place-to_ids m own ids x s e t f digest other entries others closed ends at =
     let found = In-map (λ (id : ServerId). between own id (Place t f other others ends))
     (between m x (Place s e digest entries closed)) ids at in
-    let same = same-place m own x found.0 s e t f digest other entries others closed ends found.2 in (
+    let same = same-place found.2 in (
       subst (λ id. In id ids) (sym same.to_is) found.1,
       record { to_is = refl; seg_is = same.seg_is; epoch_is = same.epoch_is; closed_is = same.closed_is },
     )

@@ -30,7 +30,7 @@ stands-new entries entry client zero other e =
     let same : entry ≡ other = cc in
     let len : length (map fst entries) ≡ length entries + 0 = length-map entries fst ∙ omega arith in
     subst (λ l. slice_get l (length entries + 0) ≡ Some other) (sym (map-append fst entries ((entry, client) ∷ [])))
-    (subst (λ n. slice_get (map fst entries ++ entry ∷ []) n ≡ Some other) len (get-end (map fst entries) entry [] ∙ ap Some same))
+    (subst (λ n. slice_get (map fst entries ++ entry ∷ []) n ≡ Some other) len (get-end (map fst entries) [] ∙ ap Some same))
 stands-new entries entry client (suc k) other e = cc
 
 -- no Place is an Append
@@ -43,10 +43,10 @@ append-no_place m own ids x s e t offset digest entries others closed at =
     let body : ◌≡◌ {A = Body} (Place s e digest entries closed) (Append t offset others) =
     ap (λ (message : Message). message.body) found.2 in cc
 
-entry-good : (sent : List Message) (m : ServerId) (phase : Phase) (head s : ℕ) (segment : Segment) (entry : Entry)
+entry-good : {sent : List Message} {m : ServerId} {phase : Phase} {head s : ℕ} {segment : Segment} (entry : Entry)
     (client : Bool) → GoodSegment sent m phase head s segment
     → GoodSegment sent m phase head s (with_entry entry client segment)
-entry-good sent m phase head s segment entry client p = record {
+entry-good entry client p = record {
   old_shut = p.old_shut;
   writing_shut = p.writing_shut;
   shut_below = p.shut_below;
@@ -58,10 +58,10 @@ entry-good sent m phase head s segment entry client p = record {
   committed = p.committed;
 }
 
-appends-log : (sent : List Message) (m : ServerId) (log : Log) (entry : Entry) (client : Bool) (ids : List ServerId) →
+appends-log : {sent : List Message} {m : ServerId} {log : Log} (entry : Entry) (client : Bool) (ids : List ServerId) →
     GoodLog sent m log → OwnFine sent m log → log.phase ≡ Writing
     → LogMoved sent m log (appends entry client log) (to_ids log.own ids (Append log.head (length (head_of log).entries) (entry ∷ [])))
-appends-log sent m log entry client ids good fine writing = put-moved sent m log h new messages good fine (record {
+appends-log {sent} {m} {log} entry client ids good fine writing = put-moved good fine (record {
   opened = record { above = good.writing_opened writing; below = omega arith };
   later = record {
     grows = ((entry, client) ∷ [], refl);
@@ -72,7 +72,7 @@ appends-log sent m log entry client ids good fine writing = put-moved sent m log
     joined = λ x upto shut same at. at;
     shuts = λ x upto before shut same at. true_false (sym shut ∙ before);
   };
-  good = entry-good (sent ++ messages) m log.phase h h (head_of log) entry client (segment-more (more-left sent messages) (good.each h));
+  good = entry-good entry client (segment-more (more-left sent messages) (good.each h));
   quiet = λ quiet. absurd (quiet writing);
   says = each-to_ids (MasterSays sent (sent ++ messages) m log (appends entry client log)) log.own ids
       (Append h (length (head_of log).entries) (entry ∷ [])) (λ x at. record {
@@ -97,55 +97,51 @@ appends-log sent m log entry client ids good fine writing = put-moved sent m log
     messages : List Message
     messages = to_ids log.own ids (Append h (length (head_of log).entries) (entry ∷ []))
 
-pub moved-appends : (sent : List Message) (m : ServerId) (master : Master) (entry : Entry) (client : Bool) →
+pub moved-appends : {sent : List Message} {m : ServerId} {master : Master} (entry : Entry) (client : Bool) →
     GoodView sent m master → master.log.phase ≡ Writing → Moved sent m master (appends_entry master entry client)
-moved-appends sent m master entry client view writing = record {
-  log = appends-log sent m master.log entry client (ids_of (not_lost (head_of master.log).config.members)) view.log view.fine writing;
+moved-appends {master} entry client view writing = record {
+  log = appends-log entry client (ids_of (not_lost (head_of master.log).config.members)) view.log view.fine writing;
   known = view.known;
 }
 
 -- Refusals and answers
 
-pub moved-refused : (sent : List Message) (m : ServerId) (master : Master) (fault : Fault) → GoodView sent m master →
+pub moved-refused : {sent : List Message} {m : ServerId} {master : Master} (fault : Fault) → GoodView sent m master →
     Moved sent m master (refused master fault)
-moved-refused sent m master fault view = moved-quiet sent m master master (refuses master.log.own fault ∷ []) view refl refl
-    (quiet-one m (refuses master.log.own fault) (record { from = ap Server view.log.own; quiet = λ _ _ _ _ _ _. tt }))
+moved-refused fault view = moved-quiet view refl refl
+    (quiet-one (record { from = ap Server view.log.own; quiet = λ _ _ _ _ _ _. tt }))
 
 -- A roll
 
-pub moved-opens_roll : (sent : List Message) (m : ServerId) (master : Master) (ids : List ServerId) →
+pub moved-opens_roll : {sent : List Message} {m : ServerId} {master : Master} {ids : List ServerId} →
     GoodView sent m master → master.log.phase ≡ Writing
     → Rattle.rc_model.specs.Config.choose (master.log.head + 1) master.log.own master.log.factor master.known ≡ Some ids
     → Moved sent m master (
       with_log master (opens_head master.log (next_digest master.log (dead_segments master)) ids),
       places_head (opens_head master.log (next_digest master.log (dead_segments master)) ids),
     )
-moved-opens_roll sent m master ids view writing chosen = record {
-  log = opens-moved sent m master.log (next_digest master.log (dead_segments master)) ids view.log view.fine
-      (λ s above less. (view.log.each s).writing_shut writing above less)
-      (apart-choose (master.log.head + 1) master.log.own master.log.factor master.known ids view.known chosen)
-      (next-digest sent m master view.log (view.log.writing_opened writing));
+moved-opens_roll {master} {ids} view writing chosen = record {
+  log = opens-moved ids view.log view.fine (λ s above less. (view.log.each s).writing_shut writing above less)
+      (apart-choose (master.log.head + 1) master.log.own master.log.factor master.known view.known chosen)
+      (next-digest master view.log (view.log.writing_opened writing));
   known = view.known;
 }
 
 -- Writes and reads
 
-refusing : (m : ServerId) (master : Master) (fault : Fault) → Kept m master (refused master fault)
-refusing m master fault sent view = moved-refused sent m master fault view
+refusing : {m : ServerId} (master : Master) (fault : Fault) → Kept m master (refused master fault)
+refusing master fault sent view = moved-refused fault view
 
-pub moved-writes : (sent : List Message) (m : ServerId) (master : Master) (table key : ℕ) (value : Option (List ℕ)) →
+pub moved-writes : {sent : List Message} {m : ServerId} {master : Master} (table key : ℕ) (value : Option (List ℕ)) →
     GoodView sent m master → Moved sent m master (writes master table key value)
-moved-writes sent m master table key value =
-    kept-writes (Kept m) (joined m) (refusing m) master table key value
-    (λ ids writing room chosen more view. moved-opens_roll more m master ids view (writing-is master.log.phase writing) chosen)
+moved-writes {sent} {m} {master} table key value = kept-writes (Kept m) (joined m) (refusing) master table key value
+    (λ ids writing room chosen more view. moved-opens_roll view (writing-is master.log.phase writing) chosen)
     (λ term owned writing room more view.
-    moved-appends more m master (written master term table key value) true view (writing-is master.log.phase writing)) sent
+    moved-appends (written master term table key value) true view (writing-is master.log.phase writing)) sent
 
-pub moved-reads : (sent : List Message) (m : ServerId) (master : Master) (table key : ℕ) → GoodView sent m master →
+pub moved-reads : {sent : List Message} {m : ServerId} {master : Master} (table key : ℕ) → GoodView sent m master →
     Moved sent m master (reads master table key)
-moved-reads sent m master table key =
-    kept-reads (Kept m) (joined m) (refusing m) master (term_of master.ownership table key) table key
+moved-reads {sent} {m} {master} table key =
+    kept-reads (Kept m) (joined m) (refusing) master (term_of master.ownership table key) table key
     (λ term owned more view. (let found : Found = read_of term table key (durable_entries master) in
-    moved-quiet more m master master (to_outside master.log.own (ReadOk table key found.version found.value) ∷ []) view refl refl
-    (quiet-one m (to_outside master.log.own (ReadOk table key found.version found.value))
-    (record { from = ap Server view.log.own; quiet = λ _ _ _ _ _ _. tt })))) sent
+    moved-quiet view refl refl (quiet-one (record { from = ap Server view.log.own; quiet = λ _ _ _ _ _ _. tt })))) sent

@@ -101,10 +101,8 @@ sound-committed setup seat number node numbers offered s is few =
       mine = events_of-own setup name seat.seen offered.event parts.0 parts.1 ∙ ap (λ (l : List Event). l ++ offered.event ∷ []) s.mine;
       state = done.state ∙ sym (there ∙ t.state parts.0);
       held = held-stays (replay setup longer).sent world.sent seat.held
-          (longer-sent setup longer seat.seen (starts-append seat.seen (offered.event ∷ []))) s.held;
-      delivered = λ n.
-          s.delivered n
-          ∙ (ap (λ (p : Option Offered). was_delivered (seat.mine ++ offered_events p) n) is
+          (longer-sent setup longer seat.seen (starts-append (offered.event ∷ []))) s.held;
+      delivered = λ n. s.delivered n ∙ (ap (λ (p : Option Offered). was_delivered (seat.mine ++ offered_events p) n) is
           ∙ ap (λ (l : List Event). was_delivered l n) (sym (append-nil (seat.mine ++ offered.event ∷ []))));
     }
 

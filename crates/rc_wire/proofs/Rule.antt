@@ -125,9 +125,8 @@ kept-deal setup views id desk k at =
           (record {
             own = sym (with_one-same k.seat k.next target);
             known = omega arith;
-            knows = record { seen = starts-append [] k.log; mine = k.unseated k.next (omega arith) };
-          })))
-          (set-each (Fits setup k.log (k.next + 1) k.keeper seat) views id (at_desk (dealt desk))
+            knows = record { seen = starts-append k.log; mine = k.unseated k.next (omega arith) };
+          }))) (set-each (Fits setup k.log (k.next + 1) k.keeper seat) views id (at_desk (dealt desk))
           (fits-desk setup k.log (k.next + 1) k.keeper seat id (dealt desk) mine.0 (ap dealt mine.1))
           (λ by v differ there.
           let f = k.each by v there in record {
@@ -166,8 +165,7 @@ kept-leave setup views id place k at =
       keeper = k.keeper;
       seat = seat;
       unseated = k.unseated;
-      each =
-          push-each (Fits setup k.log k.next k.keeper seat) (set views id idle) (at_place place)
+      each = push-each (Fits setup k.log k.next k.keeper seat) (set views id idle) (at_place place)
           (fits-place setup k.log k.next k.keeper seat target place (seated-at setup k.log k.next k.seat target place mine.1 mine.2))
           (set-each (Fits setup k.log k.next k.keeper seat) views id idle (fits-idle setup k.log k.next k.keeper seat id)
           (λ by v differ there. moved setup views k id target place by v mine.0 differ there));
@@ -186,10 +184,8 @@ kept-host setup views id other desk place k at differ guest =
       keeper = k.keeper;
       seat = seat;
       unseated = k.unseated;
-      each =
-          set-each (Fits setup k.log k.next k.keeper seat) (set views id (hosting desk place)) other idle
-          (fits-idle setup k.log k.next k.keeper seat other)
-          (λ by v apart there.
+      each = set-each (Fits setup k.log k.next k.keeper seat) (set views id (hosting desk place)) other idle
+          (fits-idle setup k.log k.next k.keeper seat other) (λ by v apart there.
           ⊎_elim (λ (t : (by ≡ id) × (hosting desk place ≡ v)).
           subst (Fits setup k.log k.next k.keeper seat by) t.1
           (subst (λ n. Fits setup k.log k.next k.keeper seat n (hosting desk place)) (sym t.0)
@@ -212,8 +208,7 @@ kept-part setup views id desk place k at =
       keeper = k.keeper;
       seat = seat;
       unseated = k.unseated;
-      each =
-          push-each (Fits setup k.log k.next k.keeper seat) (set views id (at_desk desk)) (at_place place)
+      each = push-each (Fits setup k.log k.next k.keeper seat) (set views id (at_desk desk)) (at_place place)
           (fits-place setup k.log k.next k.keeper seat target place (seated-at setup k.log k.next k.seat target place mine.1 mine.2))
           (set-each (Fits setup k.log k.next k.keeper seat) views id (at_desk desk)
           (fits-desk setup k.log k.next k.keeper seat id desk own.0 own.1)
@@ -241,15 +236,13 @@ kept-look setup views id desk place k at =
       keeper = k.keeper;
       seat = k.seat;
       unseated = k.unseated;
-      each =
-          set-each (Fits setup k.log k.next k.keeper k.seat) views id (hosting desk (looked desk place))
+      each = set-each (Fits setup k.log k.next k.keeper k.seat) views id (hosting desk (looked desk place))
           (fits-hosting setup k.log k.next k.keeper k.seat id desk (looked desk place) own.0 own.1
           (record {
             own = mine.0;
             known = mine.1;
-            knows = record { seen = subst (StartsWith k.log) (sym whole) (starts-same k.log); mine = mine.2.mine };
-          }))
-          (λ by v differ there. k.each by v there);
+            knows = record { seen = subst (StartsWith k.log) (sym whole) (starts-same); mine = mine.2.mine };
+          })) (λ by v differ there. k.each by v there);
     }
 
 -- the event can be added to this log
@@ -266,7 +259,7 @@ knows-longer : (setup : Setup) (log : List Event) (event : Event) (node : ℕ) (
     is_for (name_at node) (job_of (replay setup log).sent event) ≡ true → node ≢ other.node → Knows setup log other →
     Knows setup (log ++ event ∷ []) other
 knows-longer setup log event node other own differ knows = record {
-  seen = starts-through (log ++ event ∷ []) log other.seen (starts-append log (event ∷ [])) knows.seen;
+  seen = starts-through (starts-append (event ∷ [])) knows.seen;
   mine =
       events_of-other setup (name_at node) (name_at other.node) log event own (other-names node other.node differ) ∙ knows.mine;
 }
@@ -297,11 +290,10 @@ kept-add setup views id desk place event k at can =
             own = mine.0;
             known = mine.1;
             knows = record {
-              seen = subst (StartsWith log) (ap (λ l. l ++ event ∷ []) (sym whole)) (starts-same log);
+              seen = subst (StartsWith log) (ap (λ l. l ++ event ∷ []) (sym whole)) (starts-same);
               mine = events_of-own setup (name_at place.node) k.log event may.0 may.1 ∙ ap (λ l. l ++ event ∷ []) mine.2.mine;
             };
-          }))
-          (λ by v differ there.
+          })) (λ by v differ there.
           let f = k.each by v there in record {
             keeps = λ d e. absurd (differ ((f.keeps d e).0 ∙ sym own.0));
             sits = λ other e.

@@ -15,7 +15,7 @@ delivered-stays : (longer shorter : List Message) (number : ℕ) (job : Job) (fo
     slice_get shorter number ≡ found → delivery found ≡ Some job → delivery (slice_get longer number) ≡ Some job
 delivered-stays longer shorter number job None starts is given = cc
 delivered-stays longer shorter number job (Some message) starts is given = ap delivery
-    (starts-get longer shorter number message starts is) ∙ given
+    (starts-get number starts is) ∙ given
 
 -- an event gives its node the same work
 job-stays : (longer shorter : List Message) (given : Event) (job : Job) → StartsWith longer shorter →
@@ -43,7 +43,7 @@ taken-stays longer shorter name before (Some offered) after starts h = step-stay
 pub held-stays : (longer shorter : List Message) (held : Option (ℕ × Message)) → StartsWith longer shorter → HoldsItsMessage shorter held →
     HoldsItsMessage longer held
 held-stays longer shorter None starts h = tt
-held-stays longer shorter (Some held) starts h = starts-get longer shorter held.0 held.1 starts h
+held-stays longer shorter (Some held) starts h = starts-get held.0 starts h
 
 -- so it is with a seat that has seen a longer history, in which its node has done nothing more
 pub sound-seen : (setup : Setup) (seat : SeatData) (number : ℕ) (node : Node) (numbers : List ℕ) (history : List Event) →

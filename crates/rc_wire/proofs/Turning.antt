@@ -86,8 +86,7 @@ works_for-push name steps at step found =
 
 works_in-push : (events : List Event) (event : Event) → works_in (events ++ event ∷ []) ≡ works_in events ++ listed (work_in event)
 works_in-push [] event = append-nil (listed (work_in event))
-works_in-push (first ∷ events) event =
-    ap (λ l. listed (work_in first) ++ l) (works_in-push events event)
+works_in-push (first ∷ events) event = ap (λ l. listed (work_in first) ++ l) (works_in-push events event)
     ∙ sym (append_assoc (listed (work_in first)) (works_in events) (listed (work_in event)))
 
 and-assoc : (a b c : Bool) → ((a && b) && c) ≡ (a && (b && c))
@@ -115,14 +114,12 @@ or-right false = refl
 
 pub delivered-stays : (longer shorter : List Event) (number : ℕ) → StartsWith longer shorter → was_delivered shorter number ≡ true →
     was_delivered longer number ≡ true
-delivered-stays longer shorter number starts is =
-    ap (λ l. was_delivered l number) starts.same
+delivered-stays longer shorter number starts is = ap (λ l. was_delivered l number) starts.same
     ∙ (list_any-append (is_delivery_of number) shorter starts.rest
     ∙ or-true (was_delivered shorter number) (was_delivered starts.rest number) is)
 
 delivered-last : (mine : List Event) (number : ℕ) → was_delivered (mine ++ event.Deliver number ∷ []) number ≡ true
-delivered-last mine number =
-    list_any-append (is_delivery_of number) mine (event.Deliver number ∷ [])
+delivered-last mine number = list_any-append (is_delivery_of number) mine (event.Deliver number ∷ [])
     ∙ (ap (λ b. was_delivered mine number || (b || false)) (eq-eqb number number refl) ∙ or-right (was_delivered mine number))
 
 -- What grows
@@ -143,12 +140,12 @@ grows-tried setup old given new (Err e) takes grows = grows
 pub grows-through : (one two three : SeatData) → Grows one two → Grows two three → Grows one three
 grows-through one two three a b = record {
   name = b.name ∙ a.name;
-  seen = starts-through three.seen two.seen one.seen b.seen a.seen;
-  mine = starts-through three.mine two.mine one.mine b.mine a.mine;
+  seen = starts-through b.seen a.seen;
+  mine = starts-through b.mine a.mine;
 }
 
 pub grows-same : (seat : SeatData) → Grows seat seat
-grows-same seat = record { name = refl; seen = starts-same seat.seen; mine = starts-same seat.mine }
+grows-same seat = record { name = refl; seen = starts-same; mine = starts-same }
 
 starts-equal : {A : Type 0} (xs ys : List A) → xs ≡ ys → StartsWith xs ys
 starts-equal xs ys is = record { rest = []; same = is ∙ sym (append-nil ys) }
@@ -165,8 +162,7 @@ grows-does old new works d = record {
 
 own-still : (old new : SeatData) (message : Message) → new.name ≡ old.name →
     same_node (node_of message.to) new.name ≡ true → same_node (node_of message.to) old.name ≡ true
-own-still old new message named own =
-    ap (λ (n : NodeName). same_node (node_of message.to) n) (sym named) ∙ own
+own-still old new message named own = ap (λ (n : NodeName). same_node (node_of message.to) n) (sym named) ∙ own
 
 below-stays : (setup : Setup) (old new : SeatData) (from : ℕ) → from ≤ length (world_at setup old).sent → Grows old new →
     DeliveredBelow setup from old → DeliveredBelow setup from new
@@ -190,7 +186,7 @@ progress-looked setup start steps at from old new p g mine idle = record {
   does = record {
     added = p.does.added;
     name = g.name ∙ p.does.name;
-    seen = starts-through new.seen old.seen start.seen g.seen p.does.seen;
+    seen = starts-through g.seen p.does.seen;
     mine = mine ∙ p.does.mine;
     did = p.does.did;
     news = p.does.news;
@@ -207,11 +203,10 @@ does-push : (setup : Setup) (start : SeatData) (works more : List Work) (old : S
 does-push setup start works more old given new d t is fresh = record {
   added = d.added ++ t.event ∷ [];
   name = t.name ∙ d.name;
-  seen = starts-through new.seen old.seen start.seen t.seen d.seen;
+  seen = starts-through t.seen d.seen;
   mine = t.mine ∙ (ap (λ l. l ++ t.event ∷ []) d.mine ∙ append_assoc start.mine d.added (t.event ∷ []));
   did = works_in-push d.added t.event ∙ (ap (λ l. l ++ listed (work_in t.event)) d.did ∙ ap (λ l. works ++ l) is);
-  news = all_new-push start.mine d.added t.event
-      ∙ (ap (λ b. b && is_new (start.mine ++ d.added) t.event) d.news
+  news = all_new-push start.mine d.added t.event ∙ (ap (λ b. b && is_new (start.mine ++ d.added) t.event) d.news
       ∙ (ap (λ l. is_new l t.event) (sym d.mine) ∙ fresh));
 }
 
@@ -338,8 +333,7 @@ progress-delivered setup start steps at from number old held new message p least
       idle = t.idle;
     } in
     progress-raised setup start steps at from (number + 1) new low
-    (within-stays setup old new (number + 1) (omega (arith, w.1)) all)
-    (λ n message le lt found own.
+    (within-stays setup old new (number + 1) (omega (arith, w.1)) all) (λ n message le lt found own.
     let before = starts-back (world_at setup new).sent (world_at setup old).sent n message (longer-sent setup new.seen old.seen all.seen)
     (omega (arith, lt, w.1)) found in
     let least' = none-before from 0 number old.name (world_at setup old).sent n message least before
@@ -373,7 +367,7 @@ progress-begins setup start steps idle = record {
   does = record {
     added = [];
     name = refl;
-    seen = starts-same start.seen;
+    seen = starts-same;
     mine = sym (append-nil start.mine);
     did = refl;
     news = refl;
@@ -399,7 +393,7 @@ pub grows-later : (old new : SeatData) → Later old new → Grows old new
 grows-later old new l = record {
   name = ap (λ (s : SeatData). s.name) l.same;
   seen = l.seen;
-  mine = subst (λ (m : List Event). StartsWith m old.mine) (sym (ap (λ (s : SeatData). s.mine) l.same)) (starts-same old.mine);
+  mine = subst (λ (m : List Event). StartsWith m old.mine) (sym (ap (λ (s : SeatData). s.mine) l.same)) (starts-same);
 }
 
 pub progress-later : (setup : Setup) (start : SeatData) (steps : List Step) (at from : ℕ) (old new : SeatData) →
@@ -430,8 +424,7 @@ idle-later old new l idle = ap (λ (s : SeatData). s.pending) l.same ∙ idle
 
 pub had-idle : (mine : List Event) (pending : Option Offered) (number : ℕ) (b had : Bool) → pending ≡ None →
     b ≡ was_delivered (mine ++ offered_events pending) number → b ≡ had → was_delivered mine number ≡ had
-had-idle mine pending number b had idle is same =
-    ap (λ l. was_delivered l number) (sym (append-nil mine))
+had-idle mine pending number b had idle is same = ap (λ l. was_delivered l number) (sym (append-nil mine))
     ∙ (ap (λ (p : Option Offered). was_delivered (mine ++ offered_events p) number) (sym idle) ∙ (sym is ∙ same))
 
 -- A step
@@ -454,11 +447,9 @@ takes-committed setup old given ready n new p c =
       event = p.offered.event;
       is = p.event;
       name = ap (λ (s : SeatData). s.name) c.after ∙ ap (λ (s : SeatData). s.name) p.after;
-      seen = starts-through new.seen c.earlier old.seen
-          (record { rest = c.offered.event ∷ []; same = ap (λ (s : SeatData). s.seen) c.after })
+      seen = starts-through (record { rest = c.offered.event ∷ []; same = ap (λ (s : SeatData). s.seen) c.after })
           (subst (λ (l : List Event). StartsWith c.earlier l) (ap (λ (s : SeatData). s.seen) p.after) c.seen);
-      mine = ap (λ (s : SeatData). s.mine) c.after
-          ∙ (ap (λ (s : SeatData). s.mine ++ c.offered.event ∷ []) p.after
+      mine = ap (λ (s : SeatData). s.mine) c.after ∙ (ap (λ (s : SeatData). s.mine ++ c.offered.event ∷ []) p.after
           ∙ ap (λ (o : Offered). old.mine ++ o.event ∷ []) same);
       idle = ap (λ (s : SeatData). s.pending) c.after;
     }

@@ -20,13 +20,13 @@ pub new-nodes-within : NewNodesAreWithin
 new-nodes-within = record {
   outside = tt;
   coordinator = new-within;
-  hosts = λ index (setup : Setup). new-host index (master_setup setup index);
+  hosts = λ index (setup : Setup). new-host;
 }
 
 pub more-allow-more : MoreWorksAllowMore
 more-allow-more n m TheOutside more h = tt
-more-allow-more n m (TheCoordinator c) more h = within-more c n m more h
-more-allow-more n m (TheHost host) more h = host-more n m more host h
+more-allow-more n m (TheCoordinator c) more h = within-more more h
+more-allow-more n m (TheHost host) more h = host-more more h
 
 -- The outside
 
@@ -35,7 +35,7 @@ outside-steps n (work.Ask to body) p =
     record {
       node = tt;
       sent = one-within (n + 1) (record { from = Outside; to = Server to; body = body })
-          (body-more n (n + 1) (omega arith) body p);
+          (body-more (omega arith) body p);
     }
 outside-steps n _ p = record { node = tt; sent = none-within (n + 1) }
 
@@ -57,9 +57,9 @@ host-steps n host given h = record { node = h.host; sent = h.messages }
 
 pub steps-stay-within : StepsStayWithin
 steps-stay-within n TheOutside given h p = outside-steps n given p
-steps-stay-within n (TheCoordinator c) given h p = coordinator-steps n c given (coordinator-within c given n h)
+steps-stay-within n (TheCoordinator c) given h p = coordinator-steps n c given (coordinator-within given h)
 steps-stay-within n (TheHost host) given h p =
-    host-steps n host given (host-within n host given h (given-within n (TheHost host) given p))
+    host-steps n host given (host-within given h (given-within n (TheHost host) given p))
 
 -- Room
 
@@ -68,11 +68,10 @@ host-has-room n host few h = record {
   generation = omega (arith, h.generation, few);
   versions = λ (master : Master) is.
       All-weaker (λ (entry : Entry). entry.version ≤ n) (λ (entry : Entry). entry.version < 2 ^ 64 - 1)
-      (λ entry p. omega (arith, p, few)) (entries_of master.log)
-      (versions-of n master (h.master master is));
+      (λ entry p. omega (arith, p, few)) (entries_of master.log) (versions-of (h.master master is));
 }
 
 pub nodes-have-room : NodesHaveRoom
 nodes-have-room n TheOutside few h = tt
-nodes-have-room n (TheCoordinator c) few h = numbers-from c (room-of n c few h)
+nodes-have-room n (TheCoordinator c) few h = numbers-from c (room-of few h)
 nodes-have-room n (TheHost host) few h = host-has-room n host few h

@@ -39,9 +39,9 @@ module _ (Asked : Entry → Type 0) where
       subst Asked (sym (ap (λ (p : LogPlace). p.entry) same)) (asked (sym (ap (λ (p : LogPlace). p.client) same) ∙ is))
   asks-added (suc n) len entry client asked place (inr never) is = absurd never
 
-  asks-appends : (master : Master) (entry : Entry) (client : Bool) → (client ≡ true → Asked entry) →
+  asks-appends : (master : Master) {entry : Entry} {client : Bool} → (client ≡ true → Asked entry) →
       Asks master (appends_entry master entry client)
-  asks-appends master entry client asked all =
+  asks-appends master {entry} {client} asked all =
       subst (AllAsked Asked) (sym (places-appended master.log.segments master.log.head (entry, client)))
       (λ place at. by place (In-append place (places_of master.log) (added master.log.head len (entry, client)) at))
     where
@@ -54,8 +54,7 @@ module _ (Asked : Entry → Type 0) where
       by place (inr at) = asks-added master.log.head len entry client asked place at
 
   asks-commits : (master : Master) (seg : ℕ) → Asks master (commits master seg)
-  asks-commits master seg =
-      asks-same master (commits master seg).0 (commits master seg).1
+  asks-commits master seg = asks-same master (commits master seg).0 (commits master seg).1
       (places_to-same master.log.segments (commits master seg).0.log.segments master.log.head
       (λ s upto. either (λ (one : Segment). one.entries ≡ (master.log.segments s).entries) (nat_eq seg s)
       (record (master.log.segments seg) { commit_sent = true }) (master.log.segments s)
@@ -66,7 +65,7 @@ module _ (Asked : Entry → Type 0) where
     inputs = record {
       both = asks-both;
       quiet = λ old new messages quiet soft. asks-same old new messages quiet.places;
-      appends = λ master entry client room asked. asks-appends master entry client asked;
+      appends = λ master entry client room asked. asks-appends master asked;
       again = λ master. asks-same master master (commits_again master.log) refl;
     };
     counts = λ master less. asks-same master (with_log master (record master.log { durable = durable_now master.log }))
@@ -74,10 +73,10 @@ module _ (Asked : Entry → Type 0) where
     commits = λ master seg e. asks-commits master seg;
   }
 
-  pub asks-takes : (master : Master) (from : Addr) (body : Body) →
+  pub asks-takes : (master : Master) (from : Addr) {body : Body} →
       ((table key : ℕ) (value : Option (List ℕ)) (under : ℕ) → body ≡ Write table key value →
       Asked (written master under table key value)) → Asks master (master_takes master from body)
-  asks-takes master from body asked = takes-kept Asked Asks asks-kept master from body asked
+  asks-takes master from asked = takes-kept Asked Asks asks-kept from asked
 
   pub asks-ticks : (master : Master) → Asks master (master_ticks master)
   asks-ticks master = tick-kept Asked Asks asks-kept master
@@ -87,9 +86,9 @@ module _ (Asked : Entry → Type 0) where
 abbrev EntryAsked : List Message → ServerId → Entry → Type 0
 EntryAsked sent m entry = WasToldToWrite sent m entry.table entry.key entry.value
 
-asked-more : (sent messages : List Message) (m : ServerId) (table key : ℕ) (value : Option (List ℕ)) →
+asked-more : {sent : List Message} (messages : List Message) {m : ServerId} {table key : ℕ} {value : Option (List ℕ)} →
     WasToldToWrite sent m table key value → WasToldToWrite (sent ++ messages) m table key value
-asked-more sent messages m table key value p =
+asked-more {sent} messages p =
     record { message = p.message; among = In-left p.message sent messages p.among; to = p.to; says = p.says }
 
 abbrev pub ClientsAsked : List Message → ServerId → Master → Type 0
@@ -97,17 +96,16 @@ ClientsAsked sent m master = AllAsked (EntryAsked sent m) (places_of master.log)
 
 clients-more : (sent messages : List Message) (m : ServerId) (master : Master) → ClientsAsked sent m master →
     ClientsAsked (sent ++ messages) m master
-clients-more sent messages m master p place at client =
-    asked-more sent messages m place.entry.table place.entry.key place.entry.value (p place at client)
+clients-more sent messages m master p place at client = asked-more messages (p place at client)
 
-pub clients-kept : (setup : Setup) → IsKeptByAll setup ClientsAsked
-clients-kept setup = record {
+pub clients-kept : {setup : Setup} → IsKeptByAll setup ClientsAsked
+clients-kept = record {
   opened = λ m place at. absurd at;
   led = record {
     same = λ sent m master p. p;
     others = λ sent messages m master p others. clients-more sent messages m master p;
-    takes = λ sent m master from body good p at. asks-takes (EntryAsked (sent ++ (master_takes master from body).1) m) master from body
-        (λ table key value under e. asked-more sent (master_takes master from body).1 m table key value
+    takes = λ sent m master from body good p at. asks-takes (EntryAsked (sent ++ (master_takes master from body).1) m) master from
+        (λ table key value under e. asked-more (master_takes master from body).1
         (record { message = record { from = from; to = Server m; body = body }; among = at; to = refl; says = e }))
         (clients-more sent (master_takes master from body).1 m master p);
     ticks = λ sent m master good p. asks-ticks (EntryAsked (sent ++ (master_ticks master).1) m) master
@@ -151,15 +149,14 @@ record SaysOf (ack : Ack) (place : LogPlace) : Type 0 where
   key : ack.key ≡ place.entry.key
   version : ack.version ≡ place.entry.version
 
-same-ok : (a b c d f g h i j k l m : ℕ) → WriteOk a b c d f g ≡ WriteOk h i j k l m →
+same-ok : {a b c d f g h i j k l m : ℕ} → WriteOk a b c d f g ≡ WriteOk h i j k l m →
     (a ≡ h) × (b ≡ i) × (c ≡ j) × (d ≡ k) × (f ≡ l) × (g ≡ m)
-same-ok a b c d f g h i j k l m e = (cc, cc, cc, cc, cc, cc)
+same-ok e = (cc, cc, cc, cc, cc, cc)
 
-says-of : (ack : Ack) (place : LogPlace) → WriteOk ack.seg ack.offset ack.term ack.table ack.key ack.version ≡ WriteOk
+says-of : {ack : Ack} {place : LogPlace} → WriteOk ack.seg ack.offset ack.term ack.table ack.key ack.version ≡ WriteOk
     place.seg place.offset place.entry.term place.entry.table place.entry.key place.entry.version → SaysOf ack place
-says-of ack place e =
-    let p = same-ok ack.seg ack.offset ack.term ack.table ack.key ack.version place.seg place.offset place.entry.term
-    place.entry.table place.entry.key place.entry.version e in
+says-of e =
+    let p = same-ok e in
     record { seg = p.0; offset = p.1; term = p.2; table = p.3; key = p.4; version = p.5 }
 
 pub acknowledged-was-asked : AcknowledgedWasAsked
@@ -184,18 +181,18 @@ acknowledged-was-asked setup events m ack acked = by (oks-of m (counted_places l
     by (place, among, client, same) = record {
       entry = place.entry;
       stands = ap (λ s. slice_get (log_in log s) ack.offset) says.seg ∙
-          (ap (slice_get (log_in log place.seg)) says.offset ∙ place-logged log place found);
+          (ap (slice_get (log_in log place.seg)) says.offset ∙ place-logged log found);
       of_ack = record { term = sym says.term; table = sym says.table; key = sym says.key };
       version = sym says.version;
       asked = subst (λ t. WasToldToWrite (replay setup events).sent m t ack.key place.entry.value) (sym says.table)
           (subst (λ k. WasToldToWrite (replay setup events).sent m place.entry.table k place.entry.value) (sym says.key)
-          (kept-replay setup ClientsAsked (clients-kept setup) events m place
+          (kept-replay setup ClientsAsked (clients-kept) events m place
           (In-from_take log.durable (places_of log) place among) client));
     }
       where
         says : SaysOf ack place
-        says = says-of ack place (sym acked.says ∙ ap (λ (message : Message). message.body) same)
+        says = says-of (sym acked.says ∙ ap (λ (message : Message). message.body) same)
 
         found : IsOf log.segments log.head place
         found = let at = place_of (places_of log) place (In-from_take log.durable (places_of log) place among) in
-            places_to-are log.segments log.head at.0 place at.1
+            places_to-are log.head at.0 at.1

@@ -53,14 +53,14 @@ take-take (suc n) (suc m) [] less = refl
 take-take (suc n) (suc m) (x ∷ xs) less = ap (λ rest. x ∷ rest) (take-take n m xs (omega (arith, less)))
 
 -- what counts more, counts the same and then more
-counted-more : {X : Type 0} (n m : ℕ) (xs : List X) → n ≤ m → take n xs ++ drop n (take m xs) ≡ take m xs
-counted-more n m xs less = ap (λ l. l ++ drop n (take m xs)) (sym (take-take n m xs less)) ∙ take-append-drop n (take m xs)
+counted-more : {X : Type 0} {n m : ℕ} (xs : List X) → n ≤ m → take n xs ++ drop n (take m xs) ≡ take m xs
+counted-more {n} {m} xs less = ap (λ l. l ++ drop n (take m xs)) (sym (take-take n m xs less)) ∙ take-append-drop n (take m xs)
 
 -- Acknowledgements
 
-pub and-false : (a b : Bool) → b ≡ false → (a && b) ≡ false
-and-false true b e = e
-and-false false b e = refl
+pub and-false : (a : Bool) {b : Bool} → b ≡ false → (a && b) ≡ false
+and-false true e = e
+and-false false e = refl
 
 -- what isn't loud is no acknowledgement
 soft-body : (body : Body) → is_loud body ≡ false → is_write_ok body ≡ false
@@ -69,13 +69,12 @@ soft-body _ e = refl
 
 soft-no_acks : (own : ServerId) (messages : List Message) → AllSoft messages → acks_in own messages ≡ []
 soft-no_acks own messages soft =
-    filter-none (is_ack_of own) messages (λ k d less. and-false _ _ (soft-body _ (soft k d less)))
+    filter-none (is_ack_of own) messages (λ k d less. and-false _ (soft-body _ (soft k d less)))
 
 pub oks-append : (own : ServerId) (first second : List LogPlace) →
     write_oks own (first ++ second) ≡ write_oks own first ++ write_oks own second
 oks-append own [] second = refl
-oks-append own (place ∷ first) second =
-    either (λ (messages : List Message).
+oks-append own (place ∷ first) second = either (λ (messages : List Message).
     cond place.client (to_outside own (WriteOk place.seg place.offset place.entry.term place.entry.table
     place.entry.key place.entry.version) ∷ write_oks own (first ++ second)) (write_oks own (first ++ second)) ≡
     messages ++ write_oks own second) place.client
@@ -96,14 +95,12 @@ server-own own = same_id-refl own
 -- each is one of its own
 oks-are_acks : (own : ServerId) (places : List LogPlace) → All (λ message. is_ack_of own message ≡ true) (write_oks own places)
 oks-are_acks own [] = All-nil (λ message. is_ack_of own message ≡ true)
-oks-are_acks own (place ∷ places) =
-    either (All (λ message. is_ack_of own message ≡ true)) place.client
+oks-are_acks own (place ∷ places) = either (All (λ message. is_ack_of own message ≡ true)) place.client
     (to_outside own (WriteOk place.seg place.offset place.entry.term place.entry.table place.entry.key
     place.entry.version) ∷ write_oks own places) (write_oks own places)
     (λ e. All-cons (λ message. is_ack_of own message ≡ true)
     (to_outside own (WriteOk place.seg place.offset place.entry.term place.entry.table place.entry.key
-    place.entry.version)) (write_oks own places)
-    (ap (λ b. b && true) (server-own own)) (oks-are_acks own places))
+    place.entry.version)) (write_oks own places) (ap (λ b. b && true) (server-own own)) (oks-are_acks own places))
     (λ e. oks-are_acks own places)
 
 -- Appending
@@ -130,8 +127,7 @@ places-appended segments (suc n) one =
     (segments (suc n))).entries)
     (places_to-same segments (λ s. cond (nat_eq (suc n) s) (with_entry one.0 one.1 (segments (suc n))) (segments s)) n
     (λ s upto. ap (λ (segment : Segment). segment.entries)
-    (put-beside segments (suc n) (with_entry one.0 one.1 (segments (suc n))) s
-    (λ e. absurd (omega (arith, e, upto))))))
+    (put-beside segments (with_entry one.0 one.1 (segments (suc n))) (λ e. absurd (omega (arith, e, upto))))))
     ∙ (ap (λ (segment : Segment). places_to segments n ++ places_in (suc n) 0 segment.entries)
     (put-same segments (suc n) (with_entry one.0 one.1 (segments (suc n))))
     ∙ (ap (λ l. places_to segments n ++ l) (places_in-more (suc n) 0 (segments (suc n)).entries (one ∷ []) ∙
@@ -167,10 +163,10 @@ acks-both a b first after p q = record {
 }
 
 -- the same places and count, and nothing acknowledged
-acks-same : (old new : Master) (messages : List Message) → new.log.own ≡ old.log.own → new.log.factor ≡ old.log.factor →
+acks-same : {old new : Master} {messages : List Message} → new.log.own ≡ old.log.own → new.log.factor ≡ old.log.factor →
     new.log.durable ≡ old.log.durable → places_of new.log ≡ places_of old.log →
     acks_in old.log.own messages ≡ [] → Acks old (new, messages)
-acks-same old new messages own factor durable places none = record {
+acks-same {old} {new} own factor durable places none = record {
   own = own;
   factor = factor;
   within = λ h. subst (λ l. new.log.durable ≤ length l) (sym places) (omega (arith, h, durable));
@@ -181,10 +177,10 @@ acks-same old new messages own factor durable places none = record {
 }
 
 acks-quiet : (old new : Master) (messages : List Message) → QuietLog old.log new.log → AllSoft messages → Acks old (new, messages)
-acks-quiet old new messages q soft = acks-same old new messages q.own q.factor q.durable q.places (soft-no_acks old.log.own messages soft)
+acks-quiet old new messages q soft = acks-same q.own q.factor q.durable q.places (soft-no_acks old.log.own messages soft)
 
-acks-appends : (master : Master) (entry : Entry) (client : Bool) → Acks master (appends_entry master entry client)
-acks-appends master entry client = record {
+acks-appends : {master : Master} (entry : Entry) (client : Bool) → Acks master (appends_entry master entry client)
+acks-appends {master} entry client = record {
   own = refl;
   factor = refl;
   within = λ h. subst (λ l. master.log.durable ≤ length l) (sym longer) (omega (arith, h, length-append (places_of master.log) more));
@@ -202,17 +198,15 @@ acks-appends master entry client = record {
     longer : places_of (appends entry client master.log) ≡ places_of master.log ++ more
     longer = places-appended master.log.segments master.log.head (entry, client)
 
-acks-counts : (master : Master) → master.log.durable < durable_now master.log →
-    Acks master (
-      with_log master (record master.log { durable = durable_now master.log }),
-      write_oks master.log.own (new_durable master.log),
-    )
+acks-counts : (master : Master) → master.log.durable < durable_now master.log → Acks master (
+  with_log master (record master.log { durable = durable_now master.log }),
+  write_oks master.log.own (new_durable master.log),
+)
 acks-counts master less = record {
   own = refl;
   factor = refl;
   within = λ h. durable-within master.log;
-  acked_more = λ h. ap (write_oks master.log.own)
-      (sym (counted-more master.log.durable (durable_now master.log) (places_of master.log) (omega (arith, less))))
+  acked_more = λ h. ap (write_oks master.log.own) (sym (counted-more (places_of master.log) (omega (arith, less))))
       ∙ (oks-append master.log.own (take master.log.durable (places_of master.log)) (new_durable master.log)
       ∙ ap (λ l. acked master.log ++ l)
       (sym (filter-all (is_ack_of master.log.own) (write_oks master.log.own (new_durable master.log))
@@ -221,11 +215,10 @@ acks-counts master less = record {
 
 -- a Commit is no acknowledgement
 commit-no_ack : (own : ServerId) (s e : ℕ) → is_ack_of own (to_coordinator own (Commit s e)) ≡ false
-commit-no_ack own s e = and-false (is_server own (Server own)) false refl
+commit-no_ack own s e = and-false (is_server own (Server own)) refl
 
-acks-commits : (master : Master) (seg : ℕ) → Acks master (commits master seg)
-acks-commits master seg =
-    acks-same master (commits master seg).0 (commits master seg).1 refl refl refl
+acks-commits : {master : Master} {seg : ℕ} → Acks master (commits master seg)
+acks-commits {master} {seg} = acks-same refl refl refl
     (places_to-same master.log.segments (commits master seg).0.log.segments master.log.head
     (λ s upto. either (λ (one : Segment). one.entries ≡ (master.log.segments s).entries) (nat_eq seg s)
     (record (master.log.segments seg) { commit_sent = true }) (master.log.segments s)
@@ -237,29 +230,26 @@ acks-commits master seg =
     (All-nil (λ message. is_ack_of master.log.own message ≡ false))))
 
 acks-again : (master : Master) → Acks master (master, commits_again master.log)
-acks-again master =
-    acks-same master master (commits_again master.log) refl refl refl refl
-    (filter-none (is_ack_of master.log.own) (commits_again master.log)
+acks-again master = acks-same refl refl refl refl (filter-none (is_ack_of master.log.own) (commits_again master.log)
     (All-map (λ message. is_ack_of master.log.own message ≡ false)
     (λ seg. to_coordinator master.log.own (Commit seg (master.log.segments seg).config.epoch))
     (filter (λ seg. awaits_commit (master.log.segments seg)) (numbers_to master.log.head))
-    (λ k d less. and-false (is_server master.log.own (Server master.log.own)) false refl)))
+    (λ k d less. and-false (is_server master.log.own (Server master.log.own)) refl)))
 
 pub acks-kept : IsKept (λ entry. Unit {0}) Acks
 acks-kept = record {
   inputs = record {
     both = acks-both;
     quiet = acks-quiet;
-    appends = λ master entry client room asked.
-        acks-appends master entry client;
+    appends = λ master entry client room asked. acks-appends entry client;
     again = acks-again;
   };
   counts = acks-counts;
-  commits = λ master seg e. acks-commits master seg;
+  commits = λ master seg e. acks-commits;
 }
 
-pub acks-takes : (master : Master) (from : Addr) (body : Body) → Acks master (master_takes master from body)
-acks-takes master from body = takes-kept (λ entry. Unit {0}) Acks acks-kept master from body (λ table key value under e. tt)
+pub acks-takes : {master : Master} (from : Addr) (body : Body) → Acks master (master_takes master from body)
+acks-takes from body = takes-kept (λ entry. Unit {0}) Acks acks-kept from (λ table key value under e. tt)
 
 pub acks-ticks : (master : Master) → Acks master (master_ticks master)
 acks-ticks master = tick-kept (λ entry. Unit {0}) Acks acks-kept master
@@ -271,40 +261,36 @@ Acked sent m master = acks_in m sent ≡ write_oks m (counted_places master.log)
 
 acked-others : (sent messages : List Message) (m : ServerId) (master : Master) → Acked sent m master →
     OthersSay m messages → Acked (sent ++ messages) m master
-acked-others sent messages m master p others =
-    filter-append (is_ack_of m) sent messages
+acked-others sent messages m master p others = filter-append (is_ack_of m) sent messages
     ∙ (ap (λ l. acks_in m sent ++ l)
     (filter-none (is_ack_of m) messages (All-from_In (λ message. is_ack_of m message ≡ false) messages none)) ∙
     (append-nil (acks_in m sent) ∙ p))
   where
     none : (message : Message) → In message messages → is_ack_of m message ≡ false
-    none message at =
-        by (is_server m message.from) refl
+    none message at = by (is_server m message.from) refl
       where
         by : (b : Bool) → is_server m message.from ≡ b → (b && is_write_ok message.body) ≡ false
         by true e = soft-body message.body (others-soft message.body (others message at (is_server-true m message.from e)))
         by false e = refl
 
-acked-after : (sent : List Message) (m : ServerId) (master : Master) (after : Master × List Message) →
+acked-after : {sent : List Message} {m : ServerId} {master : Master} {after : Master × List Message} →
     GoodMaster sent m master → Acked sent m master → Acks master after → Acked (sent ++ after.1) m after.0
-acked-after sent m master after good p step =
-    filter-append (is_ack_of m) sent after.1
+acked-after {sent} {m} {master} {after} good p step = filter-append (is_ack_of m) sent after.1
     ∙ (ap (λ l. l ++ acks_in m after.1) p
     ∙ (ap (λ (id : ServerId). write_oks id (counted_places master.log) ++ acks_in id after.1) (sym good.own)
     ∙ (sym (step.acked_more good.durable_within)
     ∙ ap (λ (id : ServerId). write_oks id (counted_places after.0.log)) (step.own ∙ good.own))))
 
-acked-kept : (setup : Setup) → IsKeptByAll setup Acked
-acked-kept setup = record {
+acked-kept : {setup : Setup} → IsKeptByAll setup Acked
+acked-kept = record {
   opened = λ m. refl;
   led = record {
     same = λ sent m master p. p;
     others = acked-others;
-    takes = λ sent m master from body good p at. acked-after sent m master (master_takes master from body) good p
-        (acks-takes master from body);
-    ticks = λ sent m master good p. acked-after sent m master (master_ticks master) good p (acks-ticks master);
+    takes = λ sent m master from body good p at. acked-after good p (acks-takes from body);
+    ticks = λ sent m master good p. acked-after good p (acks-ticks master);
   };
 }
 
 pub counted-is-acknowledged : CountedIsAcknowledged
-counted-is-acknowledged setup events m = kept-replay setup Acked (acked-kept setup) events m
+counted-is-acknowledged setup events m = kept-replay setup Acked (acked-kept) events m

@@ -16,11 +16,11 @@ inputs : LogJoined InputOk
 inputs = record { still = input-refl; both = input-trans }
 
 listed : LogListed InputOk
-listed = record { replaces = input-loses; opens = λ servers log ids none chosen. input-chosen log (1 ∷ []) ids 1 servers chosen }
+listed = record { replaces = input-loses; opens = λ servers log ids none chosen. input-chosen (1 ∷ []) 1 servers chosen }
 
 written : LogWritten InputOk
 written = record {
-  rolls = λ servers log digest ids writing room chosen. input-chosen log digest ids (log.head + 1) servers chosen;
+  rolls = λ servers log digest ids writing room chosen. input-chosen digest (log.head + 1) servers chosen;
   writes = λ log entry client writing room. input-appends entry client log;
 }
 
@@ -34,10 +34,10 @@ takes_first-input : (master : Master) (from : Addr) (body : Body) → TellsWhole
 takes_first-input master from body tells =
     kept-takes_first (OfLog InputOk) (of_log-joined InputOk inputs) (of_log-listed InputOk inputs listed) master from body
     (of_log-taken InputOk inputs written master from body
-    (λ teller seg epoch len closed is told. input-stored seg teller epoch len closed master.log
+    (λ teller seg epoch len closed is told. input-stored teller epoch
     (subst (λ (says : Body). TellsWhole master.log (Server teller) says) told
     (subst (λ (sender : Addr). TellsWhole master.log sender body) is tells)))
-    (λ seg epoch is. input-commit_noted seg epoch master.log))
+    (λ seg epoch is. input-commit_noted seg epoch))
 
 ticks_first-input : (master : Master) → OfLog InputOk master (ticks master)
 ticks_first-input = kept-ticks_first (OfLog InputOk) (of_log-joined InputOk inputs) (of_log-listed InputOk inputs listed)
@@ -51,19 +51,19 @@ follows = record { still = follow-refl; both = follow-trans }
 followed : LogFollowed FollowOk
 followed = record {
   marks = follow-marks;
-  starts = λ log may. follow-same log (starts log) refl refl refl;
-  places = λ log may. follow-same log (closes_old log) refl refl refl;
-  closes = λ log due. follow-alike log (log.head - 1) (with_closes_sent (old_head_of log)) refl refl refl;
-  shuts = λ log may. follow-trans log (starts log) (writes_on log) (follow-same log (starts log) refl refl refl)
-      (follow-freed (left_out log) (starts log));
-  commits = λ log seg. follow-alike log seg (record (log.segments seg) { commit_sent = true }) refl refl refl;
-  counts = λ log more. follow-same log (record log { durable = durable_now log }) refl refl refl;
+  starts = λ log may. follow-same refl refl refl;
+  places = λ log may. follow-same refl refl refl;
+  closes = λ log due. follow-alike (log.head - 1) (with_closes_sent (old_head_of log)) refl refl refl;
+  shuts = λ log may. follow-trans log (starts log) (writes_on log) (follow-same refl refl refl)
+      (follow-freed (left_out log));
+  commits = λ log seg. follow-alike seg (record (log.segments seg) { commit_sent = true }) refl refl refl;
+  counts = λ log more. follow-same refl refl refl;
 }
 
 goes-follows : (master : Master) → OfLog FollowOk master (goes_on master)
 goes-follows = kept-goes_on (OfLog FollowOk) (of_log-joined FollowOk follows)
     (of_log-followed FollowOk follows (record {
-      rolls = λ servers log digest ids writing room chosen. follow-chosen log digest ids servers chosen;
+      rolls = λ servers log digest ids writing room chosen. follow-chosen digest servers chosen;
       writes = λ log entry client writing room. follow-appends entry client log;
     }) followed)
 
@@ -73,11 +73,11 @@ pub record StepOk (old new : Log) : Type 0 where
   pub keeps : Told old → Told new
   pub shut : Told old → (s : ℕ) → (new.segments s).shut ≡ true → ((old.segments s).shut ≡ true) ⊎ (is_all_closed (new.segments s) ≡ true)
 
-pub step-same : (log : Log) → StepOk log log
-step-same log = record { keeps = λ told. told; shut = λ told s e. inl e }
+pub step-same : {log : Log} → StepOk log log
+step-same = record { keeps = λ told. told; shut = λ told s e. inl e }
 
-then-step : (old : Log) (first : Master × List Message) → InputOk old first.0.log → StepOk old (then_does first goes_on).0.log
-then-step old (master, messages) p = record {
+then-step : {old : Log} (first : Master × List Message) → InputOk old first.0.log → StepOk old (then_does first goes_on).0.log
+then-step {old} (master, messages) p = record {
   keeps = λ told. (goes-follows master).keeps (p.keeps told);
   shut = λ told s e. by s ((goes-follows master).closes (p.keeps told) s e);
 }
@@ -92,10 +92,10 @@ pub takes-step : (master : Master) (from : Addr) (body : Body) → TellsWhole ma
 takes-step master from body tells =
     either (λ (after : Master × List Message). StepOk master.log after.0.log) master.deposed (deposed_takes master body)
     (then_does (master_takes_first master from body) goes_on)
-    (λ _. subst (StepOk master.log) (sym (ap (λ (one : Master). one.log) (same-deposed master body))) (step-same master.log))
-    (λ _. then-step master.log (master_takes_first master from body) (takes_first-input master from body tells))
+    (λ _. subst (StepOk master.log) (sym (ap (λ (one : Master). one.log) (same-deposed master body))) (step-same))
+    (λ _. then-step (master_takes_first master from body) (takes_first-input master from body tells))
 
 pub ticks-step : (master : Master) → StepOk master.log (master_ticks master).0.log
 ticks-step master =
     either (λ (after : Master × List Message). StepOk master.log after.0.log) master.deposed (master, []) (then_does (ticks master) goes_on)
-    (λ _. step-same master.log) (λ _. then-step master.log (ticks master) (ticks_first-input master))
+    (λ _. step-same) (λ _. then-step (ticks master) (ticks_first-input master))

@@ -18,26 +18,23 @@ use Rattle.rc_write_laws.proofs.Worlds.{counted-is-durable, acknowledged-is-dura
 use Rattle.rc_write_laws.proofs.Sending.{IsSent, told-is-sent}
 
 -- what was stored on all was sent
-stored-sent : (setup : Setup) (past : List Event) (m : ServerId) (s o : ℕ) →
+stored-sent : (setup : Setup) (past : List Event) {m : ServerId} {s o : ℕ} →
     o < durable_len (((replay setup past).masters m).log.segments s).config → IsSent (replay setup past).sent m s o
-stored-sent setup past m s o less =
-    by (stored-told (replay setup past).sent m ((replay setup past).masters m) s o
-    ((good-world setup past).masters_are m) less)
+stored-sent setup past {m} {s} {o} less = by (stored-told ((good-world setup past).masters_are m) less)
   where
     by : (x : ServerId) × HasTold (replay setup past).sent x m s
         (((replay setup past).masters m).log.segments s).config.epoch o → IsSent (replay setup past).sent m s o
     by (x, told) = told-is-sent setup past x m s (((replay setup past).masters m).log.segments s).config.epoch told.len
         told.closed told.told o told.above
 
-sent-later : (m : ServerId) (old new : World) (s o : ℕ) → Since m old new → IsSent old.sent m s o → IsSent new.sent m s o
-sent-later m old new s o since p =
+sent-later : {m : ServerId} {old new : World} {s o : ℕ} → Since m old new → IsSent old.sent m s o → IsSent new.sent m s o
+sent-later since p =
     (p.0, record { message = p.1.message; among = since.more p.1.message p.1.among; from = p.1.from; holds = p.1.holds })
 
-durable-sent : (setup : Setup) (events : List Event) (m : ServerId) (s o : ℕ) → IsDurable setup events m s o →
+durable-sent : {setup : Setup} {events : List Event} {m : ServerId} {s o : ℕ} → IsDurable setup events m s o →
     IsSent (replay setup events).sent m s o
-durable-sent setup events m s o durable =
-    sent-later m (replay setup (take durable.moment events)) (replay setup events) s o
-    (since-take setup events durable.moment m) (stored-sent setup (take durable.moment events) m s o less)
+durable-sent {setup} {events} {m} {s} {o} durable = sent-later
+    (since-take setup events durable.moment) (stored-sent setup (take durable.moment events) less)
   where
     log : Log
     log = ((replay setup (take durable.moment events)).masters m).log
@@ -51,20 +48,19 @@ durable-sent setup events m s o durable =
         (all_shut_to log.segments (s - 1)) parts).0
 
 pub durable-is-made : DurableIsMade
-durable-is-made setup events m s o durable =
-    (sent.0, made-is w.sent w.masters w.hosts w.coordinator (good-world setup events) m s o sent.0 sent.1, sent.1)
+durable-is-made setup events m s o durable = (sent.0, made-is (good-world setup events) sent.1, sent.1)
   where
     w : World
     w = replay setup events
 
     sent : IsSent (replay setup events).sent m s o
-    sent = durable-sent setup events m s o durable
+    sent = durable-sent durable
 
 -- what is kept at a counted place is kept at a durable one
-kept-durably : (setup : Setup) (events : List Event) (owner : ServerId) (term : ℕ) (was : Entry) → factor_of setup owner.index ≢ 0 →
+kept-durably : {setup : Setup} {events : List Event} {owner : ServerId} {term : ℕ} {was : Entry} → factor_of setup owner.index ≢ 0 →
     Keeps (Frees setup) (replay setup events).sent owner ((replay setup events).masters owner).log term was →
     HasKept setup events owner term was
-kept-durably setup events owner term was some k = record {
+kept-durably {setup} {events} {owner} some k = record {
   seg = k.at.seg;
   offset = k.at.offset;
   durable = durable;
@@ -95,8 +91,7 @@ pub acknowledged-is-handed-on : AcknowledgedIsHandedOn
 acknowledged-is-handed-on setup events m ack was = record {
   recorded = r;
   made = made;
-  kept = λ grant owner granted to before some. kept-durably setup events owner grant.term r.entry some
-      (p.kept grant owner granted to (way grant before));
+  kept = λ grant owner granted to before some. kept-durably some (p.kept grant owner granted to (way grant before));
 }
   where
     p : IsCarriedOn (Frees setup) (replay setup events).sent (replay setup events).masters m ack
@@ -128,8 +123,7 @@ pub durable-is-handed-on : DurableIsHandedOn
 durable-is-handed-on setup events m s o durable = (
   p.0,
   p.1,
-  λ grant owner granted to before some. kept-durably setup events owner grant.term p.0 some
-      (p.2 grant owner granted to before),
+  λ grant owner granted to before some. kept-durably some (p.2 grant owner granted to before),
 )
   where
     p : (entry : Entry) × (slice_get (log_in ((replay setup events).masters m).log s) o ≡ Some entry)

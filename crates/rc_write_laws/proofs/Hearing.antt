@@ -92,9 +92,9 @@ module _ (P : ServerId → ℕ → Type 0) where
       heard-refills (with_lost servers config) (substitutes_for own servers (with_lost servers config)) (heard-lost servers config heard)
 
   -- a Stored is noted
-  heard-noted : (from : ServerId) (epoch len : ℕ) (closed : Bool) (config : Config) → P from epoch → Heard config →
+  heard-noted : {from : ServerId} {epoch : ℕ} (len : ℕ) (closed : Bool) (config : Config) → P from epoch → Heard config →
       Heard (noted from epoch len closed config)
-  heard-noted from epoch len closed config said heard =
+  heard-noted {from} {epoch} len closed config said heard =
       either Heard (nat_eq epoch config.epoch) (record config { members = map (told_if_heard from len closed) config.members }) config
       (λ same member at told. by (eqb-true epoch config.epoch same) member told
       (In-map (told_if_heard from len closed) member config.members at)) (λ _. heard)
@@ -132,32 +132,32 @@ module _ (Q : ℕ → ServerId → ℕ → Type 0) where
   abbrev Keeps : Log → Log → Type 0
   Keeps old new = HeardAll old → HeardAll new
 
-  keeps-put : (log : Log) (seg : ℕ) (segment : Segment) → (Heard (Q seg) (log.segments seg).config → Heard (Q seg) segment.config) →
+  keeps-put : (log : Log) {seg : ℕ} (segment : Segment) → (Heard (Q seg) (log.segments seg).config → Heard (Q seg) segment.config) →
       Keeps log (with_segment seg segment log)
-  keeps-put log seg segment keeps heard =
+  keeps-put log {seg} segment keeps heard =
       put_each (λ k (one : Segment). Heard (Q k) one.config) log.segments seg segment (keeps (heard seg)) heard
 
   keeps-joined : LogJoined Keeps
   keeps-joined = record { still = λ log heard. heard; both = λ one two three p q heard. q (p heard) }
 
-  keeps-change : (seg : ℕ) (log : Log) (answer : Config × Result Bool Fault) →
+  keeps-change : {seg : ℕ} (log : Log) (answer : Config × Result Bool Fault) →
       (Heard (Q seg) (log.segments seg).config → Heard (Q seg) answer.0) → Keeps log (opens_change seg log answer).0
-  keeps-change seg log (config, Ok true) keeps = keeps-put log seg (under_new_epoch config (log.segments seg)) keeps
-  keeps-change seg log (config, Ok false) keeps = keeps-put log seg (record (log.segments seg) { config = config }) keeps
-  keeps-change seg log (config, Err fault) keeps = keeps-put log seg (record (log.segments seg) { config = config }) keeps
+  keeps-change {seg} log (config, Ok true) keeps = keeps-put log (under_new_epoch config (log.segments seg)) keeps
+  keeps-change {seg} log (config, Ok false) keeps = keeps-put log (record (log.segments seg) { config = config }) keeps
+  keeps-change {seg} log (config, Err fault) keeps = keeps-put log (record (log.segments seg) { config = config }) keeps
 
-  keeps-refills : (seg : ℕ) (log : Log) (answer : Config × Result (List ServerId) Fault) →
+  keeps-refills : {seg : ℕ} (log : Log) (answer : Config × Result (List ServerId) Fault) →
       (Heard (Q seg) (log.segments seg).config → Heard (Q seg) answer.0) → Keeps log (refills seg log answer).0
-  keeps-refills seg log (config, answer) keeps = keeps-put log seg (record (log.segments seg) { config = config }) keeps
+  keeps-refills {seg} log (config, answer) keeps = keeps-put log (record (log.segments seg) { config = config }) keeps
 
   keeps-loses : (servers : ServerList) (seg : ℕ) (log : Log) → Keeps log (loses servers seg log).0
   keeps-loses servers seg log =
       either (λ (after : Log × Result (List ServerId) Fault). Keeps log after.0) (log.segments seg).shut
       (refills seg log (refill log.own servers (log.segments seg).config))
       (opens_change seg log (lose log.own servers (log.segments seg).config))
-      (λ _. keeps-refills seg log (refill log.own servers (log.segments seg).config)
+      (λ _. keeps-refills log (refill log.own servers (log.segments seg).config)
       (heard-refill (Q seg) log.own servers (log.segments seg).config))
-      (λ _. keeps-change seg log (lose log.own servers (log.segments seg).config)
+      (λ _. keeps-change log (lose log.own servers (log.segments seg).config)
       (heard-lose (Q seg) log.own servers (log.segments seg).config))
 
   keeps-opens : (log : Log) (digest : List ℕ) (ids : List ServerId) → Keeps log (opens_head log digest ids)
@@ -165,16 +165,16 @@ module _ (Q : ℕ → ServerId → ℕ → Type 0) where
       put_each (λ k (one : Segment). Heard (Q k) one.config) log.segments (log.head + 1) (new_segment (log.head + 1) digest ids)
       (heard-new (Q (log.head + 1)) (log.head + 1) ids) heard
 
-  keeps-if : (log : Log) (b : Bool) (seg : ℕ) (config : Config) →
+  keeps-if : (log : Log) (b : Bool) {seg : ℕ} (config : Config) →
       (Heard (Q seg) (log.segments seg).config → Heard (Q seg) config) → Keeps log (cond b (with_config seg config log) log)
-  keeps-if log b seg config keeps = either (Keeps log) b (with_config seg config log) log
-      (λ _. keeps-put log seg (record (log.segments seg) { config = config }) keeps) (λ _ heard. heard)
+  keeps-if log b {seg} config keeps = either (Keeps log) b (with_config seg config log) log
+      (λ _. keeps-put log (record (log.segments seg) { config = config }) keeps) (λ _ heard. heard)
 
   keeps-freed : (segs : List ℕ) (log : Log) → Keeps log (with_freed segs log)
   keeps-freed [] log heard = heard
   keeps-freed (seg ∷ segs) log heard =
       keeps-freed segs (with_segment seg (record (log.segments seg) { freed = true }) log)
-      (keeps-put log seg (record (log.segments seg) { freed = true }) (λ h. h) heard)
+      (keeps-put log (record (log.segments seg) { freed = true }) (λ h. h) heard)
 
   keeps-listed : LogListed Keeps
   keeps-listed = record { replaces = keeps-loses; opens = λ servers log ids none chosen. keeps-opens log (1 ∷ []) ids }
@@ -182,31 +182,31 @@ module _ (Q : ℕ → ServerId → ℕ → Type 0) where
   keeps-written : LogWritten Keeps
   keeps-written = record {
     rolls = λ servers log digest ids writing room chosen. keeps-opens log digest ids;
-    writes = λ log entry client writing room. keeps-put log log.head (with_entry entry client (head_of log)) (λ h. h);
+    writes = λ log entry client writing room. keeps-put log (with_entry entry client (head_of log)) (λ h. h);
   }
 
   keeps-followed : LogFollowed Keeps
   keeps-followed = record {
-    marks = λ log is. keeps-put log (log.head - 1) (record (old_head_of log) { shut = true }) (λ h. h);
+    marks = λ log is. keeps-put log (record (old_head_of log) { shut = true }) (λ h. h);
     starts = λ log may heard. heard;
     places = λ log may heard. heard;
-    closes = λ log due. keeps-put log (log.head - 1) (with_closes_sent (old_head_of log)) (λ h. h);
+    closes = λ log due. keeps-put log (with_closes_sent (old_head_of log)) (λ h. h);
     shuts = λ log may heard. keeps-freed (left_out log) (starts log) heard;
-    commits = λ log seg. keeps-put log seg (record (log.segments seg) { commit_sent = true }) (λ h. h);
+    commits = λ log seg. keeps-put log (record (log.segments seg) { commit_sent = true }) (λ h. h);
     counts = λ log more heard. heard;
   }
 
-  takes-heard : (master : Master) (from : Addr) (body : Body) →
+  takes-heard : (master : Master) {from : Addr} {body : Body} →
       ((teller : ServerId) (seg epoch len : ℕ) (closed : Bool) → from ≡ Server teller → body ≡ Stored seg epoch len closed →
       Q seg teller epoch) → HeardAll master.log → HeardAll (master_takes master from body).0.log
-  takes-heard master from body said =
+  takes-heard master {from} {body} said =
       kept-takes (OfLog Keeps) (of_log-joined Keeps keeps-joined) (of_log-listed Keeps keeps-joined keeps-listed)
       (of_log-followed Keeps keeps-joined keeps-written keeps-followed) master from body
       (of_log-taken Keeps keeps-joined keeps-written master from body
-      (λ teller seg epoch len closed is says. keeps-if master.log (has_segment master.log seg) seg
+      (λ teller seg epoch len closed is says. keeps-if master.log (has_segment master.log seg)
       (noted teller epoch len closed (master.log.segments seg).config)
-      (heard-noted (Q seg) teller epoch len closed (master.log.segments seg).config (said teller seg epoch len closed is says)))
-      (λ seg epoch is. keeps-if master.log (has_segment master.log seg) seg (committed_at epoch (master.log.segments seg).config)
+      (heard-noted (Q seg) len closed (master.log.segments seg).config (said teller seg epoch len closed is says)))
+      (λ seg epoch is. keeps-if master.log (has_segment master.log seg) (committed_at epoch (master.log.segments seg).config)
       (heard-committed (Q seg) epoch (master.log.segments seg).config)))
 
   ticks-heard : (master : Master) → HeardAll master.log → HeardAll (master_ticks master).0.log
@@ -224,13 +224,13 @@ told-more sent messages m log heard s member at told =
     let was = heard s member at told in
     record { len = was.len; closed = was.closed; told = In-left (between member.id m _) sent messages was.told }
 
-heard-all : (setup : Setup) → IsKeptByAll setup (λ sent m master. HeardAll (Told sent m) master.log)
-heard-all setup = record {
+heard-all : {setup : Setup} → IsKeptByAll setup (λ sent m master. HeardAll (Told sent m) master.log)
+heard-all = record {
   opened = λ m s member at told. absurd at;
   led = record {
     same = λ sent m master p. p;
     others = λ sent messages m master p others. told-more sent messages m master.log p;
-    takes = λ sent m master from body good p at. takes-heard (Told (sent ++ (master_takes master from body).1) m) master from body
+    takes = λ sent m master from body good p at. takes-heard (Told (sent ++ (master_takes master from body).1) m) master
         (λ teller seg epoch len closed is says. record {
           len = len;
           closed = closed;
@@ -244,11 +244,11 @@ heard-all setup = record {
 }
 
 -- each id that was sent a segment under its current epoch, where it is placed on all
-pub members-have-told : (setup : Setup) (events : List Event) (m : ServerId) (s : ℕ) (x : ServerId) →
+pub members-have-told : (setup : Setup) (events : List Event) {m : ServerId} {s : ℕ} {x : ServerId} →
     all_placed ((log_of setup events m).segments s).config ≡ true →
     IsMember (sent_after setup events) m s ((log_of setup events m).segments s).config.epoch x →
     HasToldOf (sent_after setup events) x m s ((log_of setup events m).segments s).config.epoch
-members-have-told setup events m s x placed member = by ((log_of setup events m).segments s).shut refl
+members-have-told setup events {m} {s} {x} placed member = by ((log_of setup events m).segments s).shut refl
   where
     segment : Segment
     segment = (log_of setup events m).segments s
@@ -257,7 +257,7 @@ members-have-told setup events m s x placed member = by ((log_of setup events m)
     place = (good-world setup events).messages _ member.placed
 
     noted-is : (one : Member) → In one segment.config.members → HasToldOf (sent_after setup events) one.id m s segment.config.epoch
-    noted-is one at = kept-replay setup (λ sent m master. HeardAll (Told sent m) master.log) (heard-all setup) events m s one at
+    noted-is one at = kept-replay setup (λ sent m master. HeardAll (Told sent m) master.log) (heard-all) events m s one at
         (and_parts (not one.lost) (is_some one.told) (all-each is_placed one segment.config.members placed at)).1
 
     by : (b : Bool) → segment.shut ≡ b → HasToldOf (sent_after setup events) x m s segment.config.epoch

@@ -20,10 +20,10 @@ use Rattle.rc_model.proofs.Tests.{either}
 abbrev pub Asked : List Message → Coordinator → ServerId → Pair → Type 0
 Asked sent c m pair = (pair ≡ c.least m) ⊎ In (to_coordinator m (Commit pair.seg pair.epoch)) sent
 
-asked-step : (sent : List Message) (c : Coordinator) (work : NodeWork) → IsGiven sent TheCoordinator work → (m : ServerId) →
+asked-step : (sent : List Message) (c : Coordinator) (work : NodeWork) → IsGiven sent TheCoordinator work → {m : ServerId} →
     Asked sent c m ((coordinator_step c work).0.least m)
-asked-step sent c work given m =
-    by (told-step c (λ from body. In (record { from = from; to = AtCoordinator; body = body }) sent) work (taken-at sent work given) m)
+asked-step sent c work given {m} =
+    by (told-step c (λ from body. In (record { from = from; to = AtCoordinator; body = body }) sent) (taken-at sent given) m)
   where
     by : WasTold c (λ from body. In (record { from = from; to = AtCoordinator; body = body }) sent)
         (coordinator_step c work).1 m ((coordinator_step c work).0.least m) →
@@ -34,21 +34,21 @@ asked-step sent c work given m =
 -- A world
 
 asked-node : (world : World) (one : Event) (node : NodeName) (work : NodeWork) → IsGiven world.sent node work →
-    (m : ServerId) → Asked world.sent world.coordinator m ((node_done world one node work).coordinator.least m)
-asked-node world one TheOutside work given m = inl refl
-asked-node world one TheCoordinator work given m = asked-step world.sent world.coordinator work given m
-asked-node world one (TheHost i) work given m = inl refl
+    {m : ServerId} → Asked world.sent world.coordinator m ((node_done world one node work).coordinator.least m)
+asked-node world one TheOutside work given = inl refl
+asked-node world one TheCoordinator work given = asked-step world.sent world.coordinator work given
+asked-node world one (TheHost i) work given = inl refl
 
-asked-job : (world : World) (one : Event) (found : Option Job) → job_of world.sent one ≡ found → (m : ServerId) →
+asked-job : (world : World) (one : Event) (found : Option Job) → job_of world.sent one ≡ found → {m : ServerId} →
     Asked world.sent world.coordinator m ((job_done world one found).coordinator.least m)
-asked-job world one None is m = inl refl
-asked-job world one (Some job) is m = asked-node world one job.node job.work (job_of-given world.sent one job is) m
+asked-job world one None is = inl refl
+asked-job world one (Some job) is = asked-node world one job.node job.work (job_of-given world.sent one is)
 
-pub asked-event : (world : World) (one : Event) (m : ServerId) → Asked world.sent world.coordinator m ((step world one).coordinator.least m)
-asked-event world one m =
+pub asked-event : (world : World) (one : Event) {m : ServerId} → Asked world.sent world.coordinator m ((step world one).coordinator.least m)
+asked-event world one {m} =
     either (λ (after : World). Asked world.sent world.coordinator m (after.coordinator.least m)) (is_possible world one)
     (job_done world one (job_of world.sent one)) world
-    (λ _. asked-job world one (job_of world.sent one) refl m) (λ _. inl refl)
+    (λ _. asked-job world one (job_of world.sent one) refl) (λ _. inl refl)
 
 -- each segment below a least pair is shut
 abbrev LeastOrdered : World → Type 0
@@ -61,7 +61,7 @@ AskedInOrder world = (m : ServerId) (s e t : ℕ) → In (to_coordinator m (Comm
 
 ordered-step : (world : World) (one : Event) → GoodWorld world → AskedInOrder world → LeastOrdered world → LeastOrdered (step world one)
 ordered-step world one good asked p m t above less =
-    (((led-step world one good).onward.grown m).later.shut t (by ((step world one).coordinator.least m) (asked-event world one m) less)).0
+    (((led-step world one good).onward.grown m).later.shut t (by ((step world one).coordinator.least m) (asked-event world one) less)).0
   where
     by : (pair : Pair) → Asked world.sent world.coordinator m pair → t < pair.seg → ((world.masters m).log.segments t).shut ≡ true
     by pair (inl is) less = p m t above (subst (λ (one : Pair). t < one.seg) is less)
@@ -72,8 +72,7 @@ ordered-from : (setup : Setup) (past events : List Event) → LeastOrdered (repl
 ordered-from setup past [] p = p
 ordered-from setup past (one ∷ events) p =
     subst LeastOrdered (ap (λ (world : World). replay_from world events) (replay_from-push (opening setup) past one))
-    (ordered-from setup (past ++ one ∷ []) events
-    (subst LeastOrdered (sym (replay_from-push (opening setup) past one))
+    (ordered-from setup (past ++ one ∷ []) events (subst LeastOrdered (sym (replay_from-push (opening setup) past one))
     (ordered-step (replay setup past) one (good-world setup past)
     (λ m s e t at above less. commits-are-asked-in-order setup past m s e t at above less) p)))
 
@@ -89,10 +88,8 @@ pub commits-are-in-order : CommitsAreInOrder
 commits-are-in-order setup events m s e t at above less =
     let granted : is_below ((replay setup events).coordinator.least m) (record { seg = s; epoch = e }) ≡ false =
     (good-world setup events).messages (from_coordinator m (CommitOk s e)) at in
-    least-pairs-are-in-order setup events m t above
-    (omega (
+    least-pairs-are-in-order setup events m t above (omega (
       arith,
       less,
-      not-below ((replay setup events).coordinator.least m) (record { seg = s; epoch = e })
-          granted,
+      not-below ((replay setup events).coordinator.least m) (record { seg = s; epoch = e }) granted,
     ))

@@ -12,11 +12,11 @@ record Limits (old : Master) (after : Master × List Message) : Type 0 where
   size : after.0.log.size ≡ old.log.size
   limits : LogIsWithinLimits old.log → LogIsWithinLimits after.0.log
 
-limits-appends : (master : Master) (entry : Entry) (client : Bool) → is_full master.log ≡ false →
+limits-appends : {master : Master} (entry : Entry) (client : Bool) → is_full master.log ≡ false →
     Limits master (appends_entry master entry client)
-limits-appends master entry client room = record {
+limits-appends {master} entry client room = record {
   size = refl;
-  limits = λ h. limits-put master.log master.log.head (with_entry entry client (head_of master.log)) h (h.epochs master.log.head)
+  limits = λ h. limits-put master.log.head (with_entry entry client (head_of master.log)) h (h.epochs master.log.head)
       (omega (
         arith,
         length_push (head_of master.log).entries (entry, client),
@@ -29,13 +29,13 @@ limits-kept = record {
   inputs = record {
     both = λ a b first after p q. record { size = q.size ∙ p.size; limits = λ h. q.limits (p.limits h) };
     quiet = λ old new messages quiet soft. record { size = quiet.size; limits = quiet.limits };
-    appends = λ master entry client room asked. limits-appends master entry client room;
+    appends = λ master entry client room asked. limits-appends entry client room;
     again = λ master. record { size = refl; limits = λ h. h };
   };
   counts = λ master less. record { size = refl; limits = λ h. record { head = h.head; epochs = h.epochs; entries = h.entries } };
   commits = λ master seg e. record {
     size = refl;
-    limits = λ h. limits-put master.log seg (record (master.log.segments seg) { commit_sent = true }) h (h.epochs seg) (h.entries seg);
+    limits = λ h. limits-put seg (record (master.log.segments seg) { commit_sent = true }) h (h.epochs seg) (h.entries seg);
   };
 }
 
@@ -43,27 +43,25 @@ record OfSetup (setup : Setup) (sent : List Message) (m : ServerId) (master : Ma
   size : master.log.size ≡ setup.segment
   limits : LogIsWithinLimits master.log
 
-after-step : (setup : Setup) (sent sent_now : List Message) (m : ServerId) (master : Master)
-    (after : Master × List Message) → OfSetup setup sent m master → Limits master after →
+after-step : {setup : Setup} {sent sent_now : List Message} {m : ServerId} {master : Master}
+    {after : Master × List Message} → OfSetup setup sent m master → Limits master after →
     OfSetup setup sent_now m after.0
-after-step setup sent sent_now m master after p step = record { size = step.size ∙ p.size; limits = step.limits p.limits }
+after-step p step = record { size = step.size ∙ p.size; limits = step.limits p.limits }
 
-of_setup-kept : (setup : Setup) → IsKeptByAll setup (OfSetup setup)
-of_setup-kept setup = record {
+of_setup-kept : {setup : Setup} → IsKeptByAll setup (OfSetup setup)
+of_setup-kept = record {
   opened = λ m. record { size = refl; limits = record { head = omega arith; epochs = λ s. omega arith; entries = λ s. omega arith } };
   led = record {
     same = λ sent m master p. p;
     others = λ sent messages m master p others. record { size = p.size; limits = p.limits };
-    takes = λ sent m master from body good p at. after-step setup sent (sent ++ (master_takes master from body).1) m
-        master (master_takes master from body) p (takes-kept (λ entry. Unit {0}) Limits limits-kept master from body
+    takes = λ sent m master from body good p at. after-step p (takes-kept (λ entry. Unit {0}) Limits limits-kept from
         (λ table key value under e. tt));
-    ticks = λ sent m master good p. after-step setup sent (sent ++ (master_ticks master).1) m master
-        (master_ticks master) p (tick-kept (λ entry. Unit {0}) Limits limits-kept master);
+    ticks = λ sent m master good p. after-step p (tick-kept (λ entry. Unit {0}) Limits limits-kept master);
   };
 }
 
 pub logs-stay-within-limits : LogsStayWithinLimits
-logs-stay-within-limits setup events m = (kept-replay setup (OfSetup setup) (of_setup-kept setup) events m).limits
+logs-stay-within-limits setup events m = (kept-replay setup (OfSetup setup) (of_setup-kept) events m).limits
 
 pub segments-take-what-is-set-up : SegmentsTakeWhatIsSetUp
-segments-take-what-is-set-up setup events m = (kept-replay setup (OfSetup setup) (of_setup-kept setup) events m).size
+segments-take-what-is-set-up setup events m = (kept-replay setup (OfSetup setup) (of_setup-kept) events m).size

@@ -27,8 +27,8 @@ record SegmentMore (old new : Segment) : Type 0 where
   longer : length old.entries ≤ length new.entries
   stored : durable_in old ≤ durable_in new
 
-more-same : (segment : Segment) → SegmentMore segment segment
-more-same segment = record { shut = λ e. e; longer = omega arith; stored = omega arith }
+more-same : {segment : Segment} → SegmentMore segment segment
+more-same = record { shut = λ e. e; longer = omega arith; stored = omega arith }
 
 within : (segment : Segment) → durable_in segment ≤ length segment.entries
 within segment = omega arith
@@ -47,17 +47,17 @@ first-more old new a b p less = by old.shut new.shut refl refl
     by false true e f = omega (arith, p.stored, within new)
     by false false e f = p.stored
 
-among-more : (old new : ℕ → Segment) (ns : List ℕ) → ((n : ℕ) → In n ns → SegmentMore (old n) (new n)) →
+among-more : {old new : ℕ → Segment} (ns : List ℕ) → ((n : ℕ) → In n ns → SegmentMore (old n) (new n)) →
     durable_among (map old ns) ≤ durable_among (map new ns)
-among-more old new [] each = omega arith
-among-more old new (n ∷ ns) each =
+among-more [] each = omega arith
+among-more {old} {new} (n ∷ ns) each =
     first-more (old n) (new n) (durable_among (map old ns)) (durable_among (map new ns)) (each n (inl refl))
-    (among-more old new ns (λ k at. each k (inr at)))
+    (among-more ns (λ k at. each k (inr at)))
 
 among-further : (segments others : List Segment) → durable_among segments ≤ durable_among (segments ++ others)
 among-further [] others = omega arith
 among-further (segment ∷ segments) others = first-more segment segment (durable_among segments)
-    (durable_among (segments ++ others)) (more-same segment) (among-further segments others)
+    (durable_among (segments ++ others)) (more-same) (among-further segments others)
 
 numbers-more : (n d : ℕ) → (rest : List ℕ) × (numbers_to (d + n) ≡ numbers_to n ++ rest)
 numbers-more n zero = ([], (let e : 0 + n ≡ n = omega arith in ap numbers_to e) ∙ sym (append-nil (numbers_to n)))
@@ -89,7 +89,7 @@ now-more old new upto each = by (numbers-more old.head (new.head - old.head))
           arith,
           whole,
           among-further (map new.segments (numbers_to old.head)) (map new.segments rest),
-          among-more old.segments new.segments (numbers_to old.head) (λ n at. each n (numbers-upto old.head n at)),
+          among-more (numbers_to old.head) (λ n at. each n (numbers-upto old.head n at)),
         )
 
 -- What follows an input
@@ -110,45 +110,39 @@ follows-then a b c p q = record {
 }
 
 -- the count stays
-follows-more : (old new : Log) → new.durable ≡ old.durable → old.head ≤ new.head →
+follows-more : {old new : Log} → new.durable ≡ old.durable → old.head ≤ new.head →
     ((s : ℕ) → s ≤ old.head → SegmentMore (old.segments s) (new.segments s)) → Follows old new
-follows-more old new same upto each = record { now = now-more old new upto each; rises = omega (arith, same); count = omega (arith, same) }
+follows-more {old} {new} same upto each = record { now = now-more old new upto each; rises = omega (arith, same); count = omega (arith, same) }
 
-follows-put : (log : Log) (seg : ℕ) (segment : Segment) → SegmentMore (log.segments seg) segment →
+follows-put : {log : Log} (seg : ℕ) {segment : Segment} → SegmentMore (log.segments seg) segment →
     Follows log (with_segment seg segment log)
-follows-put log seg segment more =
-    follows-more log (with_segment seg segment log) refl (omega arith)
+follows-put {log} seg {segment} more = follows-more refl (omega arith)
     (λ s upto. put_each (λ k (one : Segment). SegmentMore (log.segments k) one) log.segments seg segment more
-    (λ k. more-same (log.segments k)) s)
+    (λ k. more-same) s)
 
-follows-opens : (log : Log) (digest : List ℕ) (ids : List ServerId) → Follows log (opens_head log digest ids)
-follows-opens log digest ids =
-    follows-more log (opens_head log digest ids) refl (omega arith)
-    (λ s upto. subst (SegmentMore (log.segments s))
-    (sym (put-beside log.segments (log.head + 1) (new_segment (log.head + 1) digest ids) s
-    (λ same. absurd (omega (arith, same, upto))))) (more-same (log.segments s)))
+follows-opens : {log : Log} (digest : List ℕ) (ids : List ServerId) → Follows log (opens_head log digest ids)
+follows-opens {log} digest ids = follows-more refl (omega arith) (λ s upto. subst (SegmentMore (log.segments s))
+    (sym (put-beside log.segments (new_segment (log.head + 1) digest ids)
+    (λ same. absurd (omega (arith, same, upto))))) (more-same))
 
-follows-appends : (entry : Entry) (client : Bool) (log : Log) → Follows log (appends entry client log)
-follows-appends entry client log =
-    follows-put log log.head (with_entry entry client (head_of log))
+follows-appends : (entry : Entry) (client : Bool) {log : Log} → Follows log (appends entry client log)
+follows-appends entry client {log} = follows-put log.head
     (record {
       shut = λ e. e;
       longer = omega (arith, length_push (head_of log).entries (entry, client));
       stored = omega (arith, length_push (head_of log).entries (entry, client));
     })
 
-follows-freed : (segs : List ℕ) (log : Log) → Follows log (with_freed segs log)
-follows-freed [] log = follows-refl log
-follows-freed (seg ∷ segs) log =
+follows-freed : (segs : List ℕ) {log : Log} → Follows log (with_freed segs log)
+follows-freed [] {log} = follows-refl log
+follows-freed (seg ∷ segs) {log} =
     let next : Log = with_segment seg (record (log.segments seg) { freed = true }) log in
-    follows-then log next (with_freed segs next) (follows-put log seg (record (log.segments seg) { freed = true })
-    (record { shut = λ e. e; longer = omega arith; stored = omega arith })) (follows-freed segs next)
+    follows-then log next (with_freed segs next) (follows-put seg
+    (record { shut = λ e. e; longer = omega arith; stored = omega arith })) (follows-freed segs)
 
-follows-phase : (log new : Log) → new.durable ≡ log.durable → new.head ≡ log.head → new.segments ≡ log.segments → Follows log new
-follows-phase log new durable head segments =
-    follows-more log new durable (omega (arith, head))
-    (λ s upto. subst (λ (table : ℕ → Segment). SegmentMore (log.segments s) (table s)) (sym segments)
-    (more-same (log.segments s)))
+follows-phase : {log new : Log} → new.durable ≡ log.durable → new.head ≡ log.head → new.segments ≡ log.segments → Follows log new
+follows-phase {log} durable head segments = follows-more durable (omega (arith, head))
+    (λ s upto. subst (λ (table : ℕ → Segment). SegmentMore (log.segments s) (table s)) (sym segments) (more-same))
 
 -- The rules
 
@@ -156,29 +150,29 @@ joined : LogJoined Follows
 joined = record { still = follows-refl; both = follows-then }
 
 -- a segment is changed, but for its members and entries
-marked : (log : Log) (seg : ℕ) (segment : Segment) → ((log.segments seg).shut ≡ true → segment.shut ≡ true) →
+marked : {log : Log} (seg : ℕ) (segment : Segment) → ((log.segments seg).shut ≡ true → segment.shut ≡ true) →
     length segment.entries ≡ length (log.segments seg).entries → durable_in segment ≡ durable_in (log.segments seg) →
     Follows log (with_segment seg segment log)
-marked log seg segment shut long stored = follows-put log seg segment
+marked seg segment shut long stored = follows-put seg
     (record { shut = shut; longer = omega (arith, long); stored = omega (arith, stored) })
 
 by_rule : LogFollowed Follows
 by_rule = record {
-  marks = λ log is. marked log (log.head - 1) (record (old_head_of log) { shut = true }) (λ _. refl) refl refl;
-  starts = λ log may. follows-phase log (starts log) refl refl refl;
-  places = λ log may. follows-phase log (closes_old log) refl refl refl;
-  closes = λ log due. marked log (log.head - 1) (with_closes_sent (old_head_of log)) (λ e. e) refl refl;
-  shuts = λ log may. follows-then log (starts log) (writes_on log) (follows-phase log (starts log) refl refl refl)
-      (follows-freed (left_out log) (starts log));
-  commits = λ log seg. marked log seg (record (log.segments seg) { commit_sent = true }) (λ e. e) refl refl;
+  marks = λ log is. marked (log.head - 1) (record (old_head_of log) { shut = true }) (λ _. refl) refl refl;
+  starts = λ log may. follows-phase refl refl refl;
+  places = λ log may. follows-phase refl refl refl;
+  closes = λ log due. marked (log.head - 1) (with_closes_sent (old_head_of log)) (λ e. e) refl refl;
+  shuts = λ log may. follows-then log (starts log) (writes_on log) (follows-phase refl refl refl)
+      (follows-freed (left_out log));
+  commits = λ log seg. marked seg (record (log.segments seg) { commit_sent = true }) (λ e. e) refl refl;
   counts = λ log more. (let less : log.durable < durable_now log = ltb-true log.durable (durable_now log) more in
       record { now = omega arith; rises = omega arith; count = omega arith });
 }
 
 goes-follows : (master : Master) → OfLog Follows master (goes_on master)
 goes-follows = kept-goes_on (OfLog Follows) (of_log-joined Follows joined) (of_log-followed Follows joined (record {
-  rolls = λ servers log digest ids writing room chosen. follows-opens log digest ids;
-  writes = λ log entry client writing room. follows-appends entry client log;
+  rolls = λ servers log digest ids writing room chosen. follows-opens digest ids;
+  writes = λ log entry client writing room. follows-appends entry client;
 }) by_rule)
 
 -- A step: an input counts nothing, and then the rules follow
@@ -198,11 +192,11 @@ pub record Counts (old new : Log) : Type 0 where
   pub rises : old.durable ≤ new.durable
   pub count : new.durable ≤ max old.durable (durable_now new)
 
-counts-same : (log : Log) → Counts log log
-counts-same log = record { rises = omega arith; count = omega arith }
+counts-same : {log : Log} → Counts log log
+counts-same = record { rises = omega arith; count = omega arith }
 
-then-counts : (old : Log) (first : Master × List Message) → first.0.log.durable ≡ old.durable → Counts old (then_does first goes_on).0.log
-then-counts old (master, messages) same =
+then-counts : {old : Log} (first : Master × List Message) → first.0.log.durable ≡ old.durable → Counts old (then_does first goes_on).0.log
+then-counts (master, messages) same =
     let after : Follows master.log (goes_on master).0.log = goes-follows master in
     record { rises = omega (arith, after.rises, same); count = omega (arith, after.count, same) }
 
@@ -210,15 +204,15 @@ takes-counts : (master : Master) (from : Addr) (body : Body) → Counts master.l
 takes-counts master from body =
     either (λ (after : Master × List Message). Counts master.log after.0.log) master.deposed (deposed_takes master body)
     (then_does (master_takes_first master from body) goes_on)
-    (λ _. subst (λ (after : Master). Counts master.log after.log) (sym (same-deposed master body)) (counts-same master.log))
-    (λ _. then-counts master.log (master_takes_first master from body)
+    (λ _. subst (λ (after : Master). Counts master.log after.log) (sym (same-deposed master body)) (counts-same))
+    (λ _. then-counts (master_takes_first master from body)
     (first-kept_by (λ entry. Unit {0}) CountStays count-kept master from body (λ table key value under e. tt)))
 
 ticks-counts : (master : Master) → Counts master.log (master_ticks master).0.log
 ticks-counts master =
     either (λ (after : Master × List Message). Counts master.log after.0.log) master.deposed (master, []) (then_does (ticks master) goes_on)
-    (λ _. counts-same master.log)
-    (λ _. then-counts master.log (ticks master) (ticks-kept_by (λ entry. Unit {0}) CountStays count-kept master))
+    (λ _. counts-same)
+    (λ _. then-counts (ticks master) (ticks-kept_by (λ entry. Unit {0}) CountStays count-kept master))
 
 -- An event
 
@@ -229,29 +223,29 @@ module _ (world : World) where
   abbrev HasCounted : List Message → ServerId → Master → Type 0
   HasCounted sent m master = Counts (world.masters m).log master.log
 
-  counted-from : (m : ServerId) (master : Master) (after : Master) → master ≡ world.masters m →
+  counted-from : {m : ServerId} {master : Master} (after : Master) → master ≡ world.masters m →
       Counts master.log after.log → Counts (world.masters m).log after.log
-  counted-from m master after same p = subst (λ (old : Master). Counts old.log after.log) same p
+  counted-from after same p = subst (λ (old : Master). Counts old.log after.log) same p
 
   counted-led : IsLed IsBefore HasCounted
   counted-led = record {
-    same = λ sent m master p. counted-from m master master p (counts-same master.log);
-    others = λ sent messages m master p others. counted-from m master master p (counts-same master.log);
-    takes = λ sent m master from body good p at. counted-from m master (master_takes master from body).0 p (takes-counts master from body);
-    ticks = λ sent m master good p. counted-from m master (master_ticks master).0 p (ticks-counts master);
+    same = λ sent m master p. counted-from master p (counts-same);
+    others = λ sent messages m master p others. counted-from master p (counts-same);
+    takes = λ sent m master from body good p at. counted-from (master_takes master from body).0 p (takes-counts master from body);
+    ticks = λ sent m master good p. counted-from (master_ticks master).0 p (ticks-counts master);
   }
 
 -- what an event makes of a master's count
-pub counts-on : (world : World) (one : Event) → GoodWorld world → (m : ServerId) →
+pub counts-on : (world : World) (one : Event) → GoodWorld world → {m : ServerId} →
     Counts (world.masters m).log ((step world one).masters m).log
-counts-on world one good m = led-by (IsBefore world) (HasCounted world) (counted-led world) world one good (λ k. refl) m
+counts-on world one good {m} = led-by (IsBefore world) (HasCounted world) (counted-led world) world one good (λ k. refl) m
 
 pub counted-when-stored : CountedWhenStored
 counted-when-stored setup events one m some up =
     let led : Counts ((replay setup events).masters m).log ((replay setup (events ++ one ∷ [])).masters m).log =
     subst (λ (after : World). Counts ((replay setup events).masters m).log (after.masters m).log)
     (sym (replay_from-push (opening setup) events one))
-    (counts-on (replay setup events) one (good-world setup events) m) in
+    (counts-on (replay setup events) one (good-world setup events)) in
     let settled : durable_now ((replay setup (events ++ one ∷ [])).masters m).log ≤
     ((replay setup (events ++ one ∷ [])).masters m).log.durable =
     (kept-replay setup (IsSettled setup) (settled-kept setup) (events ++ one ∷ []) m).settled some up in

@@ -12,10 +12,10 @@ use Rattle.rc_write_laws.proofs.Settling.{ok_of, place_at}
 use Rattle.rc_model.proofs.Tests.{true_false, either}
 
 -- of what passes a weaker test, the same passes
-filter-within : {X : Type 0} (weak strong : X → Bool) → ((x : X) → strong x ≡ true → weak x ≡ true) → (xs : List X) →
+filter-within : {X : Type 0} {weak strong : X → Bool} → ((x : X) → strong x ≡ true → weak x ≡ true) → (xs : List X) →
     filter strong (filter weak xs) ≡ filter strong xs
-filter-within weak strong implies [] = refl
-filter-within weak strong implies (x ∷ xs) = by (weak x) (strong x) refl refl (filter-within weak strong implies xs)
+filter-within implies [] = refl
+filter-within {weak} {strong} implies (x ∷ xs) = by (weak x) (strong x) refl refl (filter-within implies xs)
   where
     by : (a b : Bool) → weak x ≡ a → strong x ≡ b → filter strong (filter weak xs) ≡ filter strong xs →
         filter strong (cond a (x ∷ filter weak xs) (filter weak xs)) ≡ cond b (x ∷ filter strong xs) (filter strong xs)
@@ -39,21 +39,17 @@ module _ (m : ServerId) (s o : ℕ) where
   count places = length (filter (acks_place m s o) (write_oks m places))
 
   count-append : (first second : List LogPlace) → count (first ++ second) ≡ count first + count second
-  count-append first second =
-      ap (λ l. length (filter (acks_place m s o) l)) (oks-append m first second)
+  count-append first second = ap (λ l. length (filter (acks_place m s o) l)) (oks-append m first second)
       ∙ (ap length (filter-append (acks_place m s o) (write_oks m first) (write_oks m second)) ∙
-      length-append (filter (acks_place m s o) (write_oks m first))
-      (filter (acks_place m s o) (write_oks m second)))
+      length-append (filter (acks_place m s o) (write_oks m first)) (filter (acks_place m s o) (write_oks m second)))
 
   count-cons : (place : LogPlace) (places : List LogPlace) → count (place ∷ places) ≤ count places + 1
   count-cons place places =
       either (λ (messages : List Message). length (filter (acks_place m s o) messages) ≤ count places + 1) place.client
       (ok_of m place ∷ write_oks m places) (write_oks m places)
       (λ _. either (λ (messages : List Message). length messages ≤ count places + 1) (acks_place m s o (ok_of m place))
-      (ok_of m place ∷ filter (acks_place m s o) (write_oks m places))
-      (filter (acks_place m s o) (write_oks m places))
-      (λ _. omega arith) (λ _. omega arith))
-      (λ _. omega arith)
+      (ok_of m place ∷ filter (acks_place m s o) (write_oks m places)) (filter (acks_place m s o) (write_oks m places))
+      (λ _. omega arith) (λ _. omega arith)) (λ _. omega arith)
 
   count-other : (place : LogPlace) (places : List LogPlace) → (nat_eq place.seg s && nat_eq place.offset o) ≡ false →
       count (place ∷ places) ≡ count places
@@ -61,8 +57,7 @@ module _ (m : ServerId) (s o : ℕ) where
       either (λ (messages : List Message). length (filter (acks_place m s o) messages) ≡ count places) place.client
       (ok_of m place ∷ write_oks m places) (write_oks m places)
       (λ _. ap (λ b. length (cond b (ok_of m place ∷ filter (acks_place m s o) (write_oks m places))
-      (filter (acks_place m s o) (write_oks m places)))) not_named)
-      (λ _. refl)
+      (filter (acks_place m s o) (write_oks m places)))) not_named) (λ _. refl)
     where
       not_named : acks_place m s o (ok_of m place) ≡ false
       not_named = ap (λ b. b && (nat_eq place.seg s && nat_eq place.offset o)) (server-own m) ∙ isn't
@@ -74,7 +69,7 @@ module _ (m : ServerId) (s o : ℕ) where
   count-in seg offset (one ∷ entries) = by (nat_eq offset o) refl (count-in seg (offset + 1) entries)
     where
       named : nat_eq offset o ≡ false → (nat_eq seg s && nat_eq offset o) ≡ false
-      named e = and-false (nat_eq seg s) (nat_eq offset o) e
+      named e = and-false (nat_eq seg s) e
 
       by : (b : Bool) → nat_eq offset o ≡ b → (count (places_in seg (offset + 1) entries) ≤ 1) ×
           (o < offset + 1 → count (places_in seg (offset + 1) entries) ≡ 0) →
@@ -83,8 +78,7 @@ module _ (m : ServerId) (s o : ℕ) where
           let same : offset ≡ o = eqb-true offset o e in
           let none : count (places_in seg (offset + 1) entries) ≡ 0 = rec.1 (omega (arith, same)) in (
             omega (arith, none, count-cons (place_at seg offset one) (places_in seg (offset + 1) entries)),
-            λ below.
-                absurd (omega (arith, same, below)),
+            λ below. absurd (omega (arith, same, below)),
           )
       by false e rec =
           let same : count (places_in seg offset (one ∷ entries)) ≡ count (places_in seg (offset + 1) entries) =
@@ -125,6 +119,6 @@ module _ (m : ServerId) (s o : ℕ) where
 
 pub acknowledged-once : AcknowledgedOnce
 acknowledged-once setup events m s o =
-    subst (λ l. length l ≤ 1) (filter-within (is_ack_of m) (acks_place m s o) (placed-ack m s o) (replay setup events).sent)
+    subst (λ l. length l ≤ 1) (filter-within (placed-ack m s o) (replay setup events).sent)
     (subst (λ l. length (filter (acks_place m s o) l) ≤ 1) (sym (counted-is-acknowledged setup events m))
     (count-counted m s o ((replay setup events).masters m).log))

@@ -36,8 +36,8 @@ record ShutStays (old new : Log) : Type 0 where
   head : old.head ≤ new.head
   shut : (s : ℕ) → s ≤ old.head → (old.segments s).shut ≡ true → (new.segments s).shut ≡ true
 
-next-later : (old new : Log) (s : ℕ) → ShutStays old new → IsNext old s → IsNext new s
-next-later old new s later p = record {
+next-later : {old new : Log} {s : ℕ} → ShutStays old new → IsNext old s → IsNext new s
+next-later later p = record {
   upto = omega (arith, later.head, p.upto);
   shut = λ t above less. later.shut t (omega (arith, less, p.upto)) (p.shut t above less);
 }
@@ -66,7 +66,7 @@ orders-both a b first after p q = record {
   where
     by : Ordered a.log → (s e : ℕ) → In (to_coordinator a.log.own (Commit s e)) first ⊎
         In (to_coordinator a.log.own (Commit s e)) after.1 → IsNext after.0.log s
-    by h s e (inl at) = next-later b.log after.0.log s q.later (p.says h s e at)
+    by h s e (inl at) = next-later q.later (p.says h s e at)
     by h s e (inr at) = q.says (p.ordered h) s e (subst (λ (own : ServerId). In (to_coordinator own (Commit s e)) after.1) (sym p.own) at)
 
 -- messages without a Commit
@@ -84,35 +84,33 @@ soft-commit : (body : Body) → is_loud body ≡ false → is_commit body ≡ fa
 soft-commit (Commit s e) soft = true_false soft
 soft-commit _ soft = refl
 
-soft-says : (log : Log) (own : ServerId) (messages : List Message) → AllSoft messages → Says log own messages
-soft-says log own messages soft = no-commit log own messages (λ k d less. soft-commit _ (soft k d less))
+soft-says : {log : Log} (own : ServerId) (messages : List Message) → AllSoft messages → Says log own messages
+soft-says {log} own messages soft = no-commit log own messages (λ k d less. soft-commit _ (soft k d less))
 
 -- the same marks
-orders-same : (old new : Master) (messages : List Message) → new.log.own ≡ old.log.own → ShutStays old.log new.log →
+orders-same : {old new : Master} {messages : List Message} → new.log.own ≡ old.log.own → ShutStays old.log new.log →
     ((s : ℕ) → (new.log.segments s).commit_sent ≡ true → (old.log.segments s).commit_sent ≡ true) →
     (Ordered old.log → Says new.log old.log.own messages) → Orders old (new, messages)
-orders-same old new messages own later asked says = record {
+orders-same own later asked says = record {
   own = own;
   later = later;
-  ordered = λ h s e. next-later old.log new.log s later (h s (asked s e));
+  ordered = λ h s e. next-later later (h s (asked s e));
   says = says;
 }
 
 orders-quiet : (old new : Master) (messages : List Message) → QuietLog old.log new.log → AllSoft messages → Orders old (new, messages)
 orders-quiet old new messages q soft =
-    orders-same old new messages q.own (record { head = q.head; shut = q.shut }) q.asked (λ _. soft-says new.log old.log.own messages soft)
+    orders-same q.own (record { head = q.head; shut = q.shut }) q.asked (λ _. soft-says old.log.own messages soft)
 
-orders-appends : (master : Master) (entry : Entry) (client : Bool) → Orders master (appends_entry master entry client)
-orders-appends master entry client =
-    orders-same master (appends_entry master entry client).0 (appends_entry master entry client).1 refl
+orders-appends : {master : Master} (entry : Entry) (client : Bool) → Orders master (appends_entry master entry client)
+orders-appends {master} entry client = orders-same refl
     (record {
       head = omega arith;
       shut = λ s upto. put_each (λ k (one : Segment). (master.log.segments k).shut ≡ true → one.shut ≡ true)
           master.log.segments master.log.head (with_entry entry client (head_of master.log)) (λ e. e) (λ k e. e) s;
-    })
-    (put_each (λ k (one : Segment). one.commit_sent ≡ true → (master.log.segments k).commit_sent ≡ true)
+    }) (put_each (λ k (one : Segment). one.commit_sent ≡ true → (master.log.segments k).commit_sent ≡ true)
     master.log.segments master.log.head (with_entry entry client (head_of master.log)) (λ e. e) (λ k e. e))
-    (λ _. soft-says _ master.log.own (appends_entry master entry client).1
+    (λ _. soft-says master.log.own (appends_entry master entry client).1
     (soft-ids master.log.own (ids_of (not_lost (head_of master.log).config.members))
     (Append master.log.head (length (head_of master.log).entries) (entry ∷ [])) refl))
 
@@ -123,15 +121,11 @@ oks-no_commit own (place ∷ places) =
     (λ _. All-cons (λ message. is_commit message.body ≡ false) (ok_of own place) (write_oks own places) refl
     (oks-no_commit own places)) (λ _. oks-no_commit own places)
 
-orders-counts : (master : Master) →
-    Orders master (
-      with_log master (record master.log { durable = durable_now master.log }),
-      write_oks master.log.own (new_durable master.log),
-    )
-orders-counts master =
-    orders-same master (with_log master (record master.log { durable = durable_now master.log }))
-    (write_oks master.log.own (new_durable master.log)) refl
-    (record { head = omega arith; shut = λ s upto e. e }) (λ s e. e)
+orders-counts : {master : Master} → Orders master (
+  with_log master (record master.log { durable = durable_now master.log }),
+  write_oks master.log.own (new_durable master.log),
+)
+orders-counts {master} = orders-same refl (record { head = omega arith; shut = λ s upto e. e }) (λ s e. e)
     (λ _. no-commit _ master.log.own (write_oks master.log.own (new_durable master.log))
     (oks-no_commit master.log.own (new_durable master.log)))
 
@@ -139,8 +133,8 @@ orders-commits : (master : Master) (seg : ℕ) → first_open master.log ≡ Som
 orders-commits master seg found = record {
   own = refl;
   later = later;
-  ordered = λ h s e. next-later master.log (commits master seg).0.log s later (marked h s e);
-  says = λ h s e at. next-later master.log (commits master seg).0.log s later (said s e at);
+  ordered = λ h s e. next-later later (marked h s e);
+  says = λ h s e at. next-later later (said s e at);
 }
   where
     next : IsNext master.log seg
@@ -161,14 +155,12 @@ orders-commits master seg found = record {
     one-commit a b c d e = cc
 
     said : (s e : ℕ) → In (to_coordinator master.log.own (Commit s e)) (commits master seg).1 → IsNext master.log s
-    said s e (inl same) = subst (IsNext master.log)
-        (sym (one-commit s e seg (master.log.segments seg).config.epoch
+    said s e (inl same) = subst (IsNext master.log) (sym (one-commit s e seg (master.log.segments seg).config.epoch
         (ap (λ (message : Message). message.body) same))) next
     said s e (inr never) = absurd never
 
 orders-again : (master : Master) → Orders master (master, commits_again master.log)
-orders-again master = orders-same master master (commits_again master.log) refl
-    (record { head = omega arith; shut = λ s upto e. e }) (λ s e. e) said
+orders-again master = orders-same refl (record { head = omega arith; shut = λ s upto e. e }) (λ s e. e) said
   where
     again : ℕ → Message
     again seg = to_coordinator master.log.own (Commit seg (master.log.segments seg).config.epoch)
@@ -193,11 +185,10 @@ orders-kept = record {
   inputs = record {
     both = orders-both;
     quiet = orders-quiet;
-    appends = λ master entry client room asked.
-        orders-appends master entry client;
+    appends = λ master entry client room asked. orders-appends entry client;
     again = orders-again;
   };
-  counts = λ master less. orders-counts master;
+  counts = λ master less. orders-counts;
   commits = orders-commits;
 }
 
@@ -207,15 +198,15 @@ record InOrder (sent : List Message) (m : ServerId) (master : Master) : Type 0 w
   ordered : Ordered master.log
   said : (s e : ℕ) → In (to_coordinator m (Commit s e)) sent → IsNext master.log s
 
-order-after : (sent : List Message) (m : ServerId) (master : Master) (after : Master × List Message) →
+order-after : {sent : List Message} {m : ServerId} {master : Master} {after : Master × List Message} →
     GoodMaster sent m master → InOrder sent m master → Orders master after → InOrder (sent ++ after.1) m after.0
-order-after sent m master after good p step = record {
+order-after {sent} {m} {after} good p step = record {
   ordered = step.ordered p.ordered;
   said = λ s e at. by s e (In-append (to_coordinator m (Commit s e)) sent after.1 at);
 }
   where
     by : (s e : ℕ) → In (to_coordinator m (Commit s e)) sent ⊎ In (to_coordinator m (Commit s e)) after.1 → IsNext after.0.log s
-    by s e (inl at) = next-later master.log after.0.log s step.later (p.said s e at)
+    by s e (inl at) = next-later step.later (p.said s e at)
     by s e (inr at) = step.says p.ordered s e (subst (λ (own : ServerId). In (to_coordinator own (Commit s e)) after.1) (sym good.own) at)
 
 order-others : (sent messages : List Message) (m : ServerId) (master : Master) → InOrder sent m master →
@@ -229,22 +220,21 @@ order-others sent messages m master p others = record {
     by s e (inl at) = p.said s e at
     by s e (inr at) = true_false (sym (others (to_coordinator m (Commit s e)) at refl))
 
-order-kept : (setup : Setup) → IsKeptByAll setup InOrder
-order-kept setup = record {
+order-kept : {setup : Setup} → IsKeptByAll setup InOrder
+order-kept = record {
   opened = λ m. record { ordered = λ s never. true_false (sym never); said = λ s e at. absurd at };
   led = record {
     same = λ sent m master p. p;
     others = order-others;
-    takes = λ sent m master from body good p at. order-after sent m master (master_takes master from body) good p
-        (takes-kept (λ entry. Unit {0}) Orders orders-kept master from body (λ table key value under e. tt));
-    ticks = λ sent m master good p. order-after sent m master (master_ticks master) good p
-        (tick-kept (λ entry. Unit {0}) Orders orders-kept master);
+    takes = λ sent m master from body good p at. order-after good p
+        (takes-kept (λ entry. Unit {0}) Orders orders-kept from (λ table key value under e. tt));
+    ticks = λ sent m master good p. order-after good p (tick-kept (λ entry. Unit {0}) Orders orders-kept master);
   };
 }
 
 pub commits-are-asked-in-order : CommitsAreAskedInOrder
 commits-are-asked-in-order setup events m s e t at above less =
-    ((kept-replay setup InOrder (order-kept setup) events m).said s e at).shut t above less
+    ((kept-replay setup InOrder (order-kept) events m).said s e at).shut t above less
 
 -- and of segments that are placed
 in-drop : {X : Type 0} (x : X) (n : ℕ) (xs : List X) → In x (drop n xs) → In x xs
@@ -263,5 +253,5 @@ pub commits-are-of-the-told : CommitsAreOfTheTold
 commits-are-of-the-told setup events one m s e at x member =
     let due = (commits-are-of-placed setup events one m s e at).0 in
     subst (HasToldOf (sent_after setup (events ++ one ∷ [])) x m s) (sym due.epoch)
-    (members-have-told setup (events ++ one ∷ []) m s x due.placed
+    (members-have-told setup (events ++ one ∷ []) due.placed
     (subst (λ n. IsMember (sent_after setup (events ++ one ∷ [])) m s n x) due.epoch member))

@@ -68,8 +68,8 @@ pub record QuietLog (old new : Log) : Type 0 where
   pub shut : (s : ℕ) → s ≤ old.head → (old.segments s).shut ≡ true → (new.segments s).shut ≡ true
   pub asked : (s : ℕ) → (new.segments s).commit_sent ≡ true → (old.segments s).commit_sent ≡ true
 
-pub quiet-refl : (log : Log) → QuietLog log log
-quiet-refl log = record {
+pub quiet-refl : {log : Log} → QuietLog log log
+quiet-refl = record {
   own = refl;
   factor = refl;
   durable = refl;
@@ -81,8 +81,8 @@ quiet-refl log = record {
   asked = λ s e. e;
 }
 
-pub quiet-trans : (old middle new : Log) → QuietLog old middle → QuietLog middle new → QuietLog old new
-quiet-trans old middle new p q = record {
+pub quiet-trans : {old middle new : Log} → QuietLog old middle → QuietLog middle new → QuietLog old new
+quiet-trans p q = record {
   own = q.own ∙ p.own;
   factor = q.factor ∙ p.factor;
   durable = q.durable ∙ p.durable;
@@ -95,8 +95,8 @@ quiet-trans old middle new p q = record {
 }
 
 -- another phase
-pub quiet-phase : (log : Log) (phase : Phase) → QuietLog log (record log { phase = phase })
-quiet-phase log phase = record {
+pub quiet-phase : {log : Log} {phase : Phase} → QuietLog log (record log { phase = phase })
+quiet-phase = record {
   own = refl;
   factor = refl;
   durable = refl;
@@ -109,26 +109,26 @@ quiet-phase log phase = record {
 }
 
 -- a segment within its limits is put in
-pub limits-put : (log : Log) (seg : ℕ) (segment : Segment) → LogIsWithinLimits log → segment.config.epoch ≤ LAST_EPOCH →
+pub limits-put : {log : Log} (seg : ℕ) (segment : Segment) → LogIsWithinLimits log → segment.config.epoch ≤ LAST_EPOCH →
     length segment.entries ≤ log.size → LogIsWithinLimits (with_segment seg segment log)
-limits-put log seg segment h epoch entries = record {
+limits-put {log} seg segment h epoch entries = record {
   head = h.head;
   epochs = put_each (λ k (one : Segment). one.config.epoch ≤ LAST_EPOCH) log.segments seg segment epoch h.epochs;
   entries = put_each (λ k (one : Segment). length one.entries ≤ log.size) log.segments seg segment entries h.entries;
 }
 
 -- a segment is changed, but for its entries
-pub quiet-put : (log : Log) (seg : ℕ) (segment : Segment) → segment.entries ≡ (log.segments seg).entries →
+pub quiet-put : {log : Log} (seg : ℕ) (segment : Segment) → segment.entries ≡ (log.segments seg).entries →
     ((log.segments seg).shut ≡ true → segment.shut ≡ true) →
     (segment.commit_sent ≡ true → (log.segments seg).commit_sent ≡ true) →
     ((log.segments seg).config.epoch ≤ LAST_EPOCH → segment.config.epoch ≤ LAST_EPOCH) →
     QuietLog log (with_segment seg segment log)
-quiet-put log seg segment entries shut asked epoch = record {
+quiet-put {log} seg segment entries shut asked epoch = record {
   own = refl;
   factor = refl;
   durable = refl;
   size = refl;
-  limits = λ h. limits-put log seg segment h (epoch (h.epochs seg))
+  limits = λ h. limits-put seg segment h (epoch (h.epochs seg))
       (let same : length segment.entries ≡ length (log.segments seg).entries = ap length entries in
       let old = h.entries seg in omega arith);
   places = places_to-same log.segments (with_segment seg segment log).segments log.head
@@ -141,9 +141,9 @@ quiet-put log seg segment entries shut asked epoch = record {
 }
 
 -- a segment beside the one that is put
-pub put-beside : (segments : ℕ → Segment) (key : ℕ) (segment : Segment) (s : ℕ) → (key ≡ s → ⊥) →
+pub put-beside : (segments : ℕ → Segment) {key : ℕ} (segment : Segment) {s : ℕ} → (key ≡ s → ⊥) →
     cond (nat_eq key s) segment (segments s) ≡ segments s
-put-beside segments key segment s differs = either (λ one. one ≡ segments s) (nat_eq key s) segment (segments s)
+put-beside segments {key} segment {s} differs = either (λ one. one ≡ segments s) (nat_eq key s) segment (segments s)
     (λ e. absurd (differs (eqb-true key s e))) (λ _. refl)
 
 places-opened : (segments : ℕ → Segment) (segment : Segment) (n : ℕ) → segment.entries ≡ [] →
@@ -151,20 +151,20 @@ places-opened : (segments : ℕ → Segment) (segment : Segment) (n : ℕ) → s
 places-opened segments segment n none =
     ap (λ l. l ++ places_in (suc n) 0 (cond (nat_eq (suc n) (suc n)) segment (segments (suc n))).entries)
     (places_to-same segments (λ s. cond (nat_eq (suc n) s) segment (segments s)) n
-    (λ s upto. ap (λ (one : Segment). one.entries) (put-beside segments (suc n) segment s (λ e. absurd (omega (arith, e, upto))))))
+    (λ s upto. ap (λ (one : Segment). one.entries) (put-beside segments segment (λ e. absurd (omega (arith, e, upto))))))
     ∙ (ap (λ l. places_to segments n ++ places_in (suc n) 0 l)
     (ap (λ b. (cond b segment (segments (suc n))).entries) (eq-eqb (suc n) (suc n) refl) ∙ none)
     ∙ append-nil (places_to segments n))
 
 -- by its number
-places-opened_at : (segments : ℕ → Segment) (segment : Segment) (n h : ℕ) → h ≡ suc n → segment.entries ≡ [] →
+places-opened_at : (segments : ℕ → Segment) (segment : Segment) {n h : ℕ} → h ≡ suc n → segment.entries ≡ [] →
     places_to (λ s. cond (nat_eq h s) segment (segments s)) h ≡ places_to segments n
-places-opened_at segments segment n h is none =
+places-opened_at segments segment {n} is none =
     subst (λ k. places_to (λ s. cond (nat_eq k s) segment (segments s)) k ≡ places_to segments n) (sym is)
     (places-opened segments segment n none)
 
-pub quiet-opens : (log : Log) (digest : List ℕ) (ids : List ServerId) → log.head < LAST_SEGMENT → QuietLog log (opens_head log digest ids)
-quiet-opens log digest ids room = record {
+pub quiet-opens : {log : Log} (digest : List ℕ) (ids : List ServerId) → log.head < LAST_SEGMENT → QuietLog log (opens_head log digest ids)
+quiet-opens {log} digest ids room = record {
   own = refl;
   factor = refl;
   durable = refl;
@@ -176,27 +176,25 @@ quiet-opens log digest ids room = record {
     entries = put_each (λ k (one : Segment). length one.entries ≤ log.size) log.segments (log.head + 1)
         (new_segment (log.head + 1) digest ids) (omega arith) h.entries;
   };
-  places = places-opened_at log.segments (new_segment (log.head + 1) digest ids) log.head (log.head + 1) (omega arith) refl;
+  places = places-opened_at log.segments (new_segment (log.head + 1) digest ids) {n = log.head} {h = (log.head + 1)} (omega arith) refl;
   head = omega arith;
   shut = λ s upto e. subst (λ (one : Segment). one.shut ≡ true)
-      (sym (put-beside log.segments (log.head + 1) (new_segment (log.head + 1) digest ids) s
+      (sym (put-beside log.segments {key = (log.head + 1)} (new_segment (log.head + 1) digest ids) {s = s}
       (λ same. absurd (omega (arith, same, upto))))) e;
   asked = put_each (λ k (one : Segment). one.commit_sent ≡ true → (log.segments k).commit_sent ≡ true) log.segments
-      (log.head + 1) (new_segment (log.head + 1) digest ids)
-      (λ never. true_false (sym never)) (λ k e. e);
+      (log.head + 1) (new_segment (log.head + 1) digest ids) (λ never. true_false (sym never)) (λ k e. e);
 }
 
 -- the limit of an epoch is kept
 abbrev KeepsEpoch : Config → Config → Type 0
 KeepsEpoch old new = old.epoch ≤ LAST_EPOCH → new.epoch ≤ LAST_EPOCH
 
-quiet-config : (seg : ℕ) (config : Config) (log : Log) → KeepsEpoch (log.segments seg).config config →
+quiet-config : (seg : ℕ) (config : Config) {log : Log} → KeepsEpoch (log.segments seg).config config →
     QuietLog log (with_config seg config log)
-quiet-config seg config log epoch = quiet-put log seg (record (log.segments seg) { config = config }) refl (λ e. e) (λ e. e) epoch
+quiet-config seg config {log} epoch = quiet-put seg (record (log.segments seg) { config = config }) refl (λ e. e) (λ e. e) epoch
 
 epoch-noted : (from : ServerId) (epoch len : ℕ) (closed : Bool) (config : Config) → KeepsEpoch config (noted from epoch len closed config)
-epoch-noted from epoch len closed config =
-    either (KeepsEpoch config) (nat_eq epoch config.epoch)
+epoch-noted from epoch len closed config = either (KeepsEpoch config) (nat_eq epoch config.epoch)
     (record config { members = map (told_if_heard from len closed) config.members }) config (λ _ h. h) (λ _ h. h)
 
 epoch-committed : (epoch : ℕ) (config : Config) → KeepsEpoch config (committed_at epoch config)
@@ -220,43 +218,43 @@ epoch-refills : (config : Config) (ids : Option (List ServerId)) → KeepsEpoch 
 epoch-refills config None h = h
 epoch-refills config (Some ids) h = h
 
-pub quiet-stored : (seg : ℕ) (from : ServerId) (epoch len : ℕ) (closed : Bool) (log : Log) →
+pub quiet-stored : (seg : ℕ) (from : ServerId) (epoch len : ℕ) (closed : Bool) {log : Log} →
     QuietLog log (stored seg from epoch len closed log)
-quiet-stored seg from epoch len closed log =
+quiet-stored seg from epoch len closed {log} =
     either (QuietLog log) (has_segment log seg) (with_config seg (noted from epoch len closed (log.segments seg).config) log) log
-    (λ e. quiet-config seg (noted from epoch len closed (log.segments seg).config) log
-    (epoch-noted from epoch len closed (log.segments seg).config)) (λ e. quiet-refl log)
+    (λ e. quiet-config seg (noted from epoch len closed (log.segments seg).config)
+    (epoch-noted from epoch len closed (log.segments seg).config)) (λ e. quiet-refl)
 
-pub quiet-commit_noted : (seg epoch : ℕ) (log : Log) → QuietLog log (commit_noted seg epoch log)
-quiet-commit_noted seg epoch log =
+pub quiet-commit_noted : (seg epoch : ℕ) {log : Log} → QuietLog log (commit_noted seg epoch log)
+quiet-commit_noted seg epoch {log} =
     either (QuietLog log) (has_segment log seg) (with_config seg (committed_at epoch (log.segments seg).config) log) log
-    (λ e. quiet-config seg (committed_at epoch (log.segments seg).config) log
-    (epoch-committed epoch (log.segments seg).config)) (λ e. quiet-refl log)
+    (λ e. quiet-config seg (committed_at epoch (log.segments seg).config)
+    (epoch-committed epoch (log.segments seg).config)) (λ e. quiet-refl)
 
-quiet-change : (seg : ℕ) (log : Log) (done : Config × Result Bool Fault) → KeepsEpoch (log.segments seg).config done.0 →
+quiet-change : (seg : ℕ) {log : Log} (done : Config × Result Bool Fault) → KeepsEpoch (log.segments seg).config done.0 →
     QuietLog log (opens_change seg log done).0
-quiet-change seg log (config, Ok true) epoch =
-    quiet-put log seg (under_new_epoch config (log.segments seg)) refl (λ e. e) (λ never. true_false (sym never)) epoch
-quiet-change seg log (config, Ok false) epoch = quiet-config seg config log epoch
-quiet-change seg log (config, Err fault) epoch = quiet-config seg config log epoch
+quiet-change seg {log} (config, Ok true) epoch =
+    quiet-put seg (under_new_epoch config (log.segments seg)) refl (λ e. e) (λ never. true_false (sym never)) epoch
+quiet-change seg (config, Ok false) epoch = quiet-config seg config epoch
+quiet-change seg (config, Err fault) epoch = quiet-config seg config epoch
 
-quiet-refills : (seg : ℕ) (log : Log) (done : Config × Result (List ServerId) Fault) →
+quiet-refills : (seg : ℕ) {log : Log} (done : Config × Result (List ServerId) Fault) →
     KeepsEpoch (log.segments seg).config done.0 → QuietLog log (refills seg log done).0
-quiet-refills seg log (config, answer) epoch = quiet-config seg config log epoch
+quiet-refills seg (config, answer) epoch = quiet-config seg config epoch
 
-pub quiet-loses : (servers : ServerList) (seg : ℕ) (log : Log) → QuietLog log (loses servers seg log).0
-quiet-loses servers seg log =
+pub quiet-loses : (servers : ServerList) (seg : ℕ) {log : Log} → QuietLog log (loses servers seg log).0
+quiet-loses servers seg {log} =
     either (λ (after : Log × Result (List ServerId) Fault). QuietLog log after.0) (log.segments seg).shut
     (refills seg log (refill log.own servers (log.segments seg).config))
     (opens_change seg log (lose log.own servers (log.segments seg).config))
-    (λ e. quiet-refills seg log (refill log.own servers (log.segments seg).config)
+    (λ e. quiet-refills seg (refill log.own servers (log.segments seg).config)
     (epoch-refills (with_lost servers (log.segments seg).config)
     (substitutes_for log.own servers (with_lost servers (log.segments seg).config))))
-    (λ e. quiet-change seg log (lose log.own servers (log.segments seg).config) (epoch-lose log.own servers (log.segments seg).config))
+    (λ e. quiet-change seg (lose log.own servers (log.segments seg).config) (epoch-lose log.own servers (log.segments seg).config))
 
-pub quiet-freed : (segs : List ℕ) (log : Log) → QuietLog log (with_freed segs log)
-quiet-freed [] log = quiet-refl log
-quiet-freed (seg ∷ segs) log =
+pub quiet-freed : (segs : List ℕ) {log : Log} → QuietLog log (with_freed segs log)
+quiet-freed [] = quiet-refl
+quiet-freed (seg ∷ segs) {log} =
     let next : Log = with_segment seg (record (log.segments seg) { freed = true }) log in
-    quiet-trans log next (with_freed segs next) (quiet-put log seg (record (log.segments seg) { freed = true }) refl
-    (λ e. e) (λ e. e) (λ e. e)) (quiet-freed segs next)
+    quiet-trans (quiet-put seg (record (log.segments seg) { freed = true }) refl
+    (λ e. e) (λ e. e) (λ e. e)) (quiet-freed segs)

@@ -26,9 +26,9 @@ TellsSent messages sent =
 
 -- Lists
 
-made-more : (sent messages : List Message) (m : ServerId) (s o : ℕ) (entry : Entry) → HasMade sent m s o entry →
+made-more : {sent : List Message} (messages : List Message) {m : ServerId} {s o : ℕ} {entry : Entry} → HasMade sent m s o entry →
     HasMade (sent ++ messages) m s o entry
-made-more sent messages m s o entry p =
+made-more {sent} messages p =
     record { message = p.message; among = In-left p.message sent messages p.among; from = p.from; holds = p.holds }
 
 joined : (sent messages : List Message) → TellsSent sent sent → TellsSent messages (sent ++ messages) →
@@ -36,7 +36,7 @@ joined : (sent messages : List Message) → TellsSent sent sent → TellsSent me
 joined sent messages old new x m s e len closed at o less = by (In-append (between x m (Stored s e len closed)) sent messages at)
   where
     more : IsSent sent m s o → IsSent (sent ++ messages) m s o
-    more p = (p.0, made-more sent messages m s o p.0 p.1)
+    more p = (p.0, made-more messages p.1)
 
     by : In (between x m (Stored s e len closed)) sent ⊎ In (between x m (Stored s e len closed)) messages → IsSent (sent ++ messages) m s o
     by (inl before) = more (old x m s e len closed before o less)
@@ -86,10 +86,10 @@ by-master : (world : World) (m : ServerId) (old : Master) (after : Master × Lis
     MasterMoved world.sent m old after → NodeTells world after.1
 by-master world own old after moved x m s e len closed at o less = absurd (moved.says (between x m (Stored s e len closed)) at).says
 
-starts-tells : (world : World) (own : ServerId) → NodeTells world (to_coordinator own Enlist ∷ [])
-starts-tells world own x m s e len closed (inl same) o less =
+starts-tells : (world : World) {own : ServerId} → NodeTells world (to_coordinator own Enlist ∷ [])
+starts-tells world x m s e len closed (inl same) o less =
     let bodies : Stored s e len closed ≡ Enlist = ap (λ (message : Message). message.body) same in cc
-starts-tells world own x m s e len closed (inr never) o less = absurd never
+starts-tells world x m s e len closed (inr never) o less = absurd never
 
 host-tells : (world : World) (one : Event) (i : ℕ) → GoodWorld world → (work : NodeWork) → IsGiven world.sent (TheHost i) work →
     NodeTells world (host_step (world.hosts i) work).1
@@ -97,7 +97,7 @@ host-tells world one i good work given = said-host world one i good (NodeTells w
   none = none-tells world;
   backs = λ after moved. by-backup world (put world.hosts i (record (world.hosts i) { backup = after.0 })) (world.hosts i) after moved;
   moves = λ master after moved. by-master world (server_of (world.hosts i)) master after moved;
-  starts = starts-tells world (next_server (world.hosts i));
+  starts = starts-tells world;
 }) work given
 
 coordinator-tells : (world : World) (work : NodeWork) → GoodWorld world → IsGiven world.sent TheCoordinator work →
@@ -122,7 +122,7 @@ node-told world one (TheHost i) work good given told =
 job-told : (world : World) (one : Event) (found : Option Job) → job_of world.sent one ≡ found → GoodWorld world →
     AllTold world → AllTold (job_done world one found)
 job-told world one None is good told = told
-job-told world one (Some job) is good told = node-told world one job.node job.work good (job_of-given world.sent one job is) told
+job-told world one (Some job) is good told = node-told world one job.node job.work good (job_of-given world.sent one is) told
 
 step-told : (world : World) (one : Event) → GoodWorld world → AllTold world → AllTold (step world one)
 step-told world one good told =

@@ -32,14 +32,14 @@ get-after (x ∷ xs) ys k = let e : length (x ∷ xs) + k ≡ suc (length xs + k
 abbrev pub place_at : ℕ → ℕ → Entry × Bool → LogPlace
 place_at seg offset one = record { seg = seg; offset = offset; entry = one.0; client = one.1 }
 
-places_in-get : (seg offset : ℕ) (entries : List (Entry × Bool)) (k : ℕ) (one : Entry × Bool) → slice_get entries k ≡ Some one →
+places_in-get : {seg : ℕ} (offset : ℕ) (entries : List (Entry × Bool)) (k : ℕ) {one : Entry × Bool} → slice_get entries k ≡ Some one →
     slice_get (places_in seg offset entries) k ≡ Some (record { seg = seg; offset = offset + k; entry = one.0; client = one.1 })
-places_in-get seg offset [] k one e = cc
-places_in-get seg offset (first ∷ entries) zero one e =
+places_in-get offset [] k e = cc
+places_in-get {seg} offset (first ∷ entries) zero {one} e =
     let same : first ≡ one = cc in
     ap (λ (p : Entry × Bool). Some (place_at seg offset p)) same ∙ ap (λ n. Some (place_at seg n one)) (omega arith)
-places_in-get seg offset (first ∷ entries) (suc k) one e =
-    places_in-get seg (offset + 1) entries k one e ∙ ap (λ n. Some (place_at seg n one)) (omega arith)
+places_in-get {seg} offset (first ∷ entries) (suc k) {one} e =
+    places_in-get (offset + 1) entries k e ∙ ap (λ n. Some (place_at seg n one)) (omega arith)
 
 -- a log's places go on after those of its first segments
 places-go_on : (segments : ℕ → Segment) (n d : ℕ) → (rest : List LogPlace) × (places_to segments (d + n) ≡ places_to segments n ++ rest)
@@ -95,14 +95,14 @@ among-shut segments (suc n) others e =
     sums a b c d e = omega (arith, e)
 
 -- and an open one as far as all have it
-among-first : (segment : Segment) (others : List Segment) (o : ℕ) → o < durable_in segment → o < durable_among (segment ∷ others)
-among-first segment others o less =
+among-first : (segment : Segment) (others : List Segment) {o : ℕ} → o < durable_in segment → o < durable_among (segment ∷ others)
+among-first segment others {o} less =
     either (λ n. o < n) segment.shut (length segment.entries + durable_among others) (durable_in segment)
     (λ e. omega (arith, less)) (λ e. less)
 
-reached : (segments : ℕ → Segment) (n d o : ℕ) → all_shut_to segments n ≡ true → o < durable_in (segments (suc n)) →
+reached : (segments : ℕ → Segment) (n d : ℕ) {o : ℕ} → all_shut_to segments n ≡ true → o < durable_in (segments (suc n)) →
     length (places_to segments n) + o < durable_among (map segments (numbers_to (d + suc n)))
-reached segments n d o shut less = by (numbers-go_on n d)
+reached segments n d {o} shut less = by (numbers-go_on n d)
   where
     by : (rest : List ℕ) × (numbers_to (d + suc n) ≡ numbers_to n ++ (suc n ∷ rest)) →
         length (places_to segments n) + o < durable_among (map segments (numbers_to (d + suc n)))
@@ -112,22 +112,21 @@ reached segments n d o shut less = by (numbers-go_on n d)
         ap (λ l. durable_among (map segments l)) e ∙
         (ap durable_among (map-append segments (numbers_to n) (suc n ∷ rest)) ∙
         among-shut segments n (segments (suc n) ∷ map segments rest) shut) in
-        let first : o < durable_among (segments (suc n) ∷ map segments rest) = among-first (segments (suc n)) (map segments rest) o less in
+        let first : o < durable_among (segments (suc n) ∷ map segments rest) = among-first (segments (suc n)) (map segments rest) less in
         omega (arith, whole, first)
 
-stands : (segments : ℕ → Segment) (n d o : ℕ) (one : Entry × Bool) → slice_get (segments (suc n)).entries o ≡ Some one →
+stands : (segments : ℕ → Segment) {n : ℕ} (d : ℕ) {o : ℕ} {one : Entry × Bool} → slice_get (segments (suc n)).entries o ≡ Some one →
     slice_get (places_to segments (d + suc n)) (length (places_to segments n) + o) ≡ Some (place_at (suc n) o one)
-stands segments n d o one e = by (places-go_on segments (suc n) d)
+stands segments {n} d {o} {one} e = by (places-go_on segments (suc n) d)
   where
     here : slice_get (places_to segments (suc n)) (length (places_to segments n) + o) ≡ Some (place_at (suc n) o one)
     here = get-after (places_to segments n) (places_in (suc n) 0 (segments (suc n)).entries) o
-        ∙ (places_in-get (suc n) 0 (segments (suc n)).entries o one e ∙ ap (λ k. Some (place_at (suc n) k one)) (omega arith))
+        ∙ (places_in-get 0 (segments (suc n)).entries o e ∙ ap (λ k. Some (place_at (suc n) k one)) (omega arith))
 
     by : (rest : List LogPlace) × (places_to segments (d + suc n) ≡ places_to segments (suc n) ++ rest) →
         slice_get (places_to segments (d + suc n)) (length (places_to segments n) + o) ≡ Some (place_at (suc n) o one)
-    by (rest, same) =
-        ap (λ l. slice_get l (length (places_to segments n) + o)) same
-        ∙ get-left (places_to segments (suc n)) rest (length (places_to segments n) + o) (place_at (suc n) o one) here
+    by (rest, same) = ap (λ l. slice_get l (length (places_to segments n) + o)) same
+        ∙ get-left (places_to segments (suc n)) rest (length (places_to segments n) + o) here
 
 -- Acknowledging
 
@@ -152,9 +151,9 @@ In-oks own (first ∷ places) place (inr rest) client =
 
 -- A step leaves nothing uncounted
 
-or-none : (one other : Option (Master × List Message)) → option_or one other ≡ None → (one ≡ None) × (other ≡ None)
-or-none None other e = (refl, e)
-or-none (Some done) other e = cc
+or-none : (one : Option (Master × List Message)) {other : Option (Master × List Message)} → option_or one other ≡ None → (one ≡ None) × (other ≡ None)
+or-none None e = (refl, e)
+or-none (Some done) e = cc
 
 when-none : (b : Bool) (done : Master × List Message) → when b done ≡ None → b ≡ false
 when-none false done e = refl
@@ -162,12 +161,12 @@ when-none true done e = cc
 
 nothing-stored : (master : Master) → follow_up master ≡ None → durable_now master.log ≤ master.log.durable
 nothing-stored master e =
-    let a = or-none (follows_start master) _ e in
-    let b = or-none (follows_placed master) _ a.1 in
-    let c = or-none (follows_closing master) _ b.1 in
-    let d = or-none (follows_shut master) _ c.1 in
-    let f = or-none (follows_change master) _ d.1 in
-    let g = or-none (follows_stored master) (option_or (follows_data master) (follows_replay master)) f.1 in
+    let a = or-none (follows_start master) e in
+    let b = or-none (follows_placed master) a.1 in
+    let c = or-none (follows_closing master) b.1 in
+    let d = or-none (follows_shut master) c.1 in
+    let f = or-none (follows_change master) d.1 in
+    let g = or-none (follows_stored master) f.1 in
     not_less master.log.durable (durable_now master.log) (when-none (nat_lt master.log.durable (durable_now master.log)) _ g.0)
   where
     not_less : (n m : ℕ) → nat_lt n m ≡ false → m ≤ n
@@ -190,8 +189,7 @@ takes-settled : (master : Master) (from : Addr) (body : Body) → master.log.fac
     Settled (master_takes master from body).0
 takes-settled master from body factor was =
     either (λ (after : Master × List Message). Settled after.0) master.deposed (deposed_takes master body)
-    (then_does (master_takes_first master from body) goes_on)
-    (λ _. subst Settled (sym (same-deposed master body)) was)
+    (then_does (master_takes_first master from body) goes_on) (λ _. subst Settled (sym (same-deposed master body)) was)
     (λ _. then-settled (master_takes_first master from body)
     (λ none. factor (sym (first-kept_by (λ entry. Unit {0}) Acks acks-kept.inputs master from body
     (λ table key value under e. tt)).factor ∙ none)))
@@ -214,7 +212,7 @@ settled-kept setup = record {
     same = λ sent m master p. p;
     others = λ sent messages m master p others. record { factor = p.factor; settled = p.settled };
     takes = λ sent m master from body good p at. record {
-      factor = (acks-takes master from body).factor ∙ p.factor;
+      factor = (acks-takes from body).factor ∙ p.factor;
       settled = λ some. takes-settled master from body (λ none. some (sym p.factor ∙ none)) (p.settled some);
     };
     ticks = λ sent m master good p. record {
@@ -228,14 +226,13 @@ settled-kept setup = record {
 stored-counted : (log : Log) (s o : ℕ) (entry : Entry) → durable_now log ≤ log.durable →
     is_stored_on_all log s o ≡ true → slice_get (log.segments s).entries o ≡ Some (entry, true) →
     In (place_at s o (entry, true)) (counted_places log)
-stored-counted log zero o entry settled e at =
-    true_false (sym (and_parts (nat_lt 0 0) (nat_le 0 log.head)
+stored-counted log zero o entry settled e at = true_false (sym (and_parts (nat_lt 0 0) (nat_le 0 log.head)
     (and_parts (has_segment log 0) (nat_lt o (durable_len (log.segments 0).config) && all_shut_to log.segments (0 - 1))
     e).0).0)
 stored-counted log (suc n) o entry settled e at =
     In-take log.durable (places_of log) (length (places_to log.segments n) + o) (place_at (suc n) o (entry, true))
     (subst (λ h. slice_get (places_to log.segments h) (length (places_to log.segments n) + o) ≡ Some
-    (place_at (suc n) o (entry, true))) up (stands log.segments n (log.head - suc n) o (entry, true) at))
+    (place_at (suc n) o (entry, true))) up (stands log.segments (log.head - suc n) at))
     (omega (arith, settled, counted))
   where
     first : (has_segment log (suc n) ≡ true) ×
@@ -257,11 +254,11 @@ stored-counted log (suc n) o entry settled e at =
     within : o < durable_in (log.segments (suc n))
     within = let one : o < durable_len (log.segments (suc n)).config = ltb-true o (durable_len (log.segments (suc n)).config) second.0 in
         let two : o < length (log.segments (suc n)).entries =
-        get-within (log.segments (suc n)).entries o (entry, true) at in omega (arith, one, two)
+        get-within (log.segments (suc n)).entries o at in omega (arith, one, two)
 
     counted : length (places_to log.segments n) + o < durable_now log
     counted = subst (λ h. length (places_to log.segments n) + o < durable_among (map log.segments (numbers_to h))) up
-        (reached log.segments n (log.head - suc n) o shut within)
+        (reached log.segments n (log.head - suc n) shut within)
 
 pub stored-is-acknowledged : StoredIsAcknowledged
 stored-is-acknowledged setup events m s o entry some up stored at =

@@ -30,8 +30,8 @@ record IsFine (log : Log) (seg : ℕ) (segment : Segment) : Type 0 where
   within : segment.shut ≡ true → seg < log.head
   members : 0 < seg → seg ≤ log.head → segment.config.members ≡ [] → ⊥
 
-told-put : (log : Log) (seg : ℕ) (segment : Segment) → Told log → IsFine log seg segment → Told (with_segment seg segment log)
-told-put log seg segment told fine = record {
+told-put : {log : Log} {seg : ℕ} {segment : Segment} → Told log → IsFine log seg segment → Told (with_segment seg segment log)
+told-put {log} {seg} {segment} told fine = record {
   closed = put_each (λ k (one : Segment). (member : Member) → In member one.config.members →
       told_closed member.told ≡ true → (k < log.head) × (length one.entries ≤ told_len member.told))
       log.segments seg segment fine.closed told.closed;
@@ -51,12 +51,12 @@ abbrev StaySome : List Member → List Member → Type 0
 StaySome old new = (old ≡ [] → ⊥) → new ≡ [] → ⊥
 
 -- another config, of which nobody new has told closed
-told-config : (log : Log) (seg : ℕ) (segment : Segment) → segment.entries ≡ (log.segments seg).entries →
+told-config : {log : Log} (seg : ℕ) (segment : Segment) → segment.entries ≡ (log.segments seg).entries →
     (segment.shut ≡ true → (log.segments seg).shut ≡ true) →
     FromMembers (log.segments seg).config.members segment.config.members →
     StaySome (log.segments seg).config.members segment.config.members → Told log →
     Told (with_segment seg segment log)
-told-config log seg segment entries shut from some told = told-put log seg segment told (record {
+told-config {log} seg segment entries shut from some told = told-put told (record {
   closed = λ member at e. closed member (from member at e) e;
   within = λ e. told.within seg (shut e);
   members = λ above upto. some (told.members seg above upto);
@@ -76,18 +76,16 @@ told-config log seg segment entries shut from some told = told-put log seg segme
 from-same : (members : List Member) → FromMembers members members
 from-same members member at e = (member, at, refl)
 
-some-same : (members : List Member) → StaySome members members
-some-same members some none = some none
+some-same : {members : List Member} → StaySome members members
+some-same some none = some none
 
-told-alike : (log : Log) (seg : ℕ) (segment : Segment) → segment.entries ≡ (log.segments seg).entries →
+told-alike : {log : Log} (seg : ℕ) (segment : Segment) → segment.entries ≡ (log.segments seg).entries →
     (segment.shut ≡ true → (log.segments seg).shut ≡ true) → segment.config ≡ (log.segments seg).config → Told log →
     Told (with_segment seg segment log)
-told-alike log seg segment entries shut config told =
-    told-config log seg segment entries shut
+told-alike {log} seg segment entries shut config told = told-config seg segment entries shut
     (subst (λ (one : Config). FromMembers (log.segments seg).config.members one.members) (sym config)
     (from-same (log.segments seg).config.members))
-    (subst (λ (one : Config). StaySome (log.segments seg).config.members one.members) (sym config)
-    (some-same (log.segments seg).config.members)) told
+    (subst (λ (one : Config). StaySome (log.segments seg).config.members one.members) (sym config) (some-same)) told
 
 -- Members
 
@@ -128,8 +126,7 @@ from-replaced [] ids member at e = absurd at
 from-replaced (first ∷ members) [] member at e = (member, at, refl)
 from-replaced (first ∷ members) (id ∷ ids) member at e =
     either (λ (now : List Member). In member now → (was : Member) × ((was ≡ first) ⊎ In was members) ×
-    (was.told ≡ member.told)) first.lost (new_member id ∷ replaced members ids)
-    (first ∷ replaced members (id ∷ ids))
+    (was.told ≡ member.told)) first.lost (new_member id ∷ replaced members ids) (first ∷ replaced members (id ∷ ids))
     (λ _ there. fresh (λ rest. from-replaced members ids member rest e) there)
     (λ _ there. kept (λ rest. from-replaced members (id ∷ ids) member rest e) there) at
   where
@@ -177,62 +174,56 @@ input-refl log = record { keeps = λ told. told; shut = λ s e. e }
 pub input-trans : (a b c : Log) → InputOk a b → InputOk b c → InputOk a c
 input-trans a b c p q = record { keeps = λ told. q.keeps (p.keeps told); shut = λ s e. p.shut s (q.shut s e) }
 
-input-put : (log : Log) (seg : ℕ) (segment : Segment) → segment.shut ≡ (log.segments seg).shut →
+input-put : {log : Log} (seg : ℕ) (segment : Segment) → segment.shut ≡ (log.segments seg).shut →
     (Told log → Told (with_segment seg segment log)) → InputOk log (with_segment seg segment log)
-input-put log seg segment same keeps = record {
+input-put {log} seg segment same keeps = record {
   keeps = keeps;
   shut = put_each (λ k (one : Segment). one.shut ≡ true → (log.segments k).shut ≡ true) log.segments seg segment
       (λ e. sym same ∙ e) (λ k e. e);
 }
 
-input-members : (log : Log) (seg : ℕ) (segment : Segment) → segment.shut ≡ (log.segments seg).shut →
+input-members : {log : Log} (seg : ℕ) (segment : Segment) → segment.shut ≡ (log.segments seg).shut →
     segment.entries ≡ (log.segments seg).entries →
     FromMembers (log.segments seg).config.members segment.config.members →
     StaySome (log.segments seg).config.members segment.config.members → InputOk log (with_segment seg segment log)
-input-members log seg segment shut entries from some =
-    input-put log seg segment shut (told-config log seg segment entries (λ e. sym shut ∙ e) from some)
+input-members seg segment shut entries from some =
+    input-put seg segment shut (told-config seg segment entries (λ e. sym shut ∙ e) from some)
 
-pub input-commit_noted : (seg epoch : ℕ) (log : Log) → InputOk log (commit_noted seg epoch log)
-input-commit_noted seg epoch log =
+pub input-commit_noted : (seg epoch : ℕ) {log : Log} → InputOk log (commit_noted seg epoch log)
+input-commit_noted seg epoch {log} =
     either (InputOk log) (has_segment log seg) (with_config seg (committed_at epoch (log.segments seg).config) log) log
     (λ _. either (λ (config : Config). InputOk log (with_config seg config log))
     (nat_eq epoch (log.segments seg).config.epoch) (record (log.segments seg).config { committed = true })
-    (log.segments seg).config
-    (λ _. input-members log seg
+    (log.segments seg).config (λ _. input-members seg
     (record (log.segments seg) { config = record (log.segments seg).config { committed = true } }) refl refl
-    (from-same (log.segments seg).config.members) (some-same (log.segments seg).config.members))
-    (λ _. input-members log seg (record (log.segments seg) { config = (log.segments seg).config }) refl refl
-    (from-same (log.segments seg).config.members) (some-same (log.segments seg).config.members)))
-    (λ _. input-refl log)
+    (from-same (log.segments seg).config.members) (some-same))
+    (λ _. input-members seg (record (log.segments seg) { config = (log.segments seg).config }) refl refl
+    (from-same (log.segments seg).config.members) (some-same))) (λ _. input-refl log)
 
 -- what was told closed is all of a segment below the head
 abbrev pub IsWholeTold : Log → ℕ → ℕ → Bool → Type 0
 IsWholeTold log seg len closed = closed ≡ true → (seg < log.head) × (length (log.segments seg).entries ≤ len)
 
-pub input-stored : (seg : ℕ) (from : ServerId) (epoch len : ℕ) (closed : Bool) (log : Log) →
+pub input-stored : {seg : ℕ} (from : ServerId) (epoch : ℕ) {len : ℕ} {closed : Bool} {log : Log} →
     IsWholeTold log seg len closed → InputOk log (stored seg from epoch len closed log)
-input-stored seg from epoch len closed log whole =
+input-stored {seg} from epoch {len} {closed} {log} whole =
     either (InputOk log) (has_segment log seg) (with_config seg (noted from epoch len closed (log.segments seg).config) log) log
     (λ _. either (λ (config : Config). InputOk log (with_config seg config log)) (nat_eq epoch (log.segments seg).config.epoch)
     (record (log.segments seg).config {
       members = map (told_if_heard from len closed) (log.segments seg).config.members;
     }) (log.segments seg).config
-    (λ _. input-put log seg (record (log.segments seg) {
+    (λ _. input-put seg (record (log.segments seg) {
       config = record (log.segments seg).config
           { members = map (told_if_heard from len closed) (log.segments seg).config.members };
-    }) refl heard)
-    (λ _. input-members log seg (record (log.segments seg) { config = (log.segments seg).config }) refl refl
-    (from-same (log.segments seg).config.members) (some-same (log.segments seg).config.members)))
-    (λ _. input-refl log)
+    }) refl heard) (λ _. input-members seg (record (log.segments seg) { config = (log.segments seg).config }) refl refl
+    (from-same (log.segments seg).config.members) (some-same))) (λ _. input-refl log)
   where
     one : (member : Member) →
         (told_closed member.told ≡ true → (seg < log.head) × (length (log.segments seg).entries ≤ told_len member.told))
         →
         told_closed (told_if_heard from len closed member).told ≡ true →
-        (seg < log.head) × (length (log.segments seg).entries ≤ told_len
-        (told_if_heard from len closed member).told)
-    one member was =
-        either (λ (now : Member). told_closed now.told ≡ true →
+        (seg < log.head) × (length (log.segments seg).entries ≤ told_len (told_if_heard from len closed member).told)
+    one member was = either (λ (now : Member). told_closed now.told ≡ true →
         (seg < log.head) × (length (log.segments seg).entries ≤ told_len now.told)) (is_heard from member)
         (record member { told = Some (told_with member.told len closed) }) member
         (λ _ e. with member.told was e) (λ _ e. was e)
@@ -255,8 +246,7 @@ input-stored seg from epoch len closed log whole =
         (member : Member) → In member (map (told_if_heard from len closed) members) → told_closed member.told ≡ true →
         (seg < log.head) × (length (log.segments seg).entries ≤ told_len member.told)
     each [] was member at = absurd at
-    each (first ∷ members) was member (inl is) =
-        subst (λ (some : Member). told_closed some.told ≡ true →
+    each (first ∷ members) was member (inl is) = subst (λ (some : Member). told_closed some.told ≡ true →
         (seg < log.head) × (length (log.segments seg).entries ≤ told_len some.told)) (sym is)
         (one first (was first (inl refl)))
     each (first ∷ members) was member (inr rest) = each members (λ some at. was some (inr at)) member rest
@@ -266,26 +256,22 @@ input-stored seg from epoch len closed log whole =
           config = record (log.segments seg).config
               { members = map (told_if_heard from len closed) (log.segments seg).config.members };
         }) log)
-    heard told = told-put log seg
-        (record (log.segments seg) {
-          config = record (log.segments seg).config
-              { members = map (told_if_heard from len closed) (log.segments seg).config.members };
-        }) told (record {
-          closed = each (log.segments seg).config.members (told.closed seg);
-          within = told.within seg;
-          members = λ above upto. some-map (told_if_heard from len closed) (log.segments seg).config.members (told.members seg above upto);
-        })
+    heard told = told-put told (record {
+      closed = each (log.segments seg).config.members (told.closed seg);
+      within = told.within seg;
+      members = λ above upto. some-map (told_if_heard from len closed) (log.segments seg).config.members (told.members seg above upto);
+    })
 
 -- Lost members
 
-input-change : (seg : ℕ) (log : Log) (answer : Config × Result Bool Fault) →
+input-change : (seg : ℕ) {log : Log} (answer : Config × Result Bool Fault) →
     FromMembers (log.segments seg).config.members answer.0.members →
     StaySome (log.segments seg).config.members answer.0.members → InputOk log (opens_change seg log answer).0
-input-change seg log (config, Ok true) from some = input-members log seg (under_new_epoch config (log.segments seg)) refl refl from some
-input-change seg log (config, Ok false) from some =
-    input-members log seg (record (log.segments seg) { config = config }) refl refl from some
-input-change seg log (config, Err fault) from some =
-    input-members log seg (record (log.segments seg) { config = config }) refl refl from some
+input-change seg {log} (config, Ok true) from some = input-members seg (under_new_epoch config (log.segments seg)) refl refl from some
+input-change seg {log} (config, Ok false) from some =
+    input-members seg (record (log.segments seg) { config = config }) refl refl from some
+input-change seg {log} (config, Err fault) from some =
+    input-members seg (record (log.segments seg) { config = config }) refl refl from some
 
 abbrev FromConfig : Config → Config → Type 0
 FromConfig old new = FromMembers old.members new.members × StaySome old.members new.members
@@ -301,11 +287,9 @@ from-changes : (config marked : Config) (ids : Option (List ServerId)) → FromC
 from-changes config marked None p = p
 from-changes config marked (Some ids) p =
     either (λ (answer : Config × Result Bool Fault). FromConfig config answer.0) (nat_lt marked.epoch LAST_EPOCH)
-    (changed marked ids, Ok true) (marked, Err EpochsExhausted)
-    (λ _. (
+    (changed marked ids, Ok true) (marked, Err EpochsExhausted) (λ _. (
       from-reset config.members (replaced marked.members ids),
-      λ some none.
-          some-reset (replaced marked.members ids) (some-replaced marked.members ids (p.1 some)) none,
+      λ some none. some-reset (replaced marked.members ids) (some-replaced marked.members ids (p.1 some)) none,
     )) (λ _. p)
   where
     some-reset : (members : List Member) → (members ≡ [] → ⊥) → map (λ member. new_member member.id) members ≡ [] → ⊥
@@ -313,8 +297,7 @@ from-changes config marked (Some ids) p =
     some-reset (first ∷ members) some none = cc
 
 from-lose : (own : ServerId) (servers : ServerList) (config : Config) → FromConfig config (lose own servers config).0
-from-lose own servers config =
-    either (λ (answer : Config × Result Bool Fault). FromConfig config answer.0)
+from-lose own servers config = either (λ (answer : Config × Result Bool Fault). FromConfig config answer.0)
     (any_lost (with_lost servers config).members)
     (changes_to (with_lost servers config) (substitutes_for own servers (with_lost servers config)))
     (with_lost servers config, Ok false)
@@ -333,11 +316,9 @@ pub input-loses : (servers : ServerList) (seg : ℕ) (log : Log) → InputOk log
 input-loses servers seg log =
     either (λ (after : Log × Result (List ServerId) Fault). InputOk log after.0) (log.segments seg).shut
     (refills seg log (refill log.own servers (log.segments seg).config))
-    (opens_change seg log (lose log.own servers (log.segments seg).config))
-    (λ _. input-members log seg
+    (opens_change seg log (lose log.own servers (log.segments seg).config)) (λ _. input-members seg
     (record (log.segments seg) { config = (refill log.own servers (log.segments seg).config).0 }) refl refl filled.0
-    filled.1)
-    (λ _. input-change seg log (lose log.own servers (log.segments seg).config) lost.0 lost.1)
+    filled.1) (λ _. input-change seg (lose log.own servers (log.segments seg).config) lost.0 lost.1)
   where
     filled : FromConfig (log.segments seg).config (refill log.own servers (log.segments seg).config).0
     filled = from-refills (log.segments seg).config (with_lost servers (log.segments seg).config)
@@ -350,10 +331,9 @@ input-loses servers seg log =
 -- New heads
 
 -- where members are chosen there are some
-chosen-some : (seg : ℕ) (own : ServerId) (factor : ℕ) (servers : ServerList) (ids : List ServerId) → factor ≢ 0 →
+chosen-some : (seg : ℕ) (own : ServerId) {factor : ℕ} (servers : ServerList) {ids : List ServerId} → factor ≢ 0 →
     choose seg own factor servers ≡ Some ids → ids ≡ [] → ⊥
-chosen-some seg own factor servers ids some e none =
-    either (λ (found : Option (List ServerId)). found ≡ Some ids →
+chosen-some seg own {factor} servers {ids} some e none = either (λ (found : Option (List ServerId)). found ≡ Some ids →
     ⊥) (nat_lt (length (candidates seg own servers)) factor) None (Some (take factor (candidates seg own servers)))
     (λ _ never. cc) (λ enough it. by factor (candidates seg own servers) some enough
     (one (take factor (candidates seg own servers)) ids it ∙ none)) e
@@ -369,13 +349,12 @@ chosen-some seg own factor servers ids some e none =
         below k = grind (arith, nat_tests)
     by (suc n) (id ∷ list) some enough none = cc
 
-told-opens : (log : Log) (digest : List ℕ) (ids : List ServerId) → (ids ≡ [] → ⊥) → Told log → Told (opens_head log digest ids)
-told-opens log digest ids some told = record {
+told-opens : {log : Log} (digest : List ℕ) {ids : List ServerId} → (ids ≡ [] → ⊥) → Told log → Told (opens_head log digest ids)
+told-opens {log} digest {ids} some told = record {
   closed = put-cases (λ k (one : Segment). (member : Member) → In member one.config.members →
       told_closed member.told ≡ true → (k < log.head + 1) × (length one.entries ≤ told_len member.told))
       log.segments (log.head + 1) (new_segment (log.head + 1) digest ids)
-      (λ member at e. new member (from-new [] ids member at e))
-      (λ k _ member at e. (let was : (k < log.head) ×
+      (λ member at e. new member (from-new [] ids member at e)) (λ k _ member at e. (let was : (k < log.head) ×
       (length (log.segments k).entries ≤ told_len member.told) =
       told.closed k member at e in let less : k < log.head = was.0 in (omega (arith, less), was.1)));
   within = put-cases (λ k (one : Segment). one.shut ≡ true → k < log.head + 1) log.segments (log.head + 1)
@@ -404,17 +383,17 @@ opens-shut log digest ids =
     put-cases (λ k (one : Segment). one.shut ≡ true → (log.segments k).shut ≡ true) log.segments (log.head + 1)
     (new_segment (log.head + 1) digest ids) (λ e. true_false (sym e)) (λ k _ e. e)
 
-pub input-chosen : (log : Log) (digest : List ℕ) (ids : List ServerId) (seg : ℕ) (servers : ServerList) →
+pub input-chosen : {log : Log} (digest : List ℕ) {ids : List ServerId} (seg : ℕ) (servers : ServerList) →
     choose seg log.own log.factor servers ≡ Some ids → InputOk log (opens_head log digest ids)
-input-chosen log digest ids seg servers e = record {
-  keeps = λ told. told-opens log digest ids (chosen-some seg log.own log.factor servers ids told.factor e) told;
+input-chosen {log} digest {ids} seg servers e = record {
+  keeps = λ told. told-opens digest (chosen-some seg log.own servers told.factor e) told;
   shut = opens-shut log digest ids;
 }
 
 -- an entry goes to the head, whose members have told no end
 pub input-appends : (entry : Entry) (client : Bool) (log : Log) → InputOk log (appends entry client log)
-input-appends entry client log = input-put log log.head (with_entry entry client (head_of log)) refl
-    (λ told. told-put log log.head (with_entry entry client (head_of log)) told (record {
+input-appends entry client log = input-put log.head (with_entry entry client (head_of log)) refl
+    (λ told. told-put told (record {
       closed = λ member at e. (let less : log.head < log.head = (told.closed log.head member at e).0 in absurd (omega (arith, less)));
       within = told.within log.head;
       members = told.members log.head;
@@ -452,11 +431,11 @@ follow-trans a b c p q = record {
             inr (ap (λ (config : Config). config.committed && all_closed config) (q.config s (omega (arith, less))) ∙ closed)
 
 -- a segment with the same config and entries, and not shut by it
-pub follow-alike : (log : Log) (seg : ℕ) (segment : Segment) → segment.entries ≡ (log.segments seg).entries →
+pub follow-alike : {log : Log} (seg : ℕ) (segment : Segment) → segment.entries ≡ (log.segments seg).entries →
     segment.shut ≡ (log.segments seg).shut → segment.config ≡ (log.segments seg).config →
     FollowOk log (with_segment seg segment log)
-follow-alike log seg segment entries shut config = record {
-  keeps = told-alike log seg segment entries (λ e. sym shut ∙ e) config;
+follow-alike {log} seg segment entries shut config = record {
+  keeps = told-alike seg segment entries (λ e. sym shut ∙ e) config;
   upto = omega arith;
   config = λ s upto. put_each (λ k (one : Segment). one.config ≡ (log.segments k).config) log.segments seg segment config (λ k. refl) s;
   closes = λ told s e. inl (put_each (λ k (one : Segment). one.shut ≡ true → (log.segments k).shut ≡ true) log.segments
@@ -476,7 +455,7 @@ follow-appends entry client log = record {
 pub follow-marks : (log : Log) → shuts log ≡ true →
     FollowOk log (with_segment (log.head - 1) (record (old_head_of log) { shut = true }) log)
 follow-marks log e = record {
-  keeps = λ told. told-put log (log.head - 1) (record (old_head_of log) { shut = true }) told (record {
+  keeps = λ told. told-put told (record {
     closed = told.closed (log.head - 1);
     within = λ _. omega (arith, over);
     members = told.members (log.head - 1);
@@ -486,8 +465,7 @@ follow-marks log e = record {
       (log.head - 1) (record (old_head_of log) { shut = true }) refl (λ k. refl) s;
   closes = λ told s is. put_each (λ k (one : Segment). one.shut ≡ true →
       ((log.segments k).shut ≡ true) ⊎ (is_all_closed one ≡ true)) log.segments (log.head - 1)
-      (record (old_head_of log) { shut = true })
-      (λ _. inr parts.1) (λ k now. inl now) s is;
+      (record (old_head_of log) { shut = true }) (λ _. inr parts.1) (λ k now. inl now) s is;
 }
   where
     parts : (has_old_head log ≡ true) × (is_all_closed (old_head_of log) ≡ true)
@@ -496,17 +474,15 @@ follow-marks log e = record {
     over : 1 < log.head
     over = ltb-true 1 log.head parts.0
 
-pub follow-freed : (segs : List ℕ) (log : Log) → FollowOk log (with_freed segs log)
-follow-freed [] log = follow-refl log
-follow-freed (seg ∷ segs) log =
-    follow-trans log (with_segment seg (record (log.segments seg) { freed = true }) log)
+pub follow-freed : (segs : List ℕ) {log : Log} → FollowOk log (with_freed segs log)
+follow-freed [] {log} = follow-refl log
+follow-freed (seg ∷ segs) {log} = follow-trans log (with_segment seg (record (log.segments seg) { freed = true }) log)
     (with_freed segs (with_segment seg (record (log.segments seg) { freed = true }) log))
-    (follow-alike log seg (record (log.segments seg) { freed = true }) refl refl refl)
-    (follow-freed segs (with_segment seg (record (log.segments seg) { freed = true }) log))
+    (follow-alike seg (record (log.segments seg) { freed = true }) refl refl refl) (follow-freed segs)
 
 -- the same head, segments and factor
-pub follow-same : (old new : Log) → new.head ≡ old.head → new.segments ≡ old.segments → new.factor ≡ old.factor → FollowOk old new
-follow-same old new head segments factor = record {
+pub follow-same : {old new : Log} → new.head ≡ old.head → new.segments ≡ old.segments → new.factor ≡ old.factor → FollowOk old new
+follow-same {old} {new} head segments factor = record {
   keeps = λ told. record {
     closed = λ s. subst (λ n. (member : Member) → In member (new.segments s).config.members →
         told_closed member.told ≡ true → (s < n) × (length (new.segments s).entries ≤ told_len member.told)) (sym head)
@@ -524,10 +500,10 @@ follow-same old new head segments factor = record {
   closes = λ told s e. inl (subst (λ (table : ℕ → Segment). (table s).shut ≡ true) segments e);
 }
 
-pub follow-chosen : (log : Log) (digest : List ℕ) (ids : List ServerId) (servers : ServerList) →
+pub follow-chosen : {log : Log} (digest : List ℕ) {ids : List ServerId} (servers : ServerList) →
     choose (log.head + 1) log.own log.factor servers ≡ Some ids → FollowOk log (opens_head log digest ids)
-follow-chosen log digest ids servers e = record {
-  keeps = λ told. told-opens log digest ids (chosen-some (log.head + 1) log.own log.factor servers ids told.factor e) told;
+follow-chosen {log} digest {ids} servers e = record {
+  keeps = λ told. told-opens digest (chosen-some (log.head + 1) log.own servers told.factor e) told;
   upto = omega arith;
   config = put-cases (λ k (one : Segment). k ≤ log.head → one.config ≡ (log.segments k).config) log.segments
       (log.head + 1) (new_segment (log.head + 1) digest ids) (λ beyond. absurd (omega (arith, beyond))) (λ k _ _. refl);

@@ -55,24 +55,24 @@ module _ (world : World) (good : GoodWorld world) where
   abbrev IsAfter : List Message → ServerId → Master → Type 0
   IsAfter sent m master = StepOk (world.masters m).log master.log
 
-  after-step : (m : ServerId) (master after : Master) → master ≡ world.masters m → StepOk master.log after.log →
+  after-step : {m : ServerId} {master : Master} (after : Master) → master ≡ world.masters m → StepOk master.log after.log →
       StepOk (world.masters m).log after.log
-  after-step m master after same p = subst (λ (old : Master). StepOk old.log after.log) same p
+  after-step after same p = subst (λ (old : Master). StepOk old.log after.log) same p
 
   step-led : IsLed IsBefore IsAfter
   step-led = record {
-    same = λ sent m master p. after-step m master master p.master_is (step-same master.log);
-    others = λ sent messages m master p others. after-step m master master p.master_is (step-same master.log);
-    takes = λ sent m master from says fine p at. after-step m master (master_takes master from says).0 p.master_is
+    same = λ sent m master p. after-step master p.master_is (step-same);
+    others = λ sent messages m master p others. after-step master p.master_is (step-same);
+    takes = λ sent m master from says fine p at. after-step (master_takes master from says).0 p.master_is
         (takes-step master from says (subst (λ (old : Master). TellsWhole old.log from says) (sym p.master_is)
         (tells-whole world good m from says
         (subst (λ (all : List Message). In (record { from = from; to = Server m; body = says }) all) p.sent_is
         at))));
-    ticks = λ sent m master fine p. after-step m master (master_ticks master).0 p.master_is (ticks-step master);
+    ticks = λ sent m master fine p. after-step (master_ticks master).0 p.master_is (ticks-step master);
   }
 
-steps-on : (world : World) (one : Event) → GoodWorld world → (m : ServerId) → StepOk (world.masters m).log ((step world one).masters m).log
-steps-on world one good m = led-by (IsBefore world good) (IsAfter world good) (step-led world good) world one good
+steps-on : (world : World) (one : Event) → GoodWorld world → {m : ServerId} → StepOk (world.masters m).log ((step world one).masters m).log
+steps-on world one good {m} = led-by (IsBefore world good) (IsAfter world good) (step-led world good) world one good
     (λ k. record { sent_is = refl; master_is = refl }) m
 
 -- Stored at some moment
@@ -82,9 +82,9 @@ pub record WasStoredOnce (setup : Setup) (events : List Event) (m : ServerId) (s
   pub happened : moment ≤ length events
   pub stored : WasStored setup events m moment s o
 
-once-later : (setup : Setup) (events more : List Event) (m : ServerId) (s o : ℕ) → WasStoredOnce setup events m s o →
+once-later : {setup : Setup} {events : List Event} (more : List Event) {m : ServerId} {s o : ℕ} → WasStoredOnce setup events m s o →
     WasStoredOnce setup (events ++ more) m s o
-once-later setup events more m s o was = record {
+once-later {setup} {events} more {m} {s} {o} was = record {
   moment = was.moment;
   happened = (let upto : was.moment ≤ length events = was.happened in let longer : length (events ++ more) ≡ length
       events + length more = length-append events more in omega (arith, upto, longer));
@@ -92,9 +92,9 @@ once-later setup events more m s o was = record {
       (sym (take-append-le was.moment events more was.happened)) was.stored;
 }
 
-once-now : (setup : Setup) (events : List Event) (m : ServerId) (s o : ℕ) →
+once-now : {setup : Setup} {events : List Event} {m : ServerId} {s o : ℕ} →
     is_stored_on_all ((replay setup events).masters m).log s o ≡ true → WasStoredOnce setup events m s o
-once-now setup events m s o stored = record {
+once-now {setup} {events} {m} {s} {o} stored = record {
   moment = length events;
   happened = omega arith;
   stored = subst (λ (past : List Event). is_stored_on_all ((replay setup past).masters m).log s o ≡ true)
@@ -105,15 +105,13 @@ once-now setup events m s o stored = record {
 
 all-shut : (segments : ℕ → Segment) (n : ℕ) → ((t : ℕ) → 0 < t → t ≤ n → (segments t).shut ≡ true) → all_shut_to segments n ≡ true
 all-shut segments zero each = refl
-all-shut segments (suc n) each =
-    ap (λ b. b && all_shut_to segments n) (each (suc n) (omega arith) (omega arith)) ∙
+all-shut segments (suc n) each = ap (λ b. b && all_shut_to segments n) (each (suc n) (omega arith) (omega arith)) ∙
     all-shut segments n (λ t above upto. each t above (omega (arith, upto)))
 
 -- a place below the durable length of a segment of the log, where each earlier one is shut
-stored-now : (log : Log) (s o : ℕ) → 0 < s → s ≤ log.head → o < durable_len (log.segments s).config →
+stored-now : (log : Log) {s o : ℕ} → 0 < s → s ≤ log.head → o < durable_len (log.segments s).config →
     ((t : ℕ) → 0 < t → t < s → (log.segments t).shut ≡ true) → is_stored_on_all log s o ≡ true
-stored-now log s o above upto less shut =
-    by (has_segment log s) (has above upto)
+stored-now log {s} {o} above upto less shut = by (has_segment log s) (has above upto)
     (ap (λ b. b && all_shut_to log.segments (s - 1)) (lt o (durable_len (log.segments s).config) less)
     ∙ all-shut log.segments (s - 1) (λ t over under. shut t over (omega (arith, above, under))))
   where
@@ -128,13 +126,13 @@ stored-now log s o above upto less shut =
     by false e f = true_false (sym e)
 
 -- a segment that is closed on all its members, who have told all of it
-least-told : (n : ℕ) (members : List Member) → (members ≡ [] → ⊥) →
+least-told : {n : ℕ} (members : List Member) → (members ≡ [] → ⊥) →
     ((member : Member) → In member members → n ≤ told_len member.told) → n ≤ least_told members
-least-told n [] some each = absurd (some refl)
-least-told n (member ∷ []) some each = each member (inl refl)
-least-told n (member ∷ other ∷ members) some each =
+least-told [] some each = absurd (some refl)
+least-told (member ∷ []) some each = each member (inl refl)
+least-told {n} (member ∷ other ∷ members) some each =
     let here : n ≤ told_len member.told = each member (inl refl) in
-    let rest : n ≤ least_told (other ∷ members) = least-told n (other ∷ members) (λ e. never e) (λ one at. each one (inr at)) in
+    let rest : n ≤ least_told (other ∷ members) = least-told (other ∷ members) (λ e. never e) (λ one at. each one (inr at)) in
     omega (arith, here, rest)
   where
     never : other ∷ members ≡ [] → ⊥
@@ -154,13 +152,12 @@ none-lost (member ∷ members) e =
     by true e rec = true_false (sym e)
     by false e rec = rec
 
-closed-len : (log : Log) (s : ℕ) → Told log → 0 < s → s ≤ log.head → is_all_closed (log.segments s) ≡ true →
+closed-len : {log : Log} {s : ℕ} → Told log → 0 < s → s ≤ log.head → is_all_closed (log.segments s) ≡ true →
     length (log.segments s).entries ≤ durable_len (log.segments s).config
-closed-len log s told above upto closed =
+closed-len {log} {s} told above upto closed =
     either (λ n. length (log.segments s).entries ≤ n) ((log.segments s).config.committed &&
     not (any_lost (log.segments s).config.members)) (least_told (log.segments s).config.members) 0
-    (λ _. least-told (length (log.segments s).entries) (log.segments s).config.members (told.members s above upto)
-    (λ member at. (told.closed s member at
+    (λ _. least-told (log.segments s).config.members (told.members s above upto) (λ member at. (told.closed s member at
     (closed-parts member (all-each is_closed member (log.segments s).config.members parts.1 at)).1).1))
     (λ isn't. true_false (sym both ∙ isn't))
   where
@@ -194,11 +191,11 @@ module _ (setup : Setup) (events : List Event) (one : Event) (m : ServerId) (was
 
   made : StepOk ((replay setup events).masters m).log ((replay setup (events ++ one ∷ [])).masters m).log
   made = subst (λ (world : World). StepOk ((replay setup events).masters m).log (world.masters m).log) (sym pushed)
-      (steps-on (replay setup events) one good m)
+      (steps-on (replay setup events) one good)
 
   counts : Counts ((replay setup events).masters m).log ((replay setup (events ++ one ∷ [])).masters m).log
   counts = subst (λ (world : World). Counts ((replay setup events).masters m).log (world.masters m).log) (sym pushed)
-      (counts-on (replay setup events) one good m)
+      (counts-on (replay setup events) one good)
 
   later : LogLater (replay setup (events ++ one ∷ [])).sent m ((replay setup events).masters m).log
       ((replay setup (events ++ one ∷ [])).masters m).log
@@ -219,11 +216,11 @@ module _ (setup : Setup) (events : List Event) (one : Event) (m : ServerId) (was
       by : ((((replay setup events).masters m).log.segments t).shut ≡ true) ⊎
           (is_all_closed (((replay setup (events ++ one ∷ [])).masters m).log.segments t) ≡ true) →
           WasStoredOnce setup (events ++ one ∷ []) m t o
-      by (inl before) = once-later setup events (one ∷ []) m t o
+      by (inl before) = once-later (one ∷ [])
           (was.shut t o before (subst (λ (entries : List (Entry × Bool)). o < length entries)
           (later.final t (was.told.within t before)) less))
-      by (inr closed) = once-now setup (events ++ one ∷ []) m t o
-          (stored-now ((replay setup (events ++ one ∷ [])).masters m).log t o above (omega (arith, below)) enough
+      by (inr closed) = once-now
+          (stored-now ((replay setup (events ++ one ∷ [])).masters m).log above (omega (arith, below)) enough
           (λ k over under. mine.old_shut k over (omega (arith, under, below))))
         where
           above : 0 < t
@@ -235,7 +232,7 @@ module _ (setup : Setup) (events : List Event) (one : Event) (m : ServerId) (was
           enough : o < durable_len (((replay setup (events ++ one ∷ [])).masters m).log.segments t).config
           enough = let all : length (((replay setup (events ++ one ∷ [])).masters m).log.segments t).entries ≤
               durable_len (((replay setup (events ++ one ∷ [])).masters m).log.segments t).config =
-              closed-len ((replay setup (events ++ one ∷ [])).masters m).log t told-now above (omega (arith, below))
+              closed-len told-now above (omega (arith, below))
               closed in omega (arith, less, all)
 
   now-counted : (k : ℕ) (place : LogPlace) → k < ((replay setup (events ++ one ∷ [])).masters m).log.durable →
@@ -250,16 +247,13 @@ module _ (setup : Setup) (events : List Event) (one : Event) (m : ServerId) (was
           let found : (p : LogPlace) × (slice_get (places_of ((replay setup events).masters m).log) k ≡ Some p) =
           get-below (places_of ((replay setup events).masters m).log) k (omega (arith, under, within)) in
           let still : slice_get (places_of ((replay setup (events ++ one ∷ [])).masters m).log) k ≡ Some found.0 =
-          get-begins (places_of ((replay setup events).masters m).log) (places_of ((replay setup (events ++ one ∷ [])).masters m).log)
-          (places-later (replay setup (events ++ one ∷ [])).sent m ((replay setup events).masters m).log
-          ((replay setup (events ++ one ∷ [])).masters m).log later) k found.0 found.1 in
+          get-begins (places_of ((replay setup events).masters m).log) (places-later later) k found.1 in
           let same : found.0 ≡ place = cc in
           subst (λ (p : LogPlace). WasStoredOnce setup (events ++ one ∷ []) m p.seg p.offset) same
-          (once-later setup events (one ∷ []) m found.0.seg found.0.offset (was.counted k found.0 under found.1))
+          (once-later (one ∷ []) (was.counted k found.0 under found.1))
 
       of : IsOf ((replay setup (events ++ one ∷ [])).masters m).log.segments ((replay setup (events ++ one ∷ [])).masters m).log.head place
-      of = places_to-are ((replay setup (events ++ one ∷ [])).masters m).log.segments
-          ((replay setup (events ++ one ∷ [])).masters m).log.head k place at
+      of = places_to-are ((replay setup (events ++ one ∷ [])).masters m).log.head k at
 
       just : k < durable_now ((replay setup (events ++ one ∷ [])).masters m).log →
           WasStoredOnce setup (events ++ one ∷ []) m place.seg place.offset
@@ -272,10 +266,8 @@ module _ (setup : Setup) (events : List Event) (one : Event) (m : ServerId) (was
               (place.offset < durable_in (((replay setup (events ++ one ∷ [])).masters m).log.segments place.seg)) →
               WasStoredOnce setup (events ++ one ∷ []) m place.seg place.offset
           by (inl shut) = now-shut place.seg place.offset shut
-              (get-within (((replay setup (events ++ one ∷ [])).masters m).log.segments place.seg).entries place.offset
-              (place.entry, place.client) of.holds)
-          by (inr some) = once-now setup (events ++ one ∷ []) m place.seg place.offset
-              (stored-now ((replay setup (events ++ one ∷ [])).masters m).log place.seg place.offset of.above of.upto
+              (get-within (((replay setup (events ++ one ∷ [])).masters m).log.segments place.seg).entries place.offset of.holds)
+          by (inr some) = once-now (stored-now ((replay setup (events ++ one ∷ [])).masters m).log of.above of.upto
               (let both : place.offset < min
               (durable_len (((replay setup (events ++ one ∷ [])).masters m).log.segments place.seg).config)
               (length (((replay setup (events ++ one ∷ [])).masters m).log.segments place.seg).entries) =
@@ -299,8 +291,8 @@ module _ (setup : Setup) (events : List Event) (one : Event) (m : ServerId) (was
   all-now : AllWereStored setup (events ++ one ∷ []) m
   all-now = record { told = told-now; shut = now-shut; counted = now-counted }
 
-all-opening : (setup : Setup) (m : ServerId) → factor_of setup m.index ≢ 0 → AllWereStored setup [] m
-all-opening setup m some = record {
+all-opening : {setup : Setup} {m : ServerId} → factor_of setup m.index ≢ 0 → AllWereStored setup [] m
+all-opening some = record {
   told = record {
     closed = λ s member at. absurd at;
     within = λ s e. true_false (sym e);
@@ -311,26 +303,26 @@ all-opening setup m some = record {
   counted = λ k place less. absurd (omega (arith, less));
 }
 
-all-from : (setup : Setup) (past events : List Event) (m : ServerId) → AllWereStored setup past m → AllWereStored setup (past ++ events) m
-all-from setup past [] m p = subst (λ (all : List Event). AllWereStored setup all m) (sym (append-nil past)) p
-all-from setup past (one ∷ events) m p =
+all-from : {setup : Setup} {past : List Event} (events : List Event) {m : ServerId} → AllWereStored setup past m → AllWereStored setup (past ++ events) m
+all-from {setup} {past} [] {m} p = subst (λ (all : List Event). AllWereStored setup all m) (sym (append-nil past)) p
+all-from {setup} {past} (one ∷ events) {m} p =
     subst (λ (all : List Event). AllWereStored setup all m) (append_assoc past (one ∷ []) events)
-    (all-from setup (past ++ one ∷ []) events m (all-now setup past one m p))
+    (all-from events (all-now setup past one m p))
 
-pub all-world : (setup : Setup) (events : List Event) (m : ServerId) → factor_of setup m.index ≢ 0 → AllWereStored setup events m
-all-world setup events m some = all-from setup [] events m (all-opening setup m some)
+pub all-world : {setup : Setup} {events : List Event} {m : ServerId} → factor_of setup m.index ≢ 0 → AllWereStored setup events m
+all-world {events} some = all-from events (all-opening some)
 
 -- Durable
 
-pub once-durable : (setup : Setup) (events : List Event) (m : ServerId) (s o : ℕ) → factor_of setup m.index ≢ 0 →
+pub once-durable : {setup : Setup} {events : List Event} {m : ServerId} {s o : ℕ} → factor_of setup m.index ≢ 0 →
     WasStoredOnce setup events m s o → IsDurable setup events m s o
-once-durable setup events m s o some was = record { moment = was.moment; happened = was.happened; stored = was.stored; earlier = earlier }
+once-durable {setup} {events} {m} {s} {o} some was = record { moment = was.moment; happened = was.happened; stored = was.stored; earlier = earlier }
   where
     past : List Event
     past = take was.moment events
 
     shut : (t : ℕ) → 0 < t → t < s → (((replay setup (take was.moment events)).masters m).log.segments t).shut ≡ true
-    shut t above below = all_shut-each ((replay setup (take was.moment events)).masters m).log.segments (s - 1) t
+    shut t above below = all_shut-each ((replay setup (take was.moment events)).masters m).log.segments (s - 1)
         (and_parts (nat_lt o (durable_len (((replay setup (take was.moment events)).masters m).log.segments s).config))
         (all_shut_to ((replay setup (take was.moment events)).masters m).log.segments (s - 1))
         (and_parts (has_segment ((replay setup (take was.moment events)).masters m).log s)
@@ -339,7 +331,7 @@ once-durable setup events m s o some was = record { moment = was.moment; happene
         above (omega (arith, below))
 
     earlier : EarlierWereStored setup events m was.moment s
-    earlier t k above below less = by ((all-world setup (take was.moment events) m some).shut t k (shut t above below) less)
+    earlier t k above below less = by ((all-world some).shut t k (shut t above below) less)
       where
         by : WasStoredOnce setup (take was.moment events) m t k → (n : ℕ) × (n ≤ was.moment) × WasStored setup events m n t k
         by once =
@@ -358,11 +350,10 @@ once-durable setup events m s o some was = record { moment = was.moment; happene
             length-take (suc n) (one ∷ list) = let rec : length (take n list) ≤ n = length-take n list in omega (arith, rec)
 
 pub stored-is-durable : StoredIsDurable
-stored-is-durable setup events m s o some stored = once-durable setup events m s o some (once-now setup events m s o stored)
+stored-is-durable setup events m s o some stored = once-durable some (once-now stored)
 
 pub counted-is-durable : CountedIsDurable
-counted-is-durable setup events m k place some less at =
-    once-durable setup events m place.seg place.offset some ((all-world setup events m some).counted k place less at)
+counted-is-durable setup events m k place some less at = once-durable some ((all-world some).counted k place less at)
 
 seg_of : Body → ℕ
 seg_of (WriteOk s o term table key version) = s

@@ -9,8 +9,8 @@ use Rattle.rc_promises.proofs.headline.headline_of_nodes_apart.Goals as goal
 
 pub returns-clause-no_breach : goal.returns-clause-no_breach
 returns-clause-no_breach c setup steps apart =
-    ap breach (sym (apart-history setup steps apart).sent) ∙ there-is-no-breach setup (events_by steps)
+    ap breach (sym (apart-history apart).sent) ∙ there-is-no-breach setup (events_by steps)
 
 pub returns-clause-strong : goal.returns-clause-strong
 returns-clause-strong c setup steps apart free =
-    subst NothingIsDropped (apart-history setup steps apart).sent (nothing-is-dropped setup (events_by steps) free)
+    subst NothingIsDropped (apart-history apart).sent (nothing-is-dropped setup (events_by steps) free)

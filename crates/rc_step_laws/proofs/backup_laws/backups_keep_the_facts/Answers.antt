@@ -6,5 +6,5 @@ pub returns : goal.returns
 returns c = record {
   steps = moved-backup;
   restarts = λ sent masters m index generation generation_now kept held up good.
-      moved-restart sent [] masters m index generation generation_now kept held quiet-none up good;
+      moved-restart masters kept quiet-none up good;
 }
