@@ -1,5 +1,5 @@
 -- In a world of which the facts hold, nothing acknowledged is missing from an accepted recovery, and nothing in it is invented.
-use Rattle.std.proofs.Common.{◌≡◌, ◌⊎◌, ℕ, ◌+◌, ◌-◌, ◌<◌, ◌≤◌, true, ◌&&◌, List, nat_eq, nat_le, Some, None, slice_get}
+use Rattle.std.proofs.Common.{◌≡◌, ◌⊎◌, ℕ, ◌<◌, true, List, Some, slice_get}
 use Rattle.std.proofs.Common.{sym, ap, ◌∙◌, subst, inl, inr, arith}
 use Rattle.std.proofs.lemmas.Bool.{eqb-true, leb-true, and_parts}
 use Rattle.rc_model.specs.Model.{ServerId, Addr, Server, Outside, Entry, Row, PlanRow, Message, Body, Place, Append, entry_at, Ack}
@@ -10,7 +10,6 @@ use Rattle.rc_model.specs.Coordinator.{Coordinator}
 use Rattle.rc_step_laws.specs.All.{log_in, IsCopy, IsWriteOk, Good, body_fine}
 use Rattle.rc_step_laws.proofs.Lists.{get-begins}
 use Rattle.rc_log_laws.proofs.Covers.{PlanIs, plan-is, IsCovered, covered}
-use Rattle.rc_model.proofs.Tests.{either}
 
 -- What was made is what the log has
 
@@ -18,29 +17,17 @@ made-logged : (sent : List Message) (masters : ServerId → Master) (hosts : ℕ
     (m : ServerId) (s o : ℕ) (entry : Entry) (to : Addr) (body : Body) →
     body_fine sent masters hosts c (Server m) to body → entry_at body s o ≡ Some entry → slice_get (log_in (masters m).log s) o ≡ Some entry
 made-logged sent masters hosts c m s o entry (Server x) (Place seg epoch digest entries closed) fine at =
-    either (λ found. found ≡ Some entry → slice_get (log_in (masters m).log s) o ≡ Some entry) (nat_eq seg s) (slice_get entries o) None
-    (λ same it. subst (λ t. slice_get (log_in (masters m).log t) o ≡ Some entry) (eqb-true seg s same)
-    (get-begins entries fine.begins o it)) (λ _ it. cc) at
+    search (arith, eqb-true, get-begins)
 made-logged sent masters hosts c m s o entry AtCoordinator (Place seg epoch digest entries closed) fine at = absurd fine
 made-logged sent masters hosts c m s o entry Outside (Place seg epoch digest entries closed) fine at = absurd fine
 made-logged sent masters hosts c m s o entry to (Append seg offset entries) fine at =
-    either (λ found. found ≡ Some entry → slice_get (log_in (masters m).log s) o ≡ Some entry)
-    (nat_eq seg s && nat_le offset o) (slice_get entries (o - offset)) None (λ both it.
-    let parts : (nat_eq seg s ≡ true) × (nat_le offset o ≡ true) = and_parts (nat_eq seg s) (nat_le offset o) both in
-    let upto : offset ≤ o = leb-true offset o parts.1 in
-    let there : slice_get (log_in (masters m).log seg) (offset + (o - offset)) ≡ Some entry = fine.stands (o - offset) entry it in
-    let back : offset + (o - offset) ≡ o = omega arith in
-    subst (λ t. slice_get (log_in (masters m).log t) o ≡ Some entry) (eqb-true seg s parts.0)
-    (subst (λ k. slice_get (log_in (masters m).log seg) k ≡ Some entry) back there)) (λ _ it. cc) at
+    search (arith, and_parts, leb-true, eqb-true)
 made-logged sent masters hosts c m s o entry to _ fine at = cc
 
 pub made-is : {sent : List Message} {masters : ServerId → Master} {hosts : ℕ → HostNode} {c : Coordinator} →
     Good sent masters hosts c → {m : ServerId} {s o : ℕ} {entry : Entry} →
     HasMade sent m s o entry → slice_get (log_in (masters m).log s) o ≡ Some entry
-made-is {sent} {masters} {hosts} {c} good {m} {s} {o} {entry} made =
-    made-logged sent masters hosts c m s o entry made.message.to made.message.body
-    (subst (λ (from : Addr). body_fine sent masters hosts c from made.message.to made.message.body) made.from
-    (good.messages made.message made.among)) made.holds
+made-is {sent} {masters} {hosts} {c} good {m} {s} {o} {entry} made = search (arith, made-logged)
 
 -- The plan, and the write, of a message
 
@@ -54,11 +41,7 @@ accepted-is {sent} {masters} {hosts} {c} good was = plan-is good
 pub acknowledged-is : {sent : List Message} {masters : ServerId → Master} {hosts : ℕ → HostNode} {c : Coordinator} →
     Good sent masters hosts c → {m : ServerId} {ack : Ack} → HasAcknowledged sent m ack →
     IsWriteOk sent m (masters m).log ack.seg ack.offset ack.term ack.table ack.key ack.version
-acknowledged-is {sent} {masters} {hosts} {c} good {m} was =
-    let fine : body_fine sent masters hosts c was.message.from was.message.to was.message.body = good.messages was.message was.among in
-    let from_m : body_fine sent masters hosts c (Server m) was.message.to was.message.body =
-    subst (λ (from : Addr). body_fine sent masters hosts c from was.message.to was.message.body) was.from fine in
-    subst (λ (body : Body). body_fine sent masters hosts c (Server m) was.message.to body) was.says from_m
+acknowledged-is {sent} {masters} {hosts} {c} good {m} was = search arith
 
 -- what a row of the plan holds was made
 pub held-made : {sent : List Message} {masters : ServerId → Master} (hosts : ℕ → HostNode) {c : Coordinator} →
@@ -113,19 +96,7 @@ safe-there {sent} {masters} {hosts} {c} good {plan} accepted {ack} write = recor
         (write.entry.version < is_covered.other.version) → IsHeld plan.rows ack.seg ack.offset ⊎
         IsSuperseded sent plan ack
     by (inl e) = inl (subst (λ o. IsHeld plan.rows ack.seg o) e.1 (subst (λ s. IsHeld plan.rows s is_covered.offset) e.0 is_covered.held))
-    by (inr more) = inr (record {
-      seg = is_covered.seg;
-      offset = is_covered.offset;
-      entry = is_covered.other;
-      held = is_covered.held;
-      made = made_there;
-      of_ack = record {
-        term = is_covered.term ∙ write.term_is;
-        table = is_covered.table ∙ write.table_is;
-        key = is_covered.key ∙ write.key_is;
-      };
-      greater = (let v : write.entry.version ≡ ack.version = write.version_is in omega arith);
-    })
+    by (inr more) = search (arith, is_covered, made_there)
 
     only : OnlyIt sent plan.master ack
     only entry made =

@@ -1,17 +1,16 @@
 -- An accepted plan covers each durable place of its master's log, or a greater version of what stands there.
-use Rattle.std.proofs.Common.{◌≡◌, ◌⊎◌, ℕ, zero, suc, ◌+◌, ◌<◌, ◌≤◌, max, Bool, true, false, not, ◌||◌, List, [], ◌∷◌}
-use Rattle.std.proofs.Common.{length, Some, slice_get, refl, sym, ap, ◌∙◌, subst, inl, inr, arith}
+use Rattle.std.proofs.Common.{◌≡◌, ◌⊎◌, ℕ, zero, suc, ◌+◌, ◌<◌, ◌≤◌, max, true, false, List, [], ◌∷◌}
+use Rattle.std.proofs.Common.{Some, slice_get, sym, ap, ◌∙◌, subst, inl, inr, arith}
 use Rattle.std.proofs.lemmas.Bool.{cases_order}
 use Rattle.std.proofs.lemmas.Bool.Decides.{nat_tests}
 use Rattle.rc_model.specs.Model.{ServerId, Pair, Entry, Row, PlanRow, Message, Place, CommitOk, Replicas, between, to_coordinator}
 use Rattle.rc_model.specs.Model.{from_coordinator, HeldRow, is_below, is_valid, Log, Master, Attempt, HostNode, In, IsHeld}
 use Rattle.rc_types.specs.declared.rows.Plan.{Plan}
 use Rattle.rc_model.specs.Coordinator.{Coordinator}
-use Rattle.rc_step_laws.specs.Words.{log_in, HasTold, HasToldClosed, IsMember, IsOpenedAt, IsCommitted, IsNumbered}
+use Rattle.rc_step_laws.specs.Words.{log_in, IsOpenedAt, IsCommitted, IsNumbered}
 use Rattle.rc_step_laws.specs.Facts.{IsSafe, IsOutdated, IsDead, IsDigest, GoodMaster, IsPlace, IsCopy, IsAnswer, IsPlan, GoodAttempt, Good}
 use Rattle.rc_step_laws.proofs.Copies.{split}
 use Rattle.rc_log_laws.proofs.Picked.{IsAnswered, IsTaken, IsPicked, picked-is}
-use Rattle.rc_model.proofs.Tests.{true_false}
 use Rattle.rc_step_laws.proofs.Attempting.{numbered-same}
 
 -- Pairs
@@ -24,12 +23,7 @@ below-least least s granted less valid = grind (arith, nat_tests)
 -- an open row that is valid is not below the least pair
 open-valid : (least : Pair) (row : Row) → row.closed ≡ false → is_valid least row ≡ true →
     is_below (record { seg = row.seg; epoch = row.epoch }) least ≡ false
-open-valid least row unclosed valid = by row.closed (is_below (record { seg = row.seg; epoch = row.epoch }) least) unclosed valid
-  where
-    by : (closed below : Bool) → closed ≡ false → (closed || not below) ≡ true → below ≡ false
-    by true below o v = cc
-    by false true o v = cc
-    by false false o v = refl
+open-valid least row unclosed valid = search arith
 
 -- One copy
 
@@ -48,10 +42,7 @@ pub row-covers : {sent : List Message} {masters : ServerId → Master} {hosts : 
 row-covers {sent} {masters} {c} good {m} y {row} copy valid {o} safe = split row.closed if_closed if_open
   where
     if_closed : row.closed ≡ true → o < row.len
-    if_closed shut_so =
-        let whole : row.len ≡ length (log_in (masters m).log row.seg) = (copy.whole shut_so).1 in
-        let logged : o < length (log_in (masters m).log row.seg) = safe.logged in
-        omega arith
+    if_closed shut_so = search arith
 
     if_open : row.closed ≡ false → o < row.len
     if_open open_so =
@@ -62,15 +53,8 @@ row-covers {sent} {masters} {c} good {m} y {row} copy valid {o} safe = split row
             (row.epoch ≡ safe.epoch) ⊎ ((row.epoch < safe.epoch) ⊎ (safe.epoch < row.epoch)) → o < row.len
         by at (inr (inl less)) = absurd (granted-below good m row.seg
             safe.granted less (open-valid (c.least m) row open_so valid))
-        by at (inl same) =
-            let member : IsMember sent m row.seg row.epoch at.to =
-            record { digest = at.digest; entries = at.entries; placed = at.placed } in
-            let told = safe.told at.to (subst (λ e. IsMember sent m row.seg e at.to) same member) in
-            copy.above at.to o at.host member (subst (λ e. HasTold sent at.to m row.seg e o) (sym same) told)
-        by at (inr (inr more)) =
-            let has : o < length at.entries = safe.later at.to row.epoch at.digest at.entries false more at.placed in
-            let enough : length at.entries ≤ row.len = at.enough in
-            omega arith
+        by at (inl same) = search arith
+        by at (inr (inr more)) = search arith
 
 -- the head row is of no segment below a durable place: that one is shut
 pub head-not-below : {sent : List Message} {masters : ServerId → Master} {hosts : ℕ → HostNode} {c : Coordinator} →
@@ -92,10 +76,7 @@ head-not-below {sent} {masters} {c} good {m} y {row} copy open_so valid shut_so 
     by : (row.epoch ≡ ((masters m).log.segments row.seg).config.epoch)
         ⊎ ((row.epoch < ((masters m).log.segments row.seg).config.epoch) ⊎
         (((masters m).log.segments row.seg).config.epoch < row.epoch)) → ⊥
-    by (inl same) =
-        let member : IsMember sent m row.seg row.epoch at.to = record { digest = at.digest; entries = at.entries; placed = at.placed } in
-        let told : HasToldClosed sent at.to m row.seg row.epoch = place.told refl same shut_so in
-        true_false (sym (copy.closed_too at.to at.host member told) ∙ open_so)
+    by (inl same) = search (arith, at, place)
     by (inr (inl less)) = granted-below good m row.seg
         (mine.committed row.seg (mine.shut_committed row.seg shut_so)) less (open-valid (c.least m) row open_so valid)
     by (inr (inr more)) = let upto : row.epoch ≤ ((masters m).log.segments row.seg).config.epoch = place.epoch in omega arith
@@ -249,28 +230,7 @@ held-in sent masters hosts c good m rows plan s o safe at =
 covered-greater : (m : ServerId) (log : Log) (rows : List PlanRow) (s o seg offset : ℕ) (entry other : Entry) →
     other.term ≡ entry.term → other.table ≡ entry.table → other.key ≡ entry.key → entry.version < other.version →
     slice_get (log_in log seg) offset ≡ Some other → IsCovered m log rows seg offset other → IsCovered m log rows s o entry
-covered-greater m log rows s o seg offset entry other term table key greater at p = record {
-  seg = p.seg;
-  offset = p.offset;
-  other = p.other;
-  held = p.held;
-  holds = p.holds;
-  term = p.term ∙ term;
-  table = p.table ∙ table;
-  key = p.key ∙ key;
-  is_it = inr (by p.is_it);
-}
-  where
-    same-entry : (p.seg ≡ seg) × (p.offset ≡ offset) → p.other ≡ other
-    same-entry e =
-        let moved : slice_get (log_in log seg) offset ≡ Some p.other =
-        subst (λ k. slice_get (log_in log seg) k ≡ Some p.other) e.1
-        (subst (λ t. slice_get (log_in log t) p.offset ≡ Some p.other) e.0 p.holds) in
-        cc
-
-    by : ((p.seg ≡ seg) × (p.offset ≡ offset)) ⊎ (other.version < p.other.version) → entry.version < p.other.version
-    by (inl e) = let v : p.other.version ≡ other.version = ap (λ (one : Entry). one.version) (same-entry e) in omega arith
-    by (inr more) = omega arith
+covered-greater m log rows s o seg offset entry other term table key greater at p = search arith
 
 -- a durable place is covered, given that each greater version of its key at a durable place is
 covered-step : (sent : List Message) (masters : ServerId → Master) (hosts : ℕ → HostNode) (c : Coordinator) → Good sent masters hosts c →
@@ -285,17 +245,7 @@ covered-step sent masters hosts c good m rows plan s o entry safe at rec = by_pl
     log = (masters m).log
 
     here : IsHeld rows s o → IsCovered m log rows s o entry
-    here held = record {
-      seg = s;
-      offset = o;
-      other = entry;
-      held = held;
-      holds = at;
-      term = refl;
-      table = refl;
-      key = refl;
-      is_it = inl (refl, refl);
-    }
+    here held = search arith
 
     digest : IsDigest sent m log plan.row.seg (log.segments plan.row.seg).digest
     digest = (good.masters_are m).digests plan.row.seg plan.head_copy.opened
@@ -331,11 +281,7 @@ covered-by sent masters hosts c good m rows plan zero s o entry safe at bound =
   where
     too_great : (seg offset : ℕ) (other : Entry) → IsSafe sent m (masters m).log seg offset →
         slice_get (log_in (masters m).log seg) offset ≡ Some other → entry.version < other.version → ⊥
-    too_great seg offset other there holds greater =
-        let upto : other.version ≤ top_to (masters m).log (masters m).log.head =
-        top_to-in (masters m).log (masters m).log.head seg offset other there.opened.above there.opened.below
-        holds in
-        omega arith
+    too_great seg offset other there holds greater = search (arith, top_to, top_to-in)
 covered-by sent masters hosts c good m rows plan (suc n) s o entry safe at bound =
     covered-step sent masters hosts c good m rows plan s o entry safe at
     (λ seg offset other there holds greater. covered-by sent masters hosts c good m rows plan n seg offset other there

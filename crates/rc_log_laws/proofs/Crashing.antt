@@ -1,5 +1,6 @@
 -- Who has crashed stays so.
-use Rattle.std.proofs.Common.{◌≡◌, ◌⊎◌, ℕ, true, false, List, [], ◌∷◌, sym, ◌∙◌, subst, inl, inr}
+use Rattle.std.proofs.Common.{arith}
+use Rattle.std.proofs.Common.{◌≡◌, ◌⊎◌, ℕ, true, List, [], ◌∷◌, sym, ◌∙◌, subst, inl, inr}
 use Rattle.rc_model.specs.Model.{ServerId, Event, is_up, has_crashed, World, opening, step, replay_from, replay}
 use Rattle.rc_step_laws.proofs.Servers.{crashed-not-up}
 use Rattle.rc_model.proofs.Replays.{replay_from-push}
@@ -19,9 +20,7 @@ crashed-from world (one ∷ more) m good e = crashed-from (step world one) more 
 
 pub crashed-is-never-up : CrashedIsNeverUp
 crashed-is-never-up setup events more m e =
-    subst (λ (world : World). is_up world.coordinator.servers m ≡ false) (sym (replay_from-append (opening setup) events more))
-    (crashed-not-up (replay_from (replay setup events) more).coordinator.servers m
-    (crashed-from (replay setup events) more m (good-world setup events) e))
+    search (arith, replay_from-append, crashed-not-up, crashed-from, good-world)
 
 -- Grants
 
@@ -49,5 +48,4 @@ granted-from world (one ∷ more) m s e good has at =
 
 pub crashed-are-granted-no-more : CrashedAreGrantedNoMore
 crashed-are-granted-no-more setup events more m s e has at =
-    granted-from (replay setup events) more m s e (good-world setup events) has
-    (subst (λ (world : World). WasCommitted world.sent m s e) (replay_from-append (opening setup) events more) at)
+    search (arith, granted-from, good-world, replay_from-append)

@@ -1,13 +1,13 @@
 -- A walk over the events of a world: what the own steps of masters keep of each of them holds in every world.
-use Rattle.std.proofs.Common.{◌≡◌, ℕ, ◌+◌, Bool, true, false, List, [], ◌∷◌, ◌++◌, Option, Some}
+use Rattle.std.proofs.Common.{◌≡◌, ℕ, Bool, true, false, List, [], ◌∷◌, ◌++◌, Option, Some}
 use Rattle.std.proofs.Common.{None, refl, sym, ap, ◌∙◌, subst, inl, inr, arith}
 use Rattle.rc_model.specs.Model.{ServerId, Addr, Server, Outside, Setup, Event, Message, Body}
-use Rattle.rc_model.specs.Model.{Data, Stored, Replicas, Enlist, same_id, put_id, to_coordinator}
+use Rattle.rc_model.specs.Model.{Data, Stored, Replicas, Enlist, same_id, to_coordinator}
 use Rattle.rc_model.specs.Model.{Backup, backup_takes}
 use Rattle.rc_model.specs.Model.{Master, new_master, master_takes, master_ticks, NodeWork}
 use Rattle.rc_model.specs.Model.{HostNode, master_setup, outside_sends, coordinator_step, server_of, host_step}
 use Rattle.rc_model.specs.Model.{with_backup, with_master, starts_host, next_server}
-use Rattle.rc_model.specs.Model.{World, opening, NodeName, TheOutside, TheCoordinator, TheHost, Job, job_of, is_possible, with_last_view}
+use Rattle.rc_model.specs.Model.{World, opening, NodeName, TheOutside, TheCoordinator, TheHost, Job, job_of, with_last_view}
 use Rattle.rc_model.specs.Model.{node_done, job_done, step, replay_from, replay, In}
 use Rattle.rc_types.specs.declared.ids.Addr.TheVariants.{Coordinator as AtCoordinator}
 use Rattle.rc_model.specs.Nodes.{Ask}
@@ -18,7 +18,7 @@ use Rattle.rc_log_laws.proofs.Replays.{coordinator-moved, good-step, good-openin
 use Rattle.rc_model.proofs.Sending.{Each, each-none, each-one}
 use Rattle.rc_model.proofs.Telling.{each-told}
 use Rattle.rc_model.proofs.Ids.{same_id-true, same_id-refl, server-same}
-use Rattle.rc_model.proofs.Tests.{true_false, either}
+use Rattle.rc_model.proofs.Tests.{either}
 
 -- a backup says this, or a host that starts, in the name of its server
 abbrev pub is_others : Body → Bool
@@ -106,9 +106,7 @@ module _ (P Q : List Message → ServerId → Master → Type 0) (led : IsLed P 
     -- the master stays, and nothing loud is said
     done-quiet : (host : HostNode) (messages : List Message) → host.master ≡ (world.hosts i).master → Each BySelf messages →
         Done (host, messages)
-    done-quiet host messages same soft = same-view
-        (λ m. ap (λ (found : Option Master). with_last_view world.masters found m) same ∙ view-same (world.hosts i).master refl)
-        (quiet-all messages p (λ m message at from. soft message at))
+    done-quiet host messages same soft = search (arith, view-same)
 
     -- the master moves
     done-moved : {master : Master} → (world.hosts i).master ≡ Some master → (after : Master × List Message) →
@@ -121,9 +119,7 @@ module _ (P Q : List Message → ServerId → Master → Type 0) (led : IsLed P 
         (λ message at from. absurd (never (sym (moved.says message at).from ∙ from) isn't)))
       where
         never : Server (server_of (world.hosts i)) ≡ Server m → same_id now.log.own m ≡ false → ⊥
-        never same isn't =
-            true_false (sym (ap (λ (k : ServerId). same_id k m) (moved.good.own ∙ server-same (server_of (world.hosts i))
-            m same) ∙ same_id-refl m) ∙ isn't)
+        never same isn't = search (arith, server-same, same_id-refl)
 
     -- what holds of the master that runs
     mine : {master : Master} → (world.hosts i).master ≡ Some master → P world.sent (server_of (world.hosts i)) master
@@ -144,9 +140,7 @@ module _ (P Q : List Message → ServerId → Master → Type 0) (led : IsLed P 
         was = good.hosts_are i
 
         started : world.masters (next_server (world.hosts i)) ≡ new_master (next_server (world.hosts i)) (world.hosts i).setup
-        started = subst (λ n. world.masters (record { index = n; generation = (world.hosts i).generation + 1 }) ≡
-            new_master (record { index = n; generation = (world.hosts i).generation + 1 }) (world.hosts i).setup)
-            (sym was.index) (was.unstarted ((world.hosts i).generation + 1) (omega arith))
+        started = search (arith, was)
 
     done-host : (work : NodeWork) → IsGiven world.sent (TheHost i) work → Done (host_step (world.hosts i) work)
     done-host work given = walked-host world one i good Done (record {
@@ -181,9 +175,7 @@ module _ (P Q : List Message → ServerId → Master → Type 0) (led : IsLed P 
 
   -- an event
   pub led-by : (world : World) (one : Event) → GoodWorld world → Before world → After (step world one)
-  led-by world one good p = either After (is_possible world one) (job_done world one (job_of world.sent one)) world
-      (λ _. led-job world one (job_of world.sent one) refl good p)
-      (λ _ m. led.same world.sent m (world.masters m) (p m))
+  led-by world one good p = search (arith, led-job)
 
 module _ (setup : Setup) (P : List Message → ServerId → Master → Type 0) (kept : IsKeptByAll setup P) where
   kept-from : (world : World) (events : List Event) → GoodWorld world → OfAll P world.sent world.masters →

@@ -7,7 +7,6 @@ use Rattle.rc_step_laws.proofs.Attempting.{numbered-same}
 use Rattle.rc_log_laws.proofs.Replays.{GoodWorld, GoodStep, led-step, good-world}
 use Rattle.rc_log_laws.specs.LogClaims.{WasGathered, FencesHold, WhoAnsweredIsFenced}
 use Rattle.rc_log_laws.proofs.Since.{replay_from-append}
-use Rattle.rc_model.proofs.Tests.{true_false}
 
 -- an answer about this master: it is fenced as long as the server is its host's last
 pub answer-about : (world : World) (y m : ServerId) (number : ℕ) (rows : List Row) → GoodWorld world →
@@ -43,9 +42,7 @@ told-before old new y m number rows good led asked at s e len closed told = by (
     known = answer-about old y m number rows good asked at
 
     never : IsNewStored old.hosts y m → ⊥
-    never fresh =
-        let same : y.generation ≡ (old.hosts y.index).generation = omega (arith, known.0, fresh.since) in
-        true_false (sym (known.1 same) ∙ fresh.unfenced same)
+    never fresh = search (arith, known)
 
     by : In (between y m (Stored s e len closed)) old.sent ⊎ IsNewStored old.hosts y m → In (between y m (Stored s e len closed)) old.sent
     by (inl there) = there

@@ -3,7 +3,7 @@ use Rattle.std.proofs.Common.{◌≡◌, ◌⊎◌, ℕ, ◌<◌, ◌≤◌, Boo
 use Rattle.std.proofs.Common.{refl, sym, ap, ◌∙◌, subst, inl, inr, arith}
 use Rattle.std.proofs.lemmas.Bool.{cases_order}
 use Rattle.std.proofs.lemmas.List.{append_assoc}
-use Rattle.rc_model.specs.Model.{ServerId, Addr, Server, Setup, Event, PlanRow, Message, Body, same_id, is_server, Log, Master}
+use Rattle.rc_model.specs.Model.{ServerId, Server, Setup, Event, PlanRow, Message, Body, is_server, Log, Master}
 use Rattle.rc_model.specs.Model.{master_takes, master_ticks, replay, Accepted, In, WasAccepted, Opening, Writing}
 use Rattle.rc_types.specs.declared.messages.Body.TheVariants as body
 use Rattle.rc_model.proofs.Members.{In-left, In-right, In-append}
@@ -64,12 +64,7 @@ none-freed (message ∷ messages) m none s at =
 freed_of-has : (sent : List Message) (m : ServerId) (s : ℕ) (message : Message) → In message sent →
     message.from ≡ Server m → message.body ≡ body.Free s → In s (freed_of sent m)
 freed_of-has [] m s message at from says = absurd at
-freed_of-has (first ∷ sent) m s message (inl same) from says =
-    In-left s (cond (is_server m first.from) (freed_by first.body) []) (freed_of sent m)
-    (subst (λ (one : Message). In s (cond (is_server m one.from) (freed_by one.body) [])) same
-    (subst (λ (addr : Addr). In s (cond (is_server m addr) (freed_by message.body) [])) (sym from)
-    (subst (λ (some : Body). In s (cond (same_id m m) (freed_by some) [])) (sym says)
-    (subst (λ b. In s (cond b (s ∷ []) [])) (sym (same_id-refl m)) (inl refl)))))
+freed_of-has (first ∷ sent) m s message (inl same) from says = search (arith, same_id-refl)
 freed_of-has (first ∷ sent) m s message (inr rest) from says =
     In-right s (cond (is_server m first.from) (freed_by first.body) []) (freed_of sent m) (freed_of-has sent m s message rest from says)
 

@@ -1,12 +1,12 @@
 -- A host's backup moves, or the host starts or stops, and the world stays good.
-use Rattle.std.proofs.Common.{◌≡◌, ◌⊎◌, ℕ, ◌≤◌, Bool, true, false, List, ◌++◌, refl, sym, ap, ◌∙◌, subst, inl, inr, arith}
+use Rattle.std.proofs.Common.{◌≡◌, ◌⊎◌, ℕ, Bool, true, false, List, ◌++◌, refl, sym, ap, ◌∙◌, subst, inl, inr, arith}
 use Rattle.rc_model.specs.Model.{ServerId, Addr, Server, Outside, Message, Body, put, between, from_coordinator, is_up, Backup, Master}
 use Rattle.rc_model.specs.Model.{HostNode, server_of, In}
 use Rattle.rc_types.specs.declared.ids.Addr.TheVariants.{Coordinator as AtCoordinator}
 use Rattle.rc_types.specs.declared.messages.Body.TheVariants as body
 use Rattle.rc_model.specs.Coordinator.{Coordinator}
 use Rattle.rc_model.proofs.Members.{In-left, In-append}
-use Rattle.rc_step_laws.specs.All.{held_at, GoodHeld, GoodHost, GoodCoordinator, Good, IsTold, StillStands, IsStored, body_fine, Fine}
+use Rattle.rc_step_laws.specs.All.{GoodHost, GoodCoordinator, Good, IsTold, StillStands, IsStored, body_fine, Fine}
 use Rattle.rc_step_laws.specs.All.{HostLater, IsNewStored, BackupMoved, backup_body_said}
 use Rattle.rc_step_laws.proofs.Copies.{More, In-either}
 use Rattle.rc_step_laws.proofs.Attempting.{kept-refl, attempt-kept}
@@ -58,10 +58,7 @@ module _ (sent : List Message) (masters : ServerId → Master) (hosts : ℕ → 
   new-stored x m s e len closed at = by (In-append (between x m (body.Stored s e len closed)) sent messages at)
     where
       by_server : ((hosts i).backup.held m).fenced ≡ false → IsNewStored hosts (server_of (hosts i)) m
-      by_server unfenced = record {
-        since = subst (λ n. (hosts n).generation ≤ (hosts i).generation) (sym was.index) (omega arith);
-        unfenced = λ _. subst (λ n. (held_at hosts n m).fenced ≡ false) (sym was.index) unfenced;
-      }
+      by_server unfenced = search (arith, was)
 
       by : In (between x m (body.Stored s e len closed)) sent ⊎ In (between x m (body.Stored s e len closed)) messages →
           In (between x m (body.Stored s e len closed)) sent ⊎ IsNewStored hosts x m
@@ -88,13 +85,7 @@ module _ (sent : List Message) (masters : ServerId → Master) (hosts : ℕ → 
   }
 
   mine : GoodHost (sent ++ messages) masters i (record (hosts i) { backup = after })
-  mine = record {
-    index = was.index;
-    own = moved.own ∙ was.own;
-    runs = was.runs;
-    unstarted = was.unstarted;
-    held = λ m. subst (λ n. GoodHeld (sent ++ messages) m (masters m).log n (hosts i).generation (after.held m)) was.index (moved.held m);
-  }
+  mine = search (arith, was)
 
   other : (j : ℕ) → (i ≡ j → ⊥) → GoodHost (sent ++ messages) masters j (hosts j)
   other j differs = host-still good onward (λ g. refl) nothing
@@ -109,14 +100,7 @@ module _ (sent : List Message) (masters : ServerId → Master) (hosts : ℕ → 
       IsTold (sent ++ messages) m (masters m).log (server_of (hosts i)) s e len closed →
       StillStands (after.held m) s e len closed →
       IsStored (sent ++ messages) (put hosts i (record (hosts i) { backup = after })) m (masters m).log (server_of (hosts i)) s e len closed
-  stored-now {m} {s} {e} {len} {closed} told stands = record {
-    told = told;
-    since = subst (λ (host : HostNode). (hosts i).generation ≤ host.generation) (sym here) (omega arith);
-    stands = λ _. inl (subst (λ (host : HostNode). StillStands (host.backup.held m) s e len closed) (sym here) stands);
-  }
-    where
-      here : put hosts i (record (hosts i) { backup = after }) (hosts i).index ≡ record (hosts i) { backup = after }
-      here = ap (put hosts i (record (hosts i) { backup = after })) was.index ∙ put-same hosts i (record (hosts i) { backup = after })
+  stored-now {m} {s} {e} {len} {closed} told stands = search (arith, was, put-same)
 
   said-fine : (to : Addr) (says : Body) →
       backup_body_said (sent ++ messages) masters (put hosts i (record (hosts i) { backup = after })) c (hosts i) after
@@ -145,9 +129,7 @@ module _ (sent : List Message) (masters : ServerId → Master) (hosts : ℕ → 
           In message sent ⊎ Fine (sent ++ messages) masters (put hosts i (record (hosts i) { backup = after })) c
           message
       by message (inl there) = inl there
-      by message (inr new) = inr (subst (λ (from : Addr). body_fine (sent ++ messages) masters
-          (put hosts i (record (hosts i) { backup = after })) c from message.to message.body)
-          (sym (moved.from message new)) (said-fine message.to message.body (moved.says message new)))
+      by message (inr new) = search (arith, said-fine)
 
 -- The host changes otherwise: it starts, or it stops
 

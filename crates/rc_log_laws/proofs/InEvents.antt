@@ -1,11 +1,11 @@
 -- What is sent in one event, by the views of its sender: the laws of single steps, in every world.
-use Rattle.std.proofs.Common.{◌≡◌, ◌⊎◌, ℕ, ◌+◌, ◌<◌, ◌≤◌, Bool, true, false, List, [], ◌∷◌, ◌++◌, length, drop, map, cond, Some}
+use Rattle.std.proofs.Common.{◌≡◌, ◌⊎◌, ℕ, ◌<◌, ◌≤◌, Bool, true, false, List, [], ◌∷◌, ◌++◌, length, drop, map, cond, Some}
 use Rattle.std.proofs.Common.{refl, sym, ap, ◌∙◌, subst, inl, inr, arith}
 use Rattle.rc_model.specs.Model.{to_outside, WriteOk}
 use Rattle.rc_model.specs.Model.{ServerId, Addr, Server, Outside, Setup, Event, Deposed, Entry, Message, Body, Enlist, Replicas, Data}
 use Rattle.rc_model.specs.Model.{refuses, is_up, Log, Segment, Master, master_takes, master_ticks, Backup, backup_takes}
 use Rattle.rc_model.specs.Model.{server_of, is_for_clients, World, opening, step, replay_from}
-use Rattle.rc_model.specs.Model.{replay, In, CommitOk, Own, Write, Read, next_server, new_master}
+use Rattle.rc_model.specs.Model.{replay, In, CommitOk, Own, Write, Read, next_server}
 use Rattle.rc_step_laws.specs.Moves.{body_said}
 use Rattle.rc_types.specs.declared.ids.Addr.TheVariants.{Coordinator as AtCoordinator}
 use Rattle.rc_model.specs.HeadClaims.{OfEachStep, WritesWhereItMay, AppendsWhereItWrites, HasItsEntries, IsWritingIn, MayTakeData}
@@ -52,12 +52,7 @@ module _ (L : Log → Log → Type 0) (still : (log : Log) → L log log)
   from m master after same p = subst (λ (old : Master). L old.log after.log) same p
 
   led : IsLed Before After
-  led = record {
-    same = λ sent m master p. from m master master p (still master.log);
-    others = λ sent messages m master p others. from m master master p (still master.log);
-    takes = λ sent m master sender body good p at. from m master (master_takes master sender body).0 p (takes master sender body);
-    ticks = λ sent m master good p. from m master (master_ticks master).0 p (ticks master);
-  }
+  led = search (arith, from)
 
   each-event : (one : Event) → GoodWorld world → {m : ServerId} → L (world.masters m).log ((step world one).masters m).log
   each-event one good {m} = led-by Before After led world one good (λ k. refl) m
@@ -168,10 +163,7 @@ module _ (world : World) (one : Event) (good : GoodWorld world) where
   -- what a backup says is in its server's name
   backup-from : (i : ℕ) (given message : Message) →
       In message (backup_takes (world.hosts i).backup given.from given.body).1 → message.from ≡ Server (server_of (world.hosts i))
-  backup-from i given message at =
-      each-told (λ (message : Message). message.from ≡ Server (world.hosts i).backup.own) (world.hosts i).backup
-      (λ x s e len closed. refl) (λ attempt rows. refl) (λ x attempt seg term entries. refl) given.from given.body message at ∙
-      ap Server (good.hosts_are i).own
+  backup-from i given message at = search (arith, each-told)
 
   -- Masters
 
@@ -187,11 +179,7 @@ module _ (world : World) (one : Event) (good : GoodWorld world) where
     by_view : {i : ℕ} {master : Master} (after : World) (message : Message) {now : Master} → (world.hosts i).master ≡ Some master →
         message.from ≡ Server (server_of (world.hosts i)) → after.masters (server_of (world.hosts i)) ≡ now →
         Says master.log now.log message.body → SaysOf after message
-    by_view {i} {master} after message e sender view says from =
-        let same : Server (server_of (world.hosts i)) ≡ Server m = sym sender ∙ from in
-        subst (λ (old : Master). Says old.log (after.masters m).log message.body) (sym (view-of e same))
-        (subst (λ (new : Master). Says master.log new.log message.body)
-        (sym view ∙ ap after.masters (server-same (server_of (world.hosts i)) m same)) says)
+    by_view {i} {master} after message e sender view says from = search (arith, server-same)
 
     says-sender : EachSender world SaysOf
     says-sender = record {
@@ -241,27 +229,14 @@ module _ (world : World) (one : Event) (good : GoodWorld world) where
       mine i master e is same = ap (λ (one : Master). one.deposed) (sym (view-of e same)) ∙ is
 
       began : (i : ℕ) → next_server (world.hosts i) ≡ m → (world.masters m).deposed ≡ false
-      began i same = ap (λ (id : ServerId). (world.masters id).deposed) (sym same) ∙ ap (λ (one : Master). one.deposed)
-          (subst (λ n. world.masters (record { index = n; generation = (world.hosts i).generation + 1 }) ≡
-          new_master (record { index = n; generation = (world.hosts i).generation + 1 }) (world.hosts i).setup)
-          (sym (good.hosts_are i).index) ((good.hosts_are i).unstarted ((world.hosts i).generation + 1) (omega arith)))
+      began i same = search arith
 
       answers : (i : ℕ) (master : Master) (given message : Message) → (world.hosts i).master ≡ Some master → In given world.sent →
           given.to ≡ Server (server_of (world.hosts i)) → In message (master_takes master given.from given.body).1 →
           (world.masters m).deposed ≡ true → Server (server_of (world.hosts i)) ≡ Server m →
           (is_backups message.body ≡ true) ⊎ RefusesClient world.sent m message
       answers i master given message e among to at is same =
-          let found = answer-is (is_for_clients given.body) (refuses master.log.own Deposed) message
-          (subst (In message) (ap (λ (done : Master × List Message). done.1)
-          (deposed-only-refuse master given.from given.body (mine i master e is same))) at) in
-          inr (record {
-            refusal = found.1 ∙ ap (λ (own : ServerId). refuses own Deposed)
-                ((is-good world one i good e).own ∙ server-same (server_of (world.hosts i)) m same);
-            asked = given;
-            among = among;
-            to = to ∙ same;
-            clients = found.0;
-          })
+          search (arith, answer-is, deposed-only-refuse, mine, is-good, server-same)
 
   silent-in : {m : ServerId} (message : Message) → In message (drop (length world.sent) (step world one).sent) →
       Silent m (step world one) message
@@ -391,13 +366,7 @@ the-fenced-are-told setup events one y message at from is =
     by : (asked : Message) × (In asked (replay setup events).sent) × (asked.to ≡ Server y) ×
         IsToldOfFenced ((step (replay setup events) one).hosts y.index).backup asked.body message.body →
         AnswersOfFenced setup events one y message
-    by (asked, among, to, told) = record {
-      asked = asked;
-      among = among;
-      to = to;
-      told = subst (λ (after : World). IsToldOfFenced (after.hosts y.index).backup asked.body message.body)
-          (sym (pushed setup events one)) told;
-    }
+    by (asked, among, to, told) = search (arith, pushed)
 
 pub grants-go-to-the-up-alone : GrantsGoToTheUpAlone
 grants-go-to-the-up-alone setup events one message m at is to =
@@ -416,14 +385,7 @@ module _ (world : World) where
   stays-by same stays is = stays (ap (λ (one : Master). one.deposed) same ∙ is) ∙ same
 
   stays-led : IsLed WasSo Stays
-  stays-led = record {
-    same = λ sent m master p is. p;
-    others = λ sent messages m master p others is. p;
-    takes = λ sent m master sender body good p at. stays-by p
-        (λ is. ap (λ (done : Master × List Message). done.0) (deposed-only-refuse master sender body is));
-    ticks = λ sent m master good p. stays-by p
-        (λ is. ap (λ (done : Master × List Message). done.0) (deposed-do-not-tick master is));
-  }
+  stays-led = search (arith, stays-by, deposed-only-refuse, deposed-do-not-tick)
 
   stays-on : (one : Event) → GoodWorld world → {m : ServerId} → (world.masters m).deposed ≡ true →
       (step world one).masters m ≡ world.masters m
@@ -437,6 +399,4 @@ deposed-from world (one ∷ more) {m} good is =
     deposed-from (step world one) more (good-step world one good) (ap (λ (master : Master). master.deposed) same ∙ is) ∙ same
 
 pub deposed-stay : DeposedStay
-deposed-stay setup events more m is =
-    ap (λ (world : World). world.masters m) (replay_from-append (opening setup) events more) ∙
-    deposed-from (replay setup events) more (good-world setup events) is
+deposed-stay setup events more m is = search (arith, replay_from-append, deposed-from, good-world)

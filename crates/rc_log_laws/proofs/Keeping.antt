@@ -2,13 +2,12 @@
 use Rattle.std.proofs.Common.{◌≡◌, ◌⊎◌, ℕ, ◌+◌, ◌-◌, ◌<◌, ◌≤◌, Bool, true, false, cond, not, ◌||◌, nat_eq, List, []}
 use Rattle.std.proofs.Common.{◌∷◌, filter, Result, Ok, Err, refl, sym, ap, subst, inl, inr, arith}
 use Rattle.std.specs.List.{list_any}
-use Rattle.rc_model.specs.Model.{ServerId, Addr, Fault, Message, Body, ServerList, Config, lose, refill, noted, committed_at, Segment}
-use Rattle.rc_model.specs.Model.{new_segment, with_entry, under_new_epoch, with_closes_sent, Log, head_of, old_head_of, with_segment}
-use Rattle.rc_model.specs.Model.{has_segment, opens_head, next_digest, with_config, opens_change, refills, loses, left_out, with_freed}
+use Rattle.rc_model.specs.Model.{ServerId, Addr, Fault, Message, Body, ServerList, Config, noted, committed_at, Segment}
+use Rattle.rc_model.specs.Model.{with_entry, under_new_epoch, with_closes_sent, Log, head_of, old_head_of, with_segment}
+use Rattle.rc_model.specs.Model.{has_segment, opens_head, next_digest, with_config, opens_change, loses, left_out, with_freed}
 use Rattle.rc_model.specs.Model.{Master, with_log, dead_segments, is_dead_segment, written, master_takes, master_ticks, In}
 use Rattle.rc_model.proofs.Members.{In-left, In-right}
 use Rattle.rc_model.proofs.Tables.{put_each}
-use Rattle.rc_model.proofs.Tests.{either}
 use Rattle.rc_model.proofs.Changes.{all-stay}
 use Rattle.rc_model.proofs.Walk.{Joined, Listed, Rolls, Taken, Followed, kept-takes, kept-ticks}
 use Rattle.rc_log_laws.proofs.MasterWorlds.{put-cases}
@@ -33,9 +32,7 @@ Kept master after = Keeps master → KeepsAfter after
 -- a segment is changed, but for its digest
 whole-put : (log : Log) {seg : ℕ} (segment : Segment) → segment.digest ≡ (log.segments seg).digest → WholeLog log →
     WholeLog (with_segment seg segment log)
-whole-put log {seg} segment same w s t upto above below = subst (λ (digest : List ℕ). In t digest)
-    (sym (put_each (λ k (one : Segment). one.digest ≡ (log.segments k).digest) log.segments seg segment same
-    (λ k. refl) s)) (w s t upto above below)
+whole-put log {seg} segment same w s t upto above below = search (arith, put_each)
 
 -- the number below, or the last
 last_or : {t n : ℕ} → t ≤ n + 1 → (t ≡ n + 1) ⊎ (t ≤ n)
@@ -44,14 +41,7 @@ last_or p = grind arith
 -- a new head
 whole-opened : (log : Log) (digest : List ℕ) (ids : List ServerId) → WholeLog log →
     ((t : ℕ) → 0 < t → t ≤ log.head + 1 → In t digest) → WholeLog (opens_head log digest ids)
-whole-opened log digest ids w all s t upto above below =
-    put-cases (λ k (one : Segment). k ≤ log.head + 1 → t ≤ k → In t one.digest) log.segments (log.head + 1)
-    (new_segment (log.head + 1) digest ids)
-    (λ k_upto t_upto. all t above t_upto) (λ k differs k_upto t_upto. by k differs t_upto (last_or k_upto)) s upto below
-  where
-    by : (k : ℕ) → (log.head + 1 ≡ k → ⊥) → t ≤ k → (k ≡ log.head + 1) ⊎ (k ≤ log.head) → In t (log.segments k).digest
-    by k differs t_upto (inl same) = absurd (differs (sym same))
-    by k differs t_upto (inr less) = w k t less above t_upto
+whole-opened log digest ids w all s t upto above below = search (arith, put-cases, last_or)
 
 whole-next : (log : Log) → WholeLog log → (t : ℕ) → 0 < t → t ≤ log.head + 1 → In t (next_digest log [])
 whole-next log w t above upto = by (last_or upto)
@@ -72,12 +62,7 @@ keeps-put : {master : Master} (seg : ℕ) (segment : Segment) → segment.digest
 keeps-put {master} seg segment same k = record { free = k.free; whole = whole-put master.log segment same k.whole }
 
 keeps-rolls : (master : Master) → Rolls Kept master
-keeps-rolls master ids writing room chosen k = record {
-  free = k.free;
-  whole = whole-opened master.log (next_digest master.log (dead_segments master)) ids k.whole
-      (subst (λ dead. (t : ℕ) → 0 < t → t ≤ master.log.head + 1 → In t (next_digest master.log dead)) (sym (none-dead master k.free))
-      (whole-next master.log k.whole));
-}
+keeps-rolls master ids writing room chosen k = search (arith, whole-opened, none-dead, whole-next)
 
 -- The rules that follow up
 
@@ -111,31 +96,14 @@ whole-change seg log (config, Ok false) w = whole-put log (record (log.segments 
 whole-change seg log (config, Err fault) w = whole-put log (record (log.segments seg) { config = config }) refl w
 
 whole-loses : (servers : ServerList) (seg : ℕ) (log : Log) → WholeLog log → WholeLog (loses servers seg log).0
-whole-loses servers seg log w =
-    either (λ (after : Log × Result (List ServerId) Fault). WholeLog after.0) (log.segments seg).shut
-    (refills seg log (refill log.own servers (log.segments seg).config))
-    (opens_change seg log (lose log.own servers (log.segments seg).config))
-    (λ _. whole-put log (record (log.segments seg) { config = (refill log.own servers (log.segments seg).config).0 }) refl w)
-    (λ _. whole-change seg log (lose log.own servers (log.segments seg).config) w)
+whole-loses servers seg log w = search (arith, whole-put, whole-change)
 
 keeps-listed : Listed Kept
-keeps-listed = record {
-  replaces = λ master seg ids isn't k. record { free = k.free; whole = whole-loses master.known seg master.log k.whole };
-  opens = λ master ids none chosen k. record {
-    free = k.free;
-    whole = whole-opened master.log (1 ∷ []) ids k.whole (λ t above upto. inl (first t master.log.head none above upto));
-  };
-}
-  where
-    first : (t n : ℕ) → n ≡ 0 → 0 < t → t ≤ n + 1 → t ≡ 1
-    first t n e above upto = omega arith
+keeps-listed = search (arith, whole-loses, whole-opened)
 
 keeps-config : {master : Master} (b : Bool) (seg : ℕ) (config : Config) → Keeps master →
     Keeps (with_log master (cond b (with_config seg config master.log) master.log))
-keeps-config {master} b seg config k =
-    either (λ (one : Log). Keeps (with_log master one)) b (with_config seg config master.log) master.log
-    (λ _. keeps-put seg (record (master.log.segments seg) { config = config }) refl k)
-    (λ _. record { free = k.free; whole = k.whole })
+keeps-config {master} b seg config k = search (arith, keeps-put)
 
 keeps-taken : {master : Master} {from : Addr} {body : Body} → Taken Kept master from body
 keeps-taken {master} = record {

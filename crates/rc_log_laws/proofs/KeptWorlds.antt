@@ -17,15 +17,7 @@ abbrev KeepsAll : (ServerId → Master) → Type 0
 KeepsAll masters = (m : ServerId) → Keeps (masters m)
 
 keeps-kept : {setup : Setup} → setup.free ≡ false → IsKeptByAll setup (λ sent m master. Keeps master)
-keeps-kept free = record {
-  opened = λ m. record { free = free; whole = λ s t upto above below. absurd (omega arith) };
-  led = record {
-    same = λ sent m master k. k;
-    others = λ sent messages m master k others. k;
-    takes = λ sent m master from body good k at. keeps-takes from body k;
-    ticks = λ sent m master good k. keeps-ticks master k;
-  };
-}
+keeps-kept free = search (arith, keeps-takes, keeps-ticks)
 
 keeps-world : (setup : Setup) (events : List Event) → setup.free ≡ false → KeepsAll (replay setup events).masters
 keeps-world setup events free m = kept-replay setup (λ sent m master. Keeps master) (keeps-kept free) events m

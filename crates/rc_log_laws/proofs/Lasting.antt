@@ -1,5 +1,5 @@
 -- What holds of a message, of a host and of a master in a good world holds of it in a later one.
-use Rattle.std.proofs.Common.{◌≡◌, ◌⊎◌, ℕ, ◌≤◌, Bool, true, false, List, length, Some, None, sym, ◌∙◌, subst, inl, inr, arith}
+use Rattle.std.proofs.Common.{◌≡◌, ◌⊎◌, ℕ, Bool, true, List, length, Some, None, sym, ◌∙◌, inl, inr, arith}
 use Rattle.rc_model.specs.Model.{ServerId, Addr, Server, Outside, Row, PlanRow, Message, Body, between, from_coordinator, is_up, Replica}
 use Rattle.rc_model.specs.Model.{Held, is_freed, Master, HostNode, In}
 use Rattle.rc_types.specs.declared.ids.Addr.TheVariants.{Coordinator as AtCoordinator}
@@ -12,7 +12,6 @@ use Rattle.rc_step_laws.proofs.Copies.{More, CopyLives, NoneNewUpTo, copy-later,
 use Rattle.rc_step_laws.proofs.Logs.{Grown, append-grown, close-grown, write_ok-grown}
 use Rattle.rc_step_laws.proofs.Attempting.{below-trans}
 use Rattle.rc_step_laws.proofs.Backups.{own-fine}
-use Rattle.rc_model.proofs.Tests.{true_false}
 
 -- A later world
 
@@ -41,13 +40,7 @@ stands-later {new} {s} {e} {len} {closed} later (inl p) = by (later.replicas s p
     by : StillStands new s p.replica.epoch (length p.replica.entries) p.replica.closed ⊎ (is_freed s new ≡ true) →
         StillStands new s e len closed ⊎ (is_freed s new ≡ true)
     by (inr freed) = inr freed
-    by (inl q) = inl (record {
-      replica = q.replica;
-      kept = q.kept;
-      epoch = omega (arith, p.epoch, q.epoch);
-      enough = omega (arith, p.enough, q.enough);
-      closed_too = λ shut_so. q.closed_too (p.closed_too shut_so);
-    })
+    by (inl q) = search arith
 
 -- an attempt is for its master, for good
 of-later : {c c_now : Coordinator} {number : ℕ} {m : ServerId} → CoordinatorLater c c_now → IsOf c.attempts number m →
@@ -73,10 +66,7 @@ plan-later {c_now} {number} later p = record {
     by : (p.attempt.decided ≡ (later.attempts number p.attempt p.numbered).now.decided) ⊎ (p.attempt.decided ≡ None) →
         (later.attempts number p.attempt p.numbered).now.decided ≡ Some p.decision
     by (inl same) = sym same ∙ p.decided
-    by (inr none) = absurd (none_some (sym none ∙ p.decided))
-      where
-        none_some : None ≡ Some p.decision → ⊥
-        none_some never = cc
+    by (inr none) = search arith
 
 module _ (sent : List Message) (masters : ServerId → Master) (hosts : ℕ → HostNode) (c : Coordinator)
     (sent_now : List Message) (masters_now : ServerId → Master) (hosts_now : ℕ → HostNode) (c_now : Coordinator)
@@ -97,22 +87,7 @@ module _ (sent : List Message) (masters : ServerId → Master) (hosts : ℕ → 
   -- who has answered about a master tells it no more
   silent : (y : ServerId) (number : ℕ) (rows : List Row) → (answer : IsAnswer sent masters hosts c y number rows) →
       NoneNewUpTo sent sent_now answer.master y.index y.generation
-  silent y number rows answer x s e len closed on at = by (w.stored x answer.master s e len closed at)
-    where
-      by : In (between x answer.master (body.Stored s e len closed)) sent ⊎ IsNewStored hosts x answer.master →
-          In (between x answer.master (body.Stored s e len closed)) sent ⊎ (x.generation ≤ y.generation → ⊥)
-      by (inl there) = inl there
-      by (inr new) = inr (λ upto. never new upto)
-        where
-          never : IsNewStored hosts x answer.master → x.generation ≤ y.generation → ⊥
-          never fresh upto =
-              let here : (hosts y.index).generation ≤ x.generation = subst (λ i. (hosts i).generation ≤ x.generation) on fresh.since in
-              let same_y : y.generation ≡ (hosts y.index).generation = omega (arith, answer.since, here, upto) in
-              let same_x : x.generation ≡ (hosts x.index).generation =
-              subst (λ i. x.generation ≡ (hosts i).generation) (sym on) (omega (arith, answer.since, here, upto)) in
-              let unfenced : (held_at hosts y.index answer.master).fenced ≡ false =
-              subst (λ i. (held_at hosts i answer.master).fenced ≡ false) on (fresh.unfenced same_x) in
-              true_false (sym (answer.fenced same_y) ∙ unfenced)
+  silent y number rows answer x s e len closed on at = search arith
 
   answer-later : {y : ServerId} {number : ℕ} {rows : List Row} → IsAnswer sent masters hosts c y number rows →
       IsAnswer sent_now masters_now hosts_now c_now y number rows
@@ -125,28 +100,12 @@ module _ (sent : List Message) (masters : ServerId → Master) (hosts : ℕ → 
   }
     where
       fenced : y.generation ≡ (hosts_now y.index).generation → (held_at hosts_now y.index answer.master).fenced ≡ true
-      fenced same =
-          let up : (hosts y.index).generation ≤ (hosts_now y.index).generation = (w.hosts_later y.index).generation in
-          let stays : (hosts y.index).generation ≡ (hosts_now y.index).generation = omega (arith, answer.since, up, same) in
-          let was : y.generation ≡ (hosts y.index).generation = omega (arith, answer.since, up, same) in
-          ((w.hosts_later y.index).held stays answer.master).fenced (answer.fenced was)
+      fenced same = search arith
 
   stored-later : (x m : ServerId) (s e len : ℕ) (closed : Bool) → In (between x m (body.Stored s e len closed)) sent →
       IsStored sent hosts m (masters m).log x s e len closed →
       IsStored sent_now hosts_now m (masters_now m).log x s e len closed
-  stored-later x m s e len closed at stored = record {
-    told = (w.own m).told x s e len closed (w.more (between x m (body.Stored s e len closed)) at);
-    since = omega (arith, stored.since, (w.hosts_later x.index).generation);
-    stands = λ same. stands same;
-  }
-    where
-      stands : x.generation ≡ (hosts_now x.index).generation →
-          StillStands (held_at hosts_now x.index m) s e len closed ⊎ (is_freed s (held_at hosts_now x.index m) ≡ true)
-      stands same =
-          let up : (hosts x.index).generation ≤ (hosts_now x.index).generation = (w.hosts_later x.index).generation in
-          let stays : (hosts x.index).generation ≡ (hosts_now x.index).generation = omega (arith, stored.since, up, same) in
-          let was : x.generation ≡ (hosts x.index).generation = omega (arith, stored.since, up, same) in
-          stands-later ((w.hosts_later x.index).held stays m) (stored.stands was)
+  stored-later x m s e len closed at stored = search (arith, stands-later)
 
   -- each message, by what it says
   pub fine-later : (from to : Addr) (says : Body) → In (record { from = from; to = to; body = says }) sent →

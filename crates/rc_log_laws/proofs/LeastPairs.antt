@@ -4,8 +4,8 @@ use Rattle.std.proofs.Common.{refl, sym, ap, ◌∙◌, subst, inl, inr, arith}
 use Rattle.std.proofs.lemmas.Bool.Decides.{nat_tests}
 use Rattle.rc_model.specs.Model.{ServerId, Pair, Addr, Server, Outside}
 use Rattle.rc_model.specs.Model.{Event, Message, Body, Commit, CommitOk}
-use Rattle.rc_model.specs.Model.{put_id, same_id, is_server, from_coordinator}
-use Rattle.rc_model.specs.Model.{is_below, greater_pair, begins_attempt}
+use Rattle.rc_model.specs.Model.{put_id, is_server, from_coordinator}
+use Rattle.rc_model.specs.Model.{is_below, greater_pair}
 use Rattle.rc_model.specs.Model.{NodeWork, Deliver}
 use Rattle.rc_model.specs.Model.{outside_sends, coordinator_step, host_step, World, opening, NodeName, TheOutside, TheCoordinator}
 use Rattle.rc_model.specs.Model.{TheHost, Job, job_of, is_possible, node_done, job_done, step, replay_from, replay, pair_in, least_pair}
@@ -20,7 +20,7 @@ use Rattle.rc_model.proofs.Members.{In-left, In-right}
 use Rattle.rc_model.proofs.CoordinatorWalk.{Moves, any-stays, walked-step}
 use Rattle.rc_log_laws.proofs.Replays.{GoodWorld, good-world}
 use Rattle.rc_model.proofs.Ids.{same_id-true, same_id-refl}
-use Rattle.rc_model.proofs.Tests.{true_false, either}
+use Rattle.rc_model.proofs.Tests.{either}
 use Rattle.rc_model.proofs.Granting.{greater-left, greater-right}
 
 -- Steps of the coordinator: all but a commit leave the least pairs as they are
@@ -45,31 +45,10 @@ module _ (c : Coordinator) (H : Addr → Body → Type 0) where
     record c { least = put_id c.least id (greater_pair (c.least id) pair) },
     from_coordinator id (CommitOk pair.seg pair.epoch) ∷ [],
   )
-  told-commits {id} {pair} h m =
-      either (WasTold messages m) (same_id id m) (greater_pair (c.least id) pair) (c.least m)
-      (λ is. subst (λ (k : ServerId). WasTold messages k (greater_pair (c.least id) pair)) (same_id-true id m is)
-      (either (WasTold messages id) (is_below (c.least id) pair) pair (c.least id) (λ _. inr (h, inl refl)) (λ _. inl refl)))
-      (λ _. inl refl)
-    where
-      messages : List Message
-      messages = from_coordinator id (CommitOk pair.seg pair.epoch) ∷ []
+  told-commits {id} {pair} h m = search (arith, same_id-true)
 
   told-moves : Moves c H Same Told
-  told-moves = record {
-    same = refl;
-    crashes = λ id is. refl;
-    enlists = λ id is. refl;
-    replaces = λ id older is. refl;
-    done = λ new messages is. told-same (new, messages) is;
-    begins = λ new messages master is crashed. told-same ((begins_attempt new master).0, messages ++ (begins_attempt new master).1) is;
-    readies = λ id m. inl refl;
-    commits = λ id pair h is. told-commits h;
-    answers = λ from number rows attempt h is undecided m. inl refl;
-    decides = λ master attempt plan id ids is undecided picked m. inl refl;
-    grants = λ id number term part is has m. inl refl;
-    creates = λ table owner is fresh room m. inl refl;
-    splits = λ table at tablet is holds inside unmarked room m. inl refl;
-  }
+  told-moves = search (arith, told-same, told-commits)
 
   pub told-step : {work : NodeWork} → ((message : Message) → work ≡ Deliver message → H message.from message.body) →
       Told (coordinator_step c work)
@@ -117,28 +96,13 @@ none-below pair = grind (arith, nat_tests)
 
 -- of two pairs neither of which is below the other both are one
 neither-below : {a b : Pair} → is_below a b ≡ false → is_below b a ≡ false → a ≡ b
-neither-below {a} {b} p q = joined a b (segs a b p q) (epochs a b p q)
-  where
-    joined : (x y : Pair) → x.seg ≡ y.seg → x.epoch ≡ y.epoch → x ≡ y
-    joined x y s e j = record { seg = s j; epoch = e j }
-
-    segs : (x y : Pair) → is_below x y ≡ false → is_below y x ≡ false → x.seg ≡ y.seg
-    segs x y s t = grind (arith, nat_tests)
-
-    epochs : (x y : Pair) → is_below x y ≡ false → is_below y x ≡ false → x.epoch ≡ y.epoch
-    epochs x y s t = grind (arith, nat_tests)
+neither-below {a} {b} p q = search (arith, nat_tests)
 
 -- what was told is not above the greatest that was told
 told-below : (sent : List Message) (m : ServerId) (message : Message) → In message sent →
     is_server m message.to ≡ true → is_below (least_pair sent m) (pair_in message.body) ≡ false
 told-below [] m message at to = absurd at
-told-below (first ∷ sent) m message (inl same) to =
-    either (λ (pair : Pair). is_below pair (pair_in message.body) ≡ false) (is_server m first.to)
-    (greater_pair (pair_in first.body) (least_pair sent m)) (least_pair sent m)
-    (λ _. subst (λ (says : Body). is_below (greater_pair (pair_in first.body) (least_pair sent m))
-    (pair_in says) ≡ false) (sym (ap (λ (some : Message). some.body) same))
-    (greater-left (pair_in first.body) (least_pair sent m)))
-    (λ isn't. true_false (sym to ∙ (ap (λ (some : Message). is_server m some.to) same ∙ isn't)))
+told-below (first ∷ sent) m message (inl same) to = search (arith, greater-left)
 told-below (first ∷ sent) m message (inr rest) to =
     either (λ (pair : Pair). is_below pair (pair_in message.body) ≡ false) (is_server m first.to)
     (greater_pair (pair_in first.body) (least_pair sent m)) (least_pair sent m)
@@ -163,9 +127,7 @@ all-below (first ∷ sent) m bound each = either (λ (pair : Pair). is_below bou
 -- a commit that was told is not above the least pair, by who tells it
 told-fine : (c : Coordinator) (from to : Addr) (s e : ℕ) (m : ServerId) → commit_ok_fine c from to s e →
     is_server m to ≡ true → is_below (c.least m) (record { seg = s; epoch = e }) ≡ false
-told-fine c AtCoordinator (Server id) s e m fine is =
-    subst (λ (k : ServerId). is_below (c.least k) (record { seg = s; epoch = e }) ≡ false) (sym (same_id-true m id is))
-    fine
+told-fine c AtCoordinator (Server id) s e m fine is = search (arith, same_id-true)
 told-fine c AtCoordinator AtCoordinator s e m fine is = absurd fine
 told-fine c AtCoordinator Outside s e m fine is = absurd fine
 told-fine c (Server id) to s e m fine is = absurd fine

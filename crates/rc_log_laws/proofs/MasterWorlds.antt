@@ -1,6 +1,6 @@
 -- A master moves, and the world stays good.
-use Rattle.std.proofs.Common.{◌≡◌, ◌⊎◌, ℕ, ◌<◌, Bool, true, false, cond, List, ◌++◌, nat_eq, Some, refl, sym, ap, ◌∙◌}
-use Rattle.std.proofs.Common.{subst, inl, inr, arith}
+use Rattle.std.proofs.Common.{◌≡◌, ◌⊎◌, ℕ, ◌<◌, Bool, true, false, cond, List, ◌++◌, Some, sym, ap, ◌∙◌}
+use Rattle.std.proofs.Common.{inl, inr, arith}
 use Rattle.std.proofs.lemmas.Bool.{eq-eqb, eqb-true}
 use Rattle.rc_model.specs.Model.{ServerId, Addr, Server, Outside, Entry, Message, Body, same_id, put, put_id, between, from_coordinator}
 use Rattle.rc_model.specs.Model.{is_up, Log, Master, HostNode, server_of, In}
@@ -18,16 +18,11 @@ use Rattle.rc_log_laws.proofs.Lasting.{Onward, held-later}
 use Rattle.rc_log_laws.proofs.Unmoved.{NoNewPlaceOf, unmoved-grown, unmoved-good, unmoved-own}
 use Rattle.rc_log_laws.proofs.Worlds.{Led, good-onward, host-still, host_later-refl, coordinator_later-refl}
 use Rattle.rc_model.proofs.Ids.{same_id-true, same_id-refl, server-same}
-use Rattle.rc_model.proofs.Tests.{true_false, either}
 use Rattle.rc_model.proofs.Tables.{put_each, put_id-same}
 
 -- the test fails for ids that differ
 no-match : {a b : ServerId} → (a ≡ b → ⊥) → same_id a b ≡ false
-no-match {a} {b} differs = by (same_id a b) refl
-  where
-    by : (t : Bool) → same_id a b ≡ t → same_id a b ≡ false
-    by true e = absurd (differs (same_id-true a b e))
-    by false e = e
+no-match {a} {b} differs = search (arith, same_id-true)
 
 pub put_id-other : {V : Type 0} (table : ServerId → V) {key other : ServerId} (value : V) → (key ≡ other → ⊥) →
     put_id table key value other ≡ table other
@@ -37,15 +32,11 @@ put_id-other table {other} value differs = ap (λ b. cond b value (table other))
 pub put_id-cases : {V : Type 0} (P : ServerId → V → Type 0) (table : ServerId → V) (key : ServerId) (value : V) →
     P key value → ((other : ServerId) → (key ≡ other → ⊥) → P other (table other)) → (other : ServerId) →
     P other (put_id table key value other)
-put_id-cases P table key value here others other =
-    either (P other) (same_id key other) value (table other) (λ e. subst (λ k. P k value) (same_id-true key other e) here)
-    (λ e. others other (λ same. true_false (sym (subst (λ (k : ServerId). same_id key k ≡ true) same (same_id-refl key)) ∙ e)))
+put_id-cases P table key value here others other = search (arith, same_id-true, same_id-refl)
 
 pub put-cases : {V : Type 0} (P : ℕ → V → Type 0) (table : ℕ → V) (key : ℕ) (value : V) → P key value →
     ((other : ℕ) → (key ≡ other → ⊥) → P other (table other)) → (other : ℕ) → P other (put table key value other)
-put-cases P table key value here others other =
-    either (P other) (nat_eq key other) value (table other) (λ e. subst (λ k. P k value) (eqb-true key other e) here)
-    (λ e. others other (λ same. true_false (sym (eq-eqb key other same) ∙ e)))
+put-cases P table key value here others other = search (arith, eqb-true, eq-eqb)
 
 -- what a master says is fine
 said-fine : (sent sent_now : List Message) (m : ServerId) (old : Log) (masters : ServerId → Master) (hosts : ℕ →
@@ -107,9 +98,7 @@ module _ (sent : List Message) (masters : ServerId → Master) (hosts : ℕ → 
       by x s e digest entries closed (inr new) = inr (moved.says (between z x (body.Place s e digest entries closed)) new).says.1
 
   hosts_later : (j : ℕ) → HostLater (hosts j) (put hosts i (record (hosts i) { master = Some after }) j)
-  hosts_later j = put_each (λ k host. HostLater (hosts k) host) hosts i (record (hosts i) { master = Some after })
-      (record { generation = (host_later-refl (hosts i)).generation; held = (host_later-refl (hosts i)).held })
-      (λ k. host_later-refl (hosts k)) j
+  hosts_later j = search (arith, put_each, host_later-refl)
 
   granted-back : (m : ServerId) (s e : ℕ) → In (from_coordinator m (body.CommitOk s e)) (sent ++ messages) →
       In (from_coordinator m (body.CommitOk s e)) sent ⊎ (is_up c.servers m ≡ true)
@@ -176,12 +165,7 @@ module _ (sent : List Message) (masters : ServerId → Master) (hosts : ℕ → 
       fine : (message : Message) → MasterSays sent (sent ++ messages) z (masters z).log after.log message →
           Fine (sent ++ messages) (put_id masters z after) (put hosts i (record (hosts i) { master = Some after })) c
           message
-      fine message said = subst (λ (from : Addr). body_fine (sent ++ messages) (put_id masters z after)
-          (put hosts i (record (hosts i) { master = Some after })) c from message.to message.body) (sym said.from)
-          (said-fine sent (sent ++ messages) z (masters z).log (put_id masters z after)
-          (put hosts i (record (hosts i) { master = Some after })) c message.to message.body
-          (subst (λ (one : Master). body_said sent (sent ++ messages) z (masters z).log one.log message.to message.body)
-          (sym (put_id-same masters z after)) said.says))
+      fine message said = search (arith, said-fine, put_id-same)
 
       by : (message : Message) → In message sent ⊎ In message messages →
           In message sent ⊎ Fine (sent ++ messages) (put_id masters z after)

@@ -1,5 +1,6 @@
 -- One walk over the steps of a world's nodes: what the coordinator takes moves it, and what each kind of a host's steps
 -- keeps is kept by its whole steps.
+use Rattle.std.proofs.Common.{arith}
 use Rattle.std.proofs.Common.{◌≡◌, ℕ, true, List, [], ◌∷◌, Option, Some, None, refl, sym, ap, ◌∙◌, subst}
 use Rattle.rc_model.specs.Model.{ServerId, Addr, Server, Outside, Event, Message, Body, put, is_server, to_coordinator, Backup}
 use Rattle.rc_model.specs.Model.{backup_takes, Master, master_takes, master_ticks, NodeWork, Deliver, HostNode, coordinator_step, host_step}
@@ -54,9 +55,7 @@ taken-at sent given message is =
 -- so it moves
 pub coordinator-moved : (world : World) (work : NodeWork) → GoodWorld world → IsGiven world.sent TheCoordinator work →
     CoordinatorMoved world.sent world.coordinator (coordinator_step world.coordinator work)
-coordinator-moved world work good given = moved-step world.sent world.coordinator good.coordinator
-    (λ message is. may-hear world.sent world.masters world.hosts world.coordinator good message.from message.body
-    (taken-at world.sent given message is))
+coordinator-moved world work good given = search (arith, moved-step, may-hear, taken-at)
 
 -- Steps of a host
 

@@ -1,4 +1,5 @@
 -- What a picked plan has: a valid open head row, and for each segment of its digest a valid row, all from the answers.
+use Rattle.std.proofs.Common.{arith}
 use Rattle.std.proofs.Common.{◌≡◌, ◌⊎◌, ℕ, Bool, true, false, cond, not, List, [], ◌∷◌, filter, nat_eq, Option}
 use Rattle.std.proofs.Common.{Some, None, Result, Ok, Err, refl, sym, ap, ◌∙◌, subst, inl, inr}
 use Rattle.std.proofs.lemmas.Bool.{eqb-true, and_parts, not-true}
@@ -106,10 +107,7 @@ taken_row-is {min} {replies} {head} is_head {seg} {held} e =
     (λ same it. of_head (eqb-true seg head.row.seg same) it) (λ _ it. row_of-is it) e
   where
     of_head : seg ≡ head.row.seg → Some head ≡ Some held → IsTaken min replies (plan_row held) × (held.row.seg ≡ seg)
-    of_head same it =
-        let one : head ≡ held = cc in
-        subst (λ (h : HeldRow). IsTaken min replies (plan_row h) × (h.row.seg ≡ seg)) one
-        (record { held = head; answered = is_head.answered; valid = is_head.valid; row_is = refl }, sym same)
+    of_head same it = search arith
 
 -- the rows that are taken: each is of an answer and of one of the segments, and each segment has one
 pub record AreAllTaken (min : Pair) (replies : List (ServerId × List Row)) (segs : List ℕ) (rows : List PlanRow) : Type 0 where
@@ -120,13 +118,7 @@ pub record AreAllTaken (min : Pair) (replies : List (ServerId × List Row)) (seg
 taken_rows-are : {min : Pair} {replies : List (ServerId × List Row)} {head : HeldRow} → IsHead min replies head →
     (segs : List ℕ) (rows : List PlanRow) →
     taken_rows min replies head segs ≡ Ok rows → AreAllTaken min replies segs rows
-taken_rows-are is_head [] rows e =
-    let none : [] ≡ rows = cc in
-    record {
-      each = λ row at. absurd (subst (λ (rs : List PlanRow). In row rs) (sym none) at);
-      within = λ row at. absurd (subst (λ (rs : List PlanRow). In row rs) (sym none) at);
-      all = λ seg at. absurd at;
-    }
+taken_rows-are is_head [] rows e = search arith
 taken_rows-are {min} {replies} {head} is_head (seg ∷ segs) rows e =
     by (taken_row min replies head seg) (taken_rows min replies head segs) refl (taken_rows-are is_head segs) e
   where
@@ -155,9 +147,7 @@ taken_rows-are {min} {replies} {head} is_head (seg ∷ segs) rows e =
         ((some : List PlanRow) → others ≡ Ok some → AreAllTaken min replies segs some) →
         row_then seg found others ≡ Ok rows → AreAllTaken min replies (seg ∷ segs) rows
     by None others here rec it = cc
-    by (Some held) (Ok some) here rec it =
-        let same : plan_row held ∷ some ≡ rows = cc in
-        subst (AreAllTaken min replies (seg ∷ segs)) same (done held here some (rec some refl))
+    by (Some held) (Ok some) here rec it = search (arith, done)
     by (Some held) (Err fault) here rec it = cc
 
 -- A picked plan

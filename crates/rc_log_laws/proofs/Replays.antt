@@ -1,16 +1,16 @@
 -- Every world that a list of events leads to is good.
-use Rattle.std.proofs.Common.{◌≡◌, ℕ, ◌+◌, Bool, true, nat_eq, List, [], ◌∷◌, ◌++◌, Option, Some, None, slice_get}
+use Rattle.std.proofs.Common.{◌≡◌, ℕ, true, nat_eq, List, [], ◌∷◌, ◌++◌, Option, Some, None, slice_get}
 use Rattle.std.proofs.Common.{refl, sym, ap, ◌∙◌, subst, inl, inr, arith}
 use Rattle.std.proofs.lemmas.Bool.{and_parts, eqb-true}
 use Rattle.std.proofs.Math.Path.{fun_ext}
-use Rattle.rc_model.specs.Model.{ServerId, Server, Outside, Entry, Setup, Event, Message, Body, same_id, put, put_id}
-use Rattle.rc_model.specs.Model.{between, to_coordinator, Backup, backup_takes, Master, new_master, master_takes, master_ticks}
+use Rattle.rc_model.specs.Model.{ServerId, Server, Outside, Setup, Event, Message, Body, put, put_id}
+use Rattle.rc_model.specs.Model.{to_coordinator, Backup, Master, new_master}
 use Rattle.rc_model.specs.Model.{NodeWork, Deliver, HostNode}
-use Rattle.rc_model.specs.Model.{master_setup, is_for_clients, outside_can, server_of}
+use Rattle.rc_model.specs.Model.{is_for_clients, outside_can, server_of}
 use Rattle.rc_model.specs.Model.{with_backup, with_master, next_server, starts_host}
-use Rattle.rc_model.specs.Model.{coordinator_step, World, opening, NodeName, TheOutside, TheCoordinator}
-use Rattle.rc_model.specs.Model.{TheHost, Job, node_of, delivery, job_of, node_can}
-use Rattle.rc_model.specs.Model.{is_possible_job, is_possible, with_last_view, host_done, node_done, job_done, step, replay_from, replay}
+use Rattle.rc_model.specs.Model.{World, opening, NodeName, TheOutside, TheCoordinator}
+use Rattle.rc_model.specs.Model.{TheHost, Job, delivery, job_of, node_can}
+use Rattle.rc_model.specs.Model.{is_possible_job, with_last_view, host_done, node_done, job_done, step, replay_from, replay}
 use Rattle.rc_model.specs.Model.{In, NothingIsMissing, NothingIsInvented}
 use Rattle.rc_types.specs.declared.ids.Addr.TheVariants.{Coordinator as AtCoordinator}
 use Rattle.rc_types.specs.declared.events.Event.TheVariants as event
@@ -60,22 +60,7 @@ good-asked {sent} {masters} {hosts} {c} to asked good clients =
     not_outside x never = cc
 
     quiet : Quiet (record { from = Outside; to = Server to; body = asked } ∷ [])
-    quiet = record {
-      places = λ m x s e digest entries closed at. places m x s e digest entries closed at;
-      told = λ x m s e len closed at. told x m s e len closed at;
-    }
-      where
-        places : (m x : ServerId) (s e : ℕ) (digest : List ℕ) (entries : List Entry) (closed : Bool) →
-            In (between m x (body.Place s e digest entries closed))
-            (record { from = Outside; to = Server to; body = asked } ∷ []) → ⊥
-        places m x s e digest entries closed (inl same) = not_outside m (ap (λ (one : Message). one.from) same)
-        places m x s e digest entries closed (inr never) = never
-
-        told : (x m : ServerId) (s e len : ℕ) (closed : Bool) →
-            In (between x m (body.Stored s e len closed)) (record { from = Outside; to = Server to; body = asked } ∷ [])
-            → ⊥
-        told x m s e len closed (inl same) = not_outside x (ap (λ (one : Message). one.from) same)
-        told x m s e len closed (inr never) = never
+    quiet = search (arith, not_outside)
 
     by_body : (says : Body) → is_for_clients says ≡ true →
         body_fine (sent ++ record { from = Outside; to = Server to; body = asked } ∷ []) masters hosts c Outside
@@ -86,9 +71,7 @@ good-asked {sent} {masters} {hosts} {c} to asked good clients =
 
     fine : (message : Message) → In message (record { from = Outside; to = Server to; body = asked } ∷ []) →
         Fine (sent ++ record { from = Outside; to = Server to; body = asked } ∷ []) masters hosts c message
-    fine message (inl same) =
-        subst (λ (one : Message). Fine (sent ++ record { from = Outside; to = Server to; body = asked } ∷ []) masters
-        hosts c one) (sym same) (by_body asked clients)
+    fine message (inl same) = search (arith, by_body)
     fine message (inr never) = absurd never
 
 -- nothing is sent
@@ -117,9 +100,7 @@ good-same : (world : World) {sent : List Message} {masters masters_now : ServerI
     HostNode} {c : Coordinator} → masters_now ≡ masters → hosts_now ≡ hosts →
     Led world.sent world.masters world.hosts world.coordinator sent masters hosts c →
     Led world.sent world.masters world.hosts world.coordinator sent masters_now hosts_now c
-good-same world {sent} {masters} {hosts} {hosts_now} {c} same_masters same_hosts led =
-    subst (λ (ms : ServerId → Master). Led world.sent world.masters world.hosts world.coordinator sent ms hosts_now c) (sym same_masters)
-    (subst (λ (hs : ℕ → HostNode). Led world.sent world.masters world.hosts world.coordinator sent masters hs c) (sym same_hosts) led)
+good-same world {sent} {masters} {hosts} {hosts_now} {c} same_masters same_hosts led = search arith
 
 put-found : {hosts : ℕ → HostNode} (i : ℕ) → put hosts i (hosts i) ≡ hosts
 put-found {hosts} i = fun_ext (λ j. either (λ (host : HostNode). host ≡ hosts j) (nat_eq i j) (hosts i) (hosts j)
@@ -127,20 +108,14 @@ put-found {hosts} i = fun_ext (λ j. either (λ (host : HostNode). host ≡ host
 
 pub put_id-found : {masters : ServerId → Master} (key : ServerId) {master : Master} → masters key ≡ master →
     put_id masters key master ≡ masters
-put_id-found {masters} key {master} is =
-    fun_ext (λ other. either (λ (one : Master). one ≡ masters other) (same_id key other) master (masters other)
-    (λ e. sym is ∙ ap masters (same_id-true key other e)) (λ _. refl))
+put_id-found {masters} key {master} is = search (arith, fun_ext, same_id-true)
 
 -- the last view of a running master is the one that the world keeps
 last-view : {sent : List Message} {masters : ServerId → Master} {hosts : ℕ → HostNode} {c : Coordinator} →
     Good sent masters hosts c → {i : ℕ} (found : Option Master) → (hosts i).master ≡ found →
     with_last_view masters found ≡ masters
 last-view good None e = refl
-last-view {masters} {hosts} good {i} (Some master) e =
-    let is : masters (server_of (hosts i)) ≡ master = (good.hosts_are i).runs master e in
-    let own : master.log.own ≡ server_of (hosts i) =
-    ap (λ (one : Master). one.log.own) (sym is) ∙ (good.masters_are (server_of (hosts i))).own in
-    put_id-found master.log.own (ap masters own ∙ is)
+last-view {masters} {hosts} good {i} (Some master) e = search (arith, put_id-found)
 
 module _ (world : World) (one : Event) (i : ℕ) (good : GoodWorld world) where
   -- nothing happens
@@ -205,41 +180,20 @@ module _ (world : World) (one : Event) (i : ℕ) (good : GoodWorld world) where
       was = good.hosts_are i
 
       started : world.masters (next_server (world.hosts i)) ≡ new_master (next_server (world.hosts i)) (world.hosts i).setup
-      started = subst (λ n. world.masters (record { index = n; generation = (world.hosts i).generation + 1 }) ≡
-          new_master (record { index = n; generation = (world.hosts i).generation + 1 }) (world.hosts i).setup)
-          (sym was.index) (was.unstarted ((world.hosts i).generation + 1) (omega arith))
+      started = search (arith, was)
 
       no_grant : GrantsUp world.coordinator (to_coordinator (next_server (world.hosts i)) body.Enlist ∷ [])
       no_grant m s e (inl same) = (let bodies : body.CommitOk s e ≡ body.Enlist = ap (λ (one : Message). one.body) same in cc)
       no_grant m s e (inr never) = absurd never
 
       quiet : Quiet (to_coordinator (next_server (world.hosts i)) body.Enlist ∷ [])
-      quiet = record {
-        places = λ m x s e digest entries closed at. places m x s e digest entries closed at;
-        told = λ x m s e len closed at. told x m s e len closed at;
-      }
-        where
-          places : (m x : ServerId) (s e : ℕ) (digest : List ℕ) (entries : List Entry) (closed : Bool) →
-              In (between m x (body.Place s e digest entries closed))
-              (to_coordinator (next_server (world.hosts i)) body.Enlist ∷ []) → ⊥
-          places m x s e digest entries closed (inl same) = let bodies : body.Place s e digest entries
-              closed ≡ body.Enlist = ap (λ (message : Message). message.body) same in cc
-          places m x s e digest entries closed (inr never) = never
-
-          told : (x m : ServerId) (s e len : ℕ) (closed : Bool) → In (between x m (body.Stored s e len closed))
-              (to_coordinator (next_server (world.hosts i)) body.Enlist ∷ []) → ⊥
-          told x m s e len closed (inl same) = let bodies : body.Stored s e len closed ≡ body.Enlist =
-              ap (λ (message : Message). message.body) same in cc
-          told x m s e len closed (inr never) = never
+      quiet = search arith
 
       fine : (message : Message) → In message (to_coordinator (next_server (world.hosts i)) body.Enlist ∷ []) →
           Fine (world.sent ++ to_coordinator (next_server (world.hosts i)) body.Enlist ∷ []) world.masters
           (put world.hosts i (starts_host (world.hosts i) (next_server (world.hosts i)) kept).0) world.coordinator
           message
-      fine message (inl same) =
-          subst (λ (one : Message). Fine (world.sent ++ to_coordinator (next_server (world.hosts i)) body.Enlist ∷ [])
-          world.masters (put world.hosts i (starts_host (world.hosts i) (next_server (world.hosts i)) kept).0)
-          world.coordinator one) (sym same) tt
+      fine message (inl same) = search arith
       fine message (inr never) = absurd never
 
   good-host-node : (work : NodeWork) → IsGiven world.sent (TheHost i) work → GoodStep world (node_done world one (TheHost i) work)
@@ -275,9 +229,7 @@ delivery-given : (sent : List Message) (found : Option Message) {job : Job} →
     ((message : Message) → found ≡ Some message → In message sent) → delivery found ≡ Some job →
     IsGiven sent job.node job.work
 delivery-given sent None was e = cc
-delivery-given sent (Some message) {job} was e =
-    let same : record { node = node_of message.to; work = Deliver message } ≡ job = cc in
-    subst (λ (some : Job). IsGiven sent some.node some.work) same (was message refl, refl)
+delivery-given sent (Some message) {job} was e = search arith
 
 of-job : (sent : List Message) {this job : Job} → IsGiven sent this.node this.work → Some this ≡ Some job → IsGiven sent job.node job.work
 of-job sent {this} {job} given e = let same : this ≡ job = cc in subst (λ (some : Job). IsGiven sent some.node some.work) same given
@@ -300,9 +252,7 @@ good-job world one (Some job) is good can = good-node world one job.node job.wor
 
 -- each step keeps all facts, and only adds
 pub led-step : (world : World) (one : Event) → GoodWorld world → GoodStep world (step world one)
-led-step world one good =
-    either (GoodStep world) (is_possible world one) (job_done world one (job_of world.sent one)) world
-    (λ can. good-job world one (job_of world.sent one) refl good (possible-job world one can)) (λ _. led-still world good)
+led-step world one good = search (arith, good-job, possible-job, led-still)
 
 pub good-step : (world : World) (one : Event) → GoodWorld world → GoodWorld (step world one)
 good-step world one good = (led-step world one good).good
@@ -313,24 +263,7 @@ good-replay_from world (one ∷ events) good = good-replay_from (step world one)
 
 -- before the first event they hold
 pub good-opening : (setup : Setup) → GoodWorld (opening setup)
-good-opening setup = record {
-  messages = λ message at. absurd at;
-  masters_are = λ m. new_master_is_good m (master_setup setup m.index);
-  hosts_are = λ i. record {
-    index = refl;
-    own = refl;
-    runs = λ master never. absurd (none_some master never);
-    unstarted = λ g above. refl;
-    held = λ m. record { ascending = tt; each = λ s replica never. absurd (none_replica replica never) };
-  };
-  coordinator = new-good;
-}
-  where
-    none_some : (master : Master) → None ≡ Some master → ⊥
-    none_some master never = cc
-
-    none_replica : {X : Type 0} (x : X) → None ≡ Some x → ⊥
-    none_replica x never = cc
+good-opening setup = search (arith, new_master_is_good, new-good)
 
 -- so they hold of every world
 pub good-world : (setup : Setup) (events : List Event) → GoodWorld (replay setup events)

@@ -7,7 +7,7 @@ use Rattle.rc_step_laws.proofs.Logs.{get-log}
 use Rattle.rc_step_laws.proofs.Backups.{own-fine}
 use Rattle.rc_log_laws.proofs.Clauses.{safe-there, acknowledged-is}
 use Rattle.rc_log_laws.proofs.Replays.{GoodWorld, good-world}
-use Rattle.rc_log_laws.specs.WordClaims.{as_ack, StoredIsSafe, SafeStaysSafe, DurableIsRecovered, AcknowledgedIsSafe}
+use Rattle.rc_log_laws.specs.WordClaims.{StoredIsSafe, SafeStaysSafe, DurableIsRecovered, AcknowledgedIsSafe}
 use Rattle.rc_log_laws.specs.WordClaims.{AcknowledgedIsRecorded}
 use Rattle.rc_log_laws.proofs.Since.{Since, since-more, since-take}
 use Rattle.rc_log_laws.proofs.Stored.{stored-safe}

@@ -1,10 +1,11 @@
 -- Who sends a message in an event: the outside, the coordinator, or a host's backup, its master, or as it starts.
+use Rattle.std.proofs.Common.{arith}
 use Rattle.std.proofs.Common.{◌≡◌, ℕ, true, List, [], ◌∷◌, ◌++◌, length, drop, Option, Some, None, refl, sym, ap, ◌∙◌}
 use Rattle.std.proofs.Common.{subst, inl, inr}
 use Rattle.std.proofs.Math.Seq.{drop-append_seam, drop-length}
 use Rattle.rc_model.specs.Model.{ServerId, Server, Outside, Event, Message, Body, Enlist, put_id}
 use Rattle.rc_model.specs.Model.{to_coordinator, Backup, backup_takes, Master, master_takes, master_ticks, NodeWork}
-use Rattle.rc_model.specs.Model.{HostNode, outside_sends, coordinator_step, server_of, host_step, with_backup}
+use Rattle.rc_model.specs.Model.{HostNode, coordinator_step, server_of, host_step, with_backup}
 use Rattle.rc_model.specs.Model.{with_master, next_server, starts_host, World, NodeName}
 use Rattle.rc_model.specs.Model.{TheOutside, TheCoordinator, TheHost, Job, job_of, is_possible, host_done, node_done}
 use Rattle.rc_model.specs.Model.{job_done, step, In, is_for_clients, outside_can, node_can, is_possible_job}
@@ -53,12 +54,7 @@ module _ (world : World) (one : Event) (good : GoodWorld world) (P : World → M
       absurd (new world.sent [] message (subst (λ (sent : List Message). In message (drop (length world.sent) sent)) same at))
 
   of_asked : (to : ServerId) (asked : Body) → is_for_clients asked ≡ true → Since (node_done world one TheOutside (Ask to asked))
-  of_asked to asked clients message at = by (new world.sent (outside_sends (Ask to asked)) message at)
-    where
-      by : In message (outside_sends (Ask to asked)) → P (node_done world one TheOutside (Ask to asked)) message
-      by (inl same) = subst (P (node_done world one TheOutside (Ask to asked))) (sym same)
-          (each.outside (node_done world one TheOutside (Ask to asked)) to asked clients)
-      by (inr never) = absurd never
+  of_asked to asked clients message at = search (arith, new)
 
   of_outside : (work : NodeWork) → outside_can work ≡ true → Since (node_done world one TheOutside work)
   of_outside (Ask to asked) can = of_asked to asked (and_parts (is_for_clients asked) _ can).0
@@ -128,9 +124,7 @@ module _ (world : World) (one : Event) (good : GoodWorld world) (P : World → M
       where
         by : In message (to_coordinator (next_server (world.hosts i)) Enlist ∷ []) →
             P (host_done world one i (starts_host (world.hosts i) (next_server (world.hosts i)) kept)) message
-        by (inl same) =
-            subst (P (host_done world one i (starts_host (world.hosts i) (next_server (world.hosts i)) kept))) (sym same)
-            (each.starts (host_done world one i (starts_host (world.hosts i) (next_server (world.hosts i)) kept)) i)
+        by (inl same) = search arith
         by (inr never) = absurd never
 
     of_host : (work : NodeWork) → IsGiven world.sent (TheHost i) work → Done (host_step (world.hosts i) work)

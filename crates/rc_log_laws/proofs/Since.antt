@@ -1,7 +1,8 @@
 -- From a world to a later one: what was sent stays, each master's log is a later one, and what is safe stays safe.
-use Rattle.std.proofs.Common.{◌≡◌, ℕ, List, [], ◌∷◌, ◌++◌, take, drop, refl, sym, subst}
+use Rattle.std.proofs.Common.{arith}
+use Rattle.std.proofs.Common.{◌≡◌, ℕ, List, [], ◌∷◌, ◌++◌, take, drop, refl, subst}
 use Rattle.std.proofs.lemmas.List.{take-append-drop}
-use Rattle.rc_model.specs.Model.{ServerId, Setup, Event, World, opening, step, replay_from, replay}
+use Rattle.rc_model.specs.Model.{ServerId, Setup, Event, World, step, replay_from, replay}
 use Rattle.rc_step_laws.specs.All.{IsSafe, LogLater}
 use Rattle.rc_step_laws.proofs.Copies.{More}
 use Rattle.rc_step_laws.proofs.Logs.{log_later-refl, log_later-trans, safe-grown}
@@ -23,12 +24,7 @@ since-step {m} led rest = record {
 }
 
 pub since : {m : ServerId} {world : World} (events : List Event) → GoodWorld world → Since m world (replay_from world events)
-since {m} {world} [] good = record {
-  good = good;
-  more = λ message at. at;
-  later = log_later-refl {sent = world.sent} {m = m} {log = (world.masters m).log};
-  safe = λ s o p. p;
-}
+since {m} {world} [] good = search (arith, log_later-refl)
 since {m} {world} (one ∷ events) good =
     since-step {m = m} {old = world} {middle = (step world one)} {new = (replay_from (step world one) events)} (led-step world one good)
     (since {m = m} {world = (step world one)} events (led-step world one good).good)
@@ -40,9 +36,7 @@ replay_from-append world [] more = refl
 replay_from-append world (one ∷ events) more = replay_from-append (step world one) events more
 
 pub since-more : (setup : Setup) (events more : List Event) {m : ServerId} → Since m (replay setup events) (replay setup (events ++ more))
-since-more setup events more {m} =
-    subst (Since m (replay setup events)) (sym (replay_from-append (opening setup) events more))
-    (since more (good-world setup events))
+since-more setup events more {m} = search (arith, replay_from-append, since, good-world)
 
 -- a beginning of the events
 pub since-take : (setup : Setup) (events : List Event) (n : ℕ) {m : ServerId} → Since m (replay setup (take n events)) (replay setup events)

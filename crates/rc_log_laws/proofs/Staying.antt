@@ -1,9 +1,9 @@
 -- What a server keeps of a master that it has fenced stays as it is.
-use Rattle.std.proofs.Common.{◌≡◌, ℕ, ◌≤◌, true, List, [], ◌∷◌, Option, Some, None, refl, sym, ◌∙◌, subst, arith}
-use Rattle.rc_model.specs.Model.{ServerId, Event, Message, is_server, Backup, backup_takes, Master, master_takes, master_ticks, NodeWork}
+use Rattle.std.proofs.Common.{◌≡◌, ℕ, ◌≤◌, true, List, [], ◌∷◌, Option, Some, None, refl, sym, subst, arith}
+use Rattle.rc_model.specs.Model.{Event, Message, is_server, Backup, backup_takes, Master, master_takes, master_ticks, NodeWork}
 use Rattle.rc_model.specs.Model.{Deliver, HostNode, server_of, host_step, is_for_backup, with_backup, with_master, server_takes}
 use Rattle.rc_model.specs.Model.{takes_if_running, ticks_if_running, World, opening, NodeName, TheOutside, TheCoordinator, TheHost, Job}
-use Rattle.rc_model.specs.Model.{job_of, is_possible, node_done, job_done, step, replay_from, replay}
+use Rattle.rc_model.specs.Model.{node_done, job_done, step, replay_from, replay}
 use Rattle.rc_model.specs.Nodes.{Tick, Stop, Start}
 use Rattle.rc_model.proofs.Storing.{AllFencedStay, fenced-stay}
 use Rattle.rc_log_laws.proofs.Replays.{good-world}
@@ -19,29 +19,13 @@ pub record StaysFenced (old new : HostNode) : Type 0 where
   pub kept : new.generation ≡ old.generation → AllFencedStay old.backup new.backup
 
 stays-same : {old new : HostNode} → new.generation ≡ old.generation → new.backup ≡ old.backup → StaysFenced old new
-stays-same {old} generation backup =
-    record {
-      generation = omega (arith, generation);
-      kept = λ _. subst (λ (one : Backup). AllFencedStay old.backup one) (sym backup) (λ m fenced. (fenced, refl));
-    }
+stays-same {old} generation backup = search arith
 
 stays-still : {host : HostNode} → StaysFenced host host
 stays-still = stays-same refl refl
 
 stays-then : {old middle new : HostNode} → StaysFenced old middle → StaysFenced middle new → StaysFenced old new
-stays-then {old} {middle} {new} p q = record {
-  generation = omega (arith, p.generation, q.generation);
-  kept = λ same m fenced.
-      let first : middle.generation ≡ old.generation = omega (arith, p.generation, q.generation, same) in
-      let second : new.generation ≡ middle.generation = omega (arith, p.generation, q.generation, same) in
-      after m (p.kept first m fenced) (q.kept second m);
-}
-  where
-    after : (m : ServerId) → ((middle.backup.held m).fenced ≡ true) × ((middle.backup.held m).replicas ≡ (old.backup.held m).replicas) →
-        ((middle.backup.held m).fenced ≡ true → ((new.backup.held m).fenced ≡ true) ×
-        ((new.backup.held m).replicas ≡ (middle.backup.held m).replicas)) →
-        ((new.backup.held m).fenced ≡ true) × ((new.backup.held m).replicas ≡ (old.backup.held m).replicas)
-    after m one rest = let two = rest one.0 in (two.0, two.1 ∙ one.1)
+stays-then {old} {middle} {new} p q = search arith
 
 -- A host's step
 
@@ -90,10 +74,7 @@ stays-job world one None = stays-still
 stays-job world one (Some job) = stays-node world one job.node job.work
 
 pub stays-step : (world : World) (one : Event) {i : ℕ} → StaysFenced (world.hosts i) ((step world one).hosts i)
-stays-step world one {i} =
-    either (λ (after : World). StaysFenced (world.hosts i) (after.hosts i)) (is_possible world one)
-    (job_done world one (job_of world.sent one)) world
-    (λ _. stays-job world one (job_of world.sent one)) (λ _. stays-still)
+stays-step world one {i} = search (arith, stays-job, stays-still)
 
 stays-from : (world : World) (events : List Event) {i : ℕ} → StaysFenced (world.hosts i) ((replay_from world events).hosts i)
 stays-from world [] = stays-still

@@ -1,12 +1,12 @@
 -- What a log's changes keep of its freed segments: all of it, but for a roll that begins before the head writes.
-use Rattle.std.proofs.Common.{◌≡◌, ◌⊎◌, ℕ, ◌+◌, ◌-◌, ◌<◌, ◌≤◌, Bool, true, false, not, ◌&&◌, ◌||◌, nat_eq, List, [], ◌∷◌, ◌++◌, filter}
+use Rattle.std.proofs.Common.{◌≡◌, ◌⊎◌, ℕ, ◌+◌, ◌-◌, ◌<◌, ◌≤◌, Bool, true, false, not, ◌||◌, nat_eq, List, [], ◌∷◌, ◌++◌, filter}
 use Rattle.std.proofs.Common.{Option, Some, None, Result, Ok, Err, refl, sym, ap, subst, inl, inr, arith}
 use Rattle.std.specs.List.{list_any}
 use Rattle.std.proofs.lemmas.Bool.{and_parts, eqb-true, eq-eqb, ltb-true}
 use Rattle.rc_model.specs.Heads.{opened_on}
-use Rattle.rc_model.specs.Model.{ServerId, Opening, Closing, Writing, Fault, ServerList, Config, lose, refill, noted, committed_at}
-use Rattle.rc_model.specs.Model.{Segment, new_segment, under_new_epoch, is_ready, Log, head_of, old_head_of, has_old_head, with_segment}
-use Rattle.rc_model.specs.Model.{has_segment, is_opening, is_closing, opens_head, next_digest, with_config, stored}
+use Rattle.rc_model.specs.Model.{ServerId, Opening, Writing, Fault, ServerList, Config, lose, refill, noted, committed_at}
+use Rattle.rc_model.specs.Model.{Segment, new_segment, under_new_epoch, Log, head_of, old_head_of, with_segment}
+use Rattle.rc_model.specs.Model.{has_segment, opens_head, next_digest, with_config, stored}
 use Rattle.rc_model.specs.Model.{commit_noted, opens_change, refills, loses, may_start, may_write, left_out, with_freed, starts}
 use Rattle.rc_model.specs.Model.{closes_old, writes_on, In}
 use Rattle.rc_model.proofs.Members.{In-append, In-filter}
@@ -17,12 +17,7 @@ use Rattle.rc_model.proofs.Tables.{put_each}
 
 -- fewer segments were freed
 pub fewer : {more freed : List ℕ} {log : Log} → ((s : ℕ) → In s freed → In s more) → GoodFrees more log → GoodFrees freed log
-fewer within good = record {
-  left_out = λ s at. good.left_out s (within s at);
-  old_shut = good.old_shut;
-  writing_shut = good.writing_shut;
-  digests = good.digests;
-}
+fewer within good = search arith
 
 -- the change keeps what holds, whatever was freed
 abbrev pub Stays : Log → Log → Type 0
@@ -52,13 +47,7 @@ stays-alike {old} {new} same freed good = record {
 }
   where
     left : (s : ℕ) → IsLeftOut old s → IsLeftOut new s
-    left s out = record {
-      head = out.head;
-      upto = subst (λ n. out.head ≤ n) (sym same.head) out.upto;
-      below = out.below;
-      shut = λ t above below. same.shut t (out.shut t above below);
-      lacks = λ k from upto at. out.lacks k from (subst (λ n. k ≤ n) same.head upto) (subst (In s) (same.digest k) at);
-    }
+    left s out = search arith
 
     writes : (s : ℕ) → 0 < s → s < old.head → (old.phase ≡ Writing) ⊎ (old.head ≡ 1) → (new.segments s).shut ≡ true
     writes s above below (inl writing) = same.shut s (good.writing_shut writing s above below)
@@ -66,12 +55,7 @@ stays-alike {old} {new} same freed good = record {
 
 pub stays-put : {log : Log} (seg : ℕ) (segment : Segment) → segment.digest ≡ (log.segments seg).digest →
     ((log.segments seg).shut ≡ true → segment.shut ≡ true) → Stays log (with_segment seg segment log)
-stays-put {log} seg segment digest shut = stays-alike (record {
-  head = refl;
-  digest = put_each (λ k (one : Segment). one.digest ≡ (log.segments k).digest) log.segments seg segment digest (λ k. refl);
-  shut = put_each (λ k (one : Segment). (log.segments k).shut ≡ true → one.shut ≡ true) log.segments seg segment shut (λ k e. e);
-  writing = λ e. inl e;
-})
+stays-put {log} seg segment digest shut = search (arith, stays-alike, put_each)
 
 stays-config : {log : Log} (seg : ℕ) (config : Config) → Stays log (with_config seg config log)
 stays-config {log} seg config = stays-put seg (record (log.segments seg) { config = config }) refl (λ e. e)
@@ -103,19 +87,10 @@ stays-loses servers seg {log} =
 -- Phases
 
 pub stays-starts : {log : Log} → may_start log ≡ true → Stays log (starts log)
-stays-starts {log} may = stays-alike (record {
-  head = refl;
-  digest = λ k. refl;
-  shut = λ k e. e;
-  writing = λ _. inr (eqb-true log.head 1 (and_parts (nat_eq log.head 1) (is_ready (head_of log))
-      (and_parts (is_opening log.phase) (nat_eq log.head 1 && is_ready (head_of log)) may).1).0);
-})
+stays-starts {log} may = search (arith, stays-alike, eqb-true, and_parts)
 
 pub stays-closes : {log : Log} → Stays log (closes_old log)
-stays-closes = stays-alike (record { head = refl; digest = λ k. refl; shut = λ k e. e; writing = λ e. not-closing e })
-  where
-    not-closing : {P : Type 0} → Closing ≡ Writing → P
-    not-closing e = cc
+stays-closes = search (arith, stays-alike)
 
 -- New heads
 
@@ -138,16 +113,11 @@ stays-opens {log} digest ids may within freed good = record {
 
     -- a segment that was there stays as it is
     elsewhere : (s : ℕ) → s ≤ log.head → (log.segments s).shut ≡ true → ((opens_head log digest ids).segments s).shut ≡ true
-    elsewhere s upto e = put-cases (λ k (one : Segment). k ≤ log.head → (log.segments k).shut ≡ true → one.shut ≡ true)
-        log.segments (log.head + 1) (new_segment (log.head + 1) digest ids)
-        (λ beyond. absurd (omega (arith, beyond))) (λ k _ _ is. is) s upto e
+    elsewhere s upto e = search (arith, put-cases)
 
     -- a number up to the new head is that of the new head or is up to the old one
     which : (k : ℕ) → (log.head + 1 ≡ k → ⊥) → k ≤ log.head + 1 → k ≤ log.head
-    which k differs upto = below k log.head upto (λ same. differs (sym same))
-      where
-        below : (a b : ℕ) → a ≤ b + 1 → (a ≡ b + 1 → ⊥) → a ≤ b
-        below a b p q = grind arith
+    which k differs upto = search arith
 
     digests : (k t : ℕ) → k ≤ log.head + 1 → In t ((opens_head log digest ids).segments k).digest → t ≤ k
     digests k t upto = put-cases (λ j (one : Segment). j ≤ log.head + 1 → In t one.digest → t ≤ j) log.segments
@@ -180,11 +150,7 @@ stays-opens {log} digest ids may within freed good = record {
 
 pub stays-first_opened : {log : Log} (chosen : Option (List ServerId)) → log.head ≡ 0 → Stays log (opened_on log (1 ∷ []) chosen).0
 stays-first_opened None none = stays-refl
-stays-first_opened {log} (Some ids) none = stays-opens (1 ∷ []) ids (inr none) (λ t at. inl (first t at))
-  where
-    first : (t : ℕ) → (t ≡ 1) ⊎ ⊥ → t ≡ log.head + 1
-    first t (inl same) = omega (arith, same, none)
-    first t (inr never) = absurd never
+stays-first_opened {log} (Some ids) none = search (arith, stays-opens)
 
 pub stays-next_opened : {log : Log} (dead : List ℕ) (chosen : Option (List ServerId)) → log.phase ≡ Writing →
     Stays log (opened_on log (next_digest log dead) chosen).0
@@ -224,25 +190,17 @@ pub writes-leave_out : {freed : List ℕ} {log : Log} → may_write log ≡ true
 writes-leave_out {freed} {log} may good = stays-freed (left_out log) (freed ++ left_out log) writing
   where
     has_old : 1 < log.head
-    has_old = ltb-true 1 log.head (and_parts (has_old_head log) ((old_head_of log).shut && is_ready (head_of log))
-        (and_parts (is_closing log.phase) (has_old_head log && ((old_head_of log).shut && is_ready (head_of log)))
-        may).1).0
+    has_old = search (arith, ltb-true, and_parts)
 
     old_is_shut : (log.segments (log.head - 1)).shut ≡ true
-    old_is_shut = (and_parts (old_head_of log).shut (is_ready (head_of log))
-        (and_parts (has_old_head log) ((old_head_of log).shut && is_ready (head_of log))
-        (and_parts (is_closing log.phase) (has_old_head log && ((old_head_of log).shut && is_ready (head_of log))) may).1).1).0
+    old_is_shut = search (arith, and_parts)
 
     -- the old head, or one before it
     old_or : (s n : ℕ) → s < n → (s ≡ n - 1) ⊎ (s + 1 < n)
     old_or s n p = grind arith
 
     all_shut : (s : ℕ) → 0 < s → s < log.head → (log.segments s).shut ≡ true
-    all_shut s above below = by (old_or s log.head below)
-      where
-        by : (s ≡ log.head - 1) ⊎ (s + 1 < log.head) → (log.segments s).shut ≡ true
-        by (inl same) = subst (λ t. (log.segments t).shut ≡ true) (sym same) old_is_shut
-        by (inr less) = good.old_shut s above less
+    all_shut s above below = search (arith, old_or, old_is_shut)
 
     new : (s : ℕ) → In s (left_out log) → IsLeftOut (record log { phase = Writing }) s
     new s at =

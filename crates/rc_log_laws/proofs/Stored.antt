@@ -1,16 +1,15 @@
 -- A place that is stored on all is safe.
-use Rattle.std.proofs.Common.{◌≡◌, ◌⊎◌, ℕ, zero, suc, ◌-◌, ◌<◌, ◌≤◌, Bool, true, nat_lt, not, ◌&&◌, List, [], ◌∷◌}
+use Rattle.std.proofs.Common.{◌≡◌, ◌⊎◌, ℕ, zero, suc, ◌-◌, ◌<◌, ◌≤◌, Bool, true, nat_lt, ◌&&◌, List, [], ◌∷◌}
 use Rattle.std.proofs.Common.{length, Some, slice_get, refl, sym, subst, inl, inr, arith}
 use Rattle.std.proofs.lemmas.Bool.{and_parts, ltb-true}
 use Rattle.std.proofs.lemmas.List.{length-map}
-use Rattle.rc_model.specs.Model.{ServerId, Entry, Member, Message, Config, any_lost, least_told, durable_len, Segment, durable_in}
+use Rattle.rc_model.specs.Model.{ServerId, Entry, Member, Message, Config, least_told, durable_len, Segment, durable_in}
 use Rattle.rc_model.specs.Model.{LogPlace, has_segment, Master, all_shut_to, is_stored_on_all, In}
 use Rattle.rc_step_laws.specs.All.{log_in, HasTold, IsOpened, IsSafe, GoodMaster, OwnFine}
 use Rattle.rc_step_laws.proofs.Lists.{get-below}
 use Rattle.rc_step_laws.proofs.MasterTold.{has-opened}
 use Rattle.rc_step_laws.proofs.Safe.{durable_len-tells, covered-safe}
 use Rattle.rc_step_laws.proofs.MasterSteps.{view-of}
-use Rattle.rc_model.proofs.Tests.{either}
 
 -- each of these segments is shut
 pub all_shut-each : (segments : ℕ → Segment) (n : ℕ) {t : ℕ} → all_shut_to segments n ≡ true → 0 < t → t ≤ n → (segments t).shut ≡ true
@@ -31,9 +30,7 @@ some-member [] less = absurd (omega arith)
 some-member (member ∷ members) less = (member, inl refl)
 
 durable_len-least : {o : ℕ} (config : Config) → o < durable_len config → o < least_told config.members
-durable_len-least {o} config less =
-    either (λ len. o < len → o < least_told config.members) (config.committed && not (any_lost config.members))
-    (least_told config.members) 0 (λ e below. below) (λ e below. absurd (omega arith)) less
+durable_len-least {o} config less = search arith
 
 -- below the durable length a member has told more
 pub stored-told : {sent : List Message} {m : ServerId} {master : Master} {s o : ℕ} → GoodMaster sent m master →
@@ -52,11 +49,7 @@ stored-within : {sent : List Message} {m : ServerId} {master : Master} (s : ℕ)
 stored-within {sent} {m} {master} s {o} good fine less = by (stored-told good less)
   where
     by : (x : ServerId) × HasTold sent x m s (master.log.segments s).config.epoch o → o < length (log_in master.log s)
-    by (x, one) =
-        let within : one.len ≤ length (log_in master.log s) =
-        (fine.told x s (master.log.segments s).config.epoch one.len one.closed one.told).within in
-        let above : o < one.len = one.above in
-        omega arith
+    by (x, one) = search arith
 
 pub stored-safe : {sent : List Message} {m : ServerId} {master : Master} {s o : ℕ} → GoodMaster sent m master →
     OwnFine sent m master.log → is_stored_on_all master.log s o ≡ true → IsSafe sent m master.log s o

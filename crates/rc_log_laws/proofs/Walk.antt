@@ -1,17 +1,18 @@
 -- A walk over the rules of a master: each keeps what holds of its freed segments, and one alone frees any.
-use Rattle.std.proofs.Common.{◌≡◌, ◌⊎◌, ℕ, ◌-◌, Bool, true, false, List, [], ◌∷◌, ◌++◌, filter, length, Some, refl}
-use Rattle.std.proofs.Common.{sym, ap, ◌∙◌, subst, inl, inr}
+use Rattle.std.proofs.Common.{arith}
+use Rattle.std.proofs.Common.{◌≡◌, ◌⊎◌, ℕ, Bool, true, false, List, [], ◌∷◌, ◌++◌, length, Some, refl}
+use Rattle.std.proofs.Common.{sym, ap, subst, inl, inr}
 use Rattle.std.proofs.lemmas.List.{append-nil, append_assoc}
-use Rattle.rc_model.specs.Model.{Addr, Entry, Message, Body, Append, Close, Log, head_of, old_head_of, durable_now, opens_head, appends}
-use Rattle.rc_model.specs.Model.{next_digest, loses, left_out, may_write, starts, closes_old, writes_on, stored, commit_noted, Master}
-use Rattle.rc_model.specs.Model.{with_log, ids_of, not_lost, place_of, appends_entry, dead_segments, places_head, close_marked}
-use Rattle.rc_model.specs.Model.{frees_segments, write_oks, new_durable, commits, reminds, master_takes, master_ticks, is_unclosed}
-use Rattle.rc_model.specs.Model.{with_closes_sent, with_entry, In}
+use Rattle.rc_model.specs.Model.{Addr, Entry, Message, Body, Append, Log, head_of, durable_now, appends}
+use Rattle.rc_model.specs.Model.{left_out, may_write, writes_on, Master}
+use Rattle.rc_model.specs.Model.{with_log, ids_of, not_lost, place_of, appends_entry, dead_segments, places_head}
+use Rattle.rc_model.specs.Model.{frees_segments, master_takes, master_ticks}
+use Rattle.rc_model.specs.Model.{with_entry, In}
 use Rattle.rc_model.proofs.Members.{In-left, In-right, In-append}
 use Rattle.rc_model.proofs.Walk.{Joined, Listed, Rolls, Taken, Ticked, Followed, kept-takes, kept-ticks}
 use Rattle.rc_model.proofs.Sending.{each-map, each-write_oks, each-reminds}
-use Rattle.rc_log_laws.specs.Freed.{IsLeftOut, GoodFrees, freed_by, freed_in}
-use Rattle.rc_log_laws.proofs.Silent.{Silent, Frees, silent-none, silent-ids, silent-all, freed-append, freed-segments}
+use Rattle.rc_log_laws.specs.Freed.{GoodFrees, freed_by, freed_in}
+use Rattle.rc_log_laws.proofs.Silent.{Silent, silent-none, silent-ids, silent-all, freed-append, freed-segments}
 use Rattle.rc_log_laws.proofs.Stays.{Stays, fewer, stays-refl, stays-put, stays-stored, stays-commit_noted, stays-loses, stays-starts}
 use Rattle.rc_log_laws.proofs.Stays.{stays-closes, stays-first_opened, stays-next_opened, writes-leave_out}
 use Rattle.rc_step_laws.proofs.Rolling.{writing-is}
@@ -21,19 +22,11 @@ pub record Moves (old : Master) (after : Master × List Message) : Type 0 where
   pub keeps : (freed : List ℕ) → GoodFrees freed old.log → GoodFrees (freed ++ freed_in after.1) after.0.log
 
 quiet : {old new : Master} {messages : List Message} → Stays old.log new.log → Silent messages → Moves old (new, messages)
-quiet {new} stays silent = record {
-  keeps = λ freed good. subst (λ (more : List ℕ). GoodFrees (freed ++ more) new.log) (sym silent)
-      (subst (λ (all : List ℕ). GoodFrees all new.log) (sym (append-nil freed)) (stays freed good));
-}
+quiet {new} stays silent = search (arith, append-nil)
 
 both : (a b : Master) (first : List Message) (after : Master × List Message) → Moves a (b, first) → Moves b after →
     Moves a (after.0, first ++ after.1)
-both a b first after p q = record {
-  keeps = λ freed good.
-      subst (λ (all : List ℕ). GoodFrees all after.0.log) (append_assoc freed (freed_in first) (freed_in after.1) ∙
-      ap (λ (some : List ℕ). freed ++ some) (sym (freed-append first after.1)))
-      (q.keeps (freed ++ freed_in first) (p.keeps freed good));
-}
+both a b first after p q = search (arith, append_assoc, freed-append)
 
 moves-joined : Joined Moves
 moves-joined = record { still = λ master. quiet (stays-refl) silent-none; both = both }
@@ -63,35 +56,23 @@ moves-appends {master} entry client same = quiet (subst (λ log. Stays log (appe
     (Append master.log.head (length (head_of master.log).entries) (entry ∷ [])) refl)
 
 moves-taken : {master : Master} {from : Addr} {body : Body} → Taken Moves master from body
-moves-taken {master} = record {
-  refuses = λ one fault. says (stays-refl) refl;
-  rolls = moves-rolls master;
-  writes = λ term table key value is owned writing room. moves-appends _ true refl;
-  reads = λ term table key is owned. says (stays-refl) refl;
-  lists = λ version rows is newer. quiet (stays-refl) silent-none;
-  stores = λ teller seg epoch len closed is told. quiet (stays-stored seg teller epoch len closed) silent-none;
-  commits = λ seg epoch is. quiet (stays-commit_noted seg epoch) silent-none;
-  deposes = quiet (stays-refl) silent-none;
-  begins = λ one attempt crashed head rows parts part is at new. quiet (stays-refl)
-      (silent-all _ (each-map Frees _ rows (λ row _. refl)));
-  comes = λ holder attempt seg term entries is says. quiet (stays-refl) silent-none;
-  owns = λ range term previous attempt is. quiet (stays-refl) silent-none;
-}
+moves-taken {master} =
+    search (
+      arith,
+      says,
+      stays-refl,
+      moves-rolls,
+      moves-appends,
+      quiet,
+      silent-none,
+      stays-stored,
+      stays-commit_noted,
+      silent-all,
+      each-map,
+    )
 
 moves-ticked : Ticked Moves
-moves-ticked = record {
-  enlists = λ master. says (stays-refl) refl;
-  reminds = λ before master. quiet (stays-refl)
-      (silent-all _ (each-reminds Frees before master (record {
-        place = λ member seg closed at shut among. refl;
-        append = λ member seg len at. refl;
-        close = λ member seg at old. refl;
-      }) (λ seg awaits. refl) (record {
-        fetch = λ task row given among. refl;
-        recovered = λ state among awaits. refl;
-        ready = refl;
-      })));
-}
+moves-ticked = search (arith, says, stays-refl, quiet, silent-all, each-reminds)
 
 -- a master frees only where its new head writes
 moves-shuts : (master : Master) → may_write master.log ≡ true →
@@ -108,36 +89,27 @@ moves-shuts master may = record {
     by s freed (inr is) = In-right s freed (left_out master.log) (freed-segments master.log (left_out master.log) s is)
 
 moves-counts : {log : Log} → Stays log (record log { durable = durable_now log })
-moves-counts {log} freed good = record {
-  left_out = λ s at. out s (good.left_out s at);
-  old_shut = good.old_shut;
-  writing_shut = good.writing_shut;
-  digests = good.digests;
-}
-  where
-    out : (s : ℕ) → IsLeftOut log s → IsLeftOut (record log { durable = durable_now log }) s
-    out s is = record { head = is.head; upto = is.upto; below = is.below; shut = is.shut; lacks = is.lacks }
+moves-counts {log} freed good = search arith
 
 moves-followed : Followed Moves
-moves-followed = record {
-  marks = λ master is. quiet
-      (stays-put (master.log.head - 1) (record (old_head_of master.log) { shut = true }) refl (λ _. refl)) silent-none;
-  starts = λ master may. says (stays-starts may) refl;
-  places = λ master may. quiet (stays-closes) silent-none;
-  closes = λ master due. quiet
-      (stays-put (master.log.head - 1) (with_closes_sent (old_head_of master.log)) refl (λ e. e))
-      (silent-ids master.log.own
-      (ids_of (filter (is_unclosed (old_head_of master.log)) (old_head_of master.log).config.members))
-      (Close (master.log.head - 1) (length (old_head_of master.log).entries)) refl);
-  shuts = moves-shuts;
-  commits = λ master seg open_one wants. says
-      (stays-put seg (record (master.log.segments seg) { commit_sent = true }) refl (λ e. e)) refl;
-  counts = λ master more. quiet (moves-counts)
-      (silent-all _ (each-write_oks Frees master.log.own (new_durable master.log) (λ place _ _. refl)));
-  rolls = moves-rolls;
-  replays = λ master entry entries is writing room. moves-appends entry false refl;
-  answers = λ master term is. says (stays-refl) refl;
-}
+moves-followed =
+    search (
+      arith,
+      quiet,
+      stays-put,
+      silent-none,
+      says,
+      stays-starts,
+      stays-closes,
+      silent-ids,
+      moves-shuts,
+      moves-counts,
+      silent-all,
+      each-write_oks,
+      moves-rolls,
+      moves-appends,
+      stays-refl,
+    )
 
 -- Whole steps
 

@@ -51,12 +51,7 @@ pub host_later-refl : (host : HostNode) → HostLater host host
 host_later-refl host = record { generation = omega arith; held = λ same m. held_later-refl }
 
 pub coordinator_later-refl : (c : Coordinator) → CoordinatorLater c c
-coordinator_later-refl c = record {
-  attempts = λ number attempt numbered. attempt_later-refl numbered;
-  crashed = (kept-refl {c = c}).crashed;
-  least = (kept-refl {c = c}).least;
-  least_stays = (kept-refl {c = c}).least_stays;
-}
+coordinator_later-refl c = search (arith, attempt_later-refl, kept-refl)
 
 -- a host that doesn't move, of which nothing new is told
 pub host-still : {sent : List Message} {masters : ServerId → Master} {hosts : ℕ → HostNode} {c : Coordinator}

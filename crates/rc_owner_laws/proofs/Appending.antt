@@ -1,10 +1,10 @@
 -- More places are durable, and an entry is appended: a client's, or the first that waits.
-use Rattle.std.proofs.Common.{◌≡◌, ◌⊎◌, ℕ, ◌+◌, ◌<◌, ◌≤◌, Bool, true, false, ◌&&◌, List, [], ◌∷◌, ◌++◌, length, map, take, nat_eq, find}
+use Rattle.std.proofs.Common.{◌≡◌, ◌⊎◌, ℕ, ◌<◌, ◌≤◌, Bool, true, false, List, [], ◌∷◌, ◌++◌, take, nat_eq, find}
 use Rattle.std.proofs.Common.{Option, Some, None, option_map, refl, sym, ap, ◌∙◌, subst, inl, inr, arith}
 use Rattle.std.proofs.lemmas.Bool.{eqb-true, eq-eqb, and_from}
 use Rattle.std.proofs.lemmas.List.{append_assoc, length-append, length-map}
 use Rattle.rc_model.specs.Model.{ServerId, Entry, GrantedRange, Message, LogPlace, PartState, Ownership, in_range, term_of, owns_term}
-use Rattle.rc_model.specs.Model.{has_part, knows_term, under_term, count_under, is_of, greatest_version, next_version, Task, In}
+use Rattle.rc_model.specs.Model.{has_part, knows_term, count_under, is_of, greatest_version, next_version, Task, In}
 use Rattle.rc_model.proofs.Members.{In-append, place_of}
 use Rattle.rc_model.proofs.Numbering.{greatest-above}
 use Rattle.rc_step_laws.specs.Words.{Begins}
@@ -46,22 +46,8 @@ good-durable {sent} {m} {v} {n} good less = record {
   where
     how : (state : PartState) (task : Task) → IsWaiting sent m v task state ⊎ HasJoined sent m v task state →
         IsWaiting sent m (with_durable n v) task state ⊎ HasJoined sent m (with_durable n v) task state
-    how state task (inl p) = inl
-        (record {
-          rows = p.rows;
-          some = p.some;
-          none_logged = p.none_logged;
-          none_waits = p.none_waits;
-          unowned = p.unowned;
-        })
-    how state task (inr p) = inr (record {
-      rows = p.rows;
-      entries = p.entries;
-      came = p.came;
-      size = p.size;
-      fresh = p.fresh;
-      owned = λ e. (let q = p.owned e in (q.0, q.1, let a = q.2 in let b = durable-more v state.part.term less in omega arith));
-    })
+    how state task (inl p) = search arith
+    how state task (inr p) = search (arith, durable-more)
 
 -- An entry is appended
 
@@ -77,11 +63,7 @@ under-place : (term : ℕ) (places : List LogPlace) (place : LogPlace) →
 under-place term places place = ap (under term) (logged-place places place) ∙ under-append term (logged places) (place.entry ∷ [])
 
 under-one-other : {term : ℕ} (entry : Entry) → (entry.term ≡ term → ⊥) → under term (entry ∷ []) ≡ []
-under-one-other {term} entry differs = under-none (entry ∷ []) none
-  where
-    none : (x : Entry) → (x ≡ entry) ⊎ ⊥ → x.term ≡ term → ⊥
-    none x (inl same) e = differs (ap (λ (one : Entry). one.term) (sym same) ∙ e)
-    none x (inr never) e = never
+under-one-other {term} entry differs = search (arith, under-none)
 
 under-place-other : {term : ℕ} (places : List LogPlace) (place : LogPlace) → (place.entry.term ≡ term → ⊥) →
     under term (logged (places ++ place ∷ [])) ≡ under term (logged places)
@@ -92,9 +74,7 @@ under-place-other {term} places place differs =
 
 durable-place : (v : PartView) (place : LogPlace) (term : ℕ) →
     durable_under term v ≤ count_under term (take v.durable (logged (v.places ++ place ∷ [])))
-durable-place v place term =
-    subst (λ entries. durable_under term v ≤ count_under term (take v.durable entries)) (sym (logged-place v.places place))
-    (count-grows term v.durable v.durable (logged v.places) (place.entry ∷ []) (omega arith))
+durable-place v place term = search (arith, logged-place, count-grows)
 
 begins-place : (term : ℕ) (places : List LogPlace) (place : LogPlace) (base : List Entry) →
     Begins base (under term (logged places)) → Begins base (under term (logged (places ++ place ∷ [])))
@@ -144,9 +124,7 @@ knows-part own term e = or-left (has_part own term) (owns_term own term) e
 
 pub is-of-true : {term table key : ℕ} (entry : Entry) → entry.term ≡ term → entry.table ≡ table → entry.key ≡ key →
     is_of term table key entry ≡ true
-is-of-true {term} {table} {key} entry a b c =
-    and_from (nat_eq entry.term term) (nat_eq entry.table table && nat_eq entry.key key) (eq-eqb entry.term term a)
-    (and_from (nat_eq entry.table table) (nat_eq entry.key key) (eq-eqb entry.table table b) (eq-eqb entry.key key c))
+is-of-true {term} {table} {key} entry a b c = search (arith, and_from, eq-eqb)
 
 pub good-client : {sent : List Message} {m : ServerId} {v : PartView} (place : LogPlace) → place.client ≡ true →
     GoodParts sent m v → OwnsPoint v.own place.entry.term place.entry.table place.entry.key →
@@ -180,26 +158,8 @@ good-client {sent} {m} {v} place is_client good owns numbered = record {
 
     how : (state : PartState) (task : Task) → IsWaiting sent m v task state ⊎ HasJoined sent m v task state →
         IsWaiting sent m (with_place place v) task state ⊎ HasJoined sent m (with_place place v) task state
-    how state task (inl p) = inl (record {
-      rows = p.rows;
-      some = p.some;
-      none_logged = under-place-other v.places place (other state p.unowned) ∙ p.none_logged;
-      none_waits = p.none_waits;
-      unowned = p.unowned;
-    })
-    how state task (inr p) = inr (record {
-      rows = p.rows;
-      entries = p.entries;
-      came = p.came;
-      size = p.size;
-      fresh = λ unowned. ap (λ l. l ++ under state.part.term v.own.replay)
-          (under-place-other v.places place (other state unowned)) ∙ p.fresh unowned;
-      owned = λ e. (let q = p.owned e in (
-        begins-place state.part.term v.places place (map (under_term state.part.term) p.entries) q.0,
-        q.1,
-        let a = q.2 in let b = durable-place v place state.part.term in omega arith,
-      ));
-    })
+    how state task (inl p) = search (arith, under-place-other, other)
+    how state task (inr p) = search (arith, under-place-other, other, owned, begins-place, durable-place)
 
     above : (entry : Entry) → In entry (logged v.places) → entry.term ≡ place.entry.term →
         entry.table ≡ place.entry.table → entry.key ≡ place.entry.key → entry.version < place.entry.version
@@ -214,12 +174,7 @@ good-client {sent} {m} {v} place is_client good owns numbered = record {
         IsWaiting sent m v task state ⊎ HasJoined sent m v task state →
         (state.rows ≡ []) × (state.size ≤ count_under place.entry.term (logged v.places))
     joined state task same (inl p) = absurd (other state p.unowned (sym same))
-    joined state task same (inr p) =
-        let q = p.owned (ap (owns_term v.own) same ∙ owned) in (
-          p.rows,
-          subst (λ t. state.size ≤ count_under t (logged v.places)) same
-              (let a = q.2 in let b = count-take state.part.term v.durable (logged v.places) in omega arith),
-        )
+    joined state task same (inr p) = search (arith, owned, count-take)
 
     which : (before after : List LogPlace) (one : LogPlace) → one.client ≡ true →
         IsLast v.places place before one after ⊎ IsBefore v.places place before one after →
@@ -234,17 +189,13 @@ good-client {sent} {m} {v} place is_client good owns numbered = record {
           rises = above;
           after = λ state at same. (let q = good.parts_are state at in joined state q.task same q.how);
         }))
-    which before after one client (inr p) =
-        let q = good.clients before p.rest one p.whole client in
-        record { grant = q.grant; among = q.among; term_is = q.term_is; holds = q.holds; rises = q.rises; after = q.after }
+    which before after one client (inr p) = search arith
 
     old_replay : (before after : List LogPlace) (one : LogPlace) → one.client ≡ false →
         IsLast v.places place before one after ⊎ IsBefore v.places place before one after →
         IsReplayed (with_place place v) before one.entry
     old_replay before after one client (inl p) = true_false (sym is_client ∙ (ap (λ (it : LogPlace). it.client) (sym p.is) ∙ client))
-    old_replay before after one client (inr p) =
-        let q = good.replays before p.rest one p.whole client in
-        record { state = q.state; among = q.among; term_is = q.term_is; rows = q.rows; first = q.first }
+    old_replay before after one client (inr p) = search arith
 
 -- The first that waits
 
@@ -257,12 +208,7 @@ both-none (x ∷ xs) e = cc
 
 under-none-one : {term : ℕ} (entry : Entry) (rest : List Entry) → under term (entry ∷ rest) ≡ [] →
     (entry.term ≡ term → ⊥) × (under term rest ≡ [])
-under-none-one {term} entry rest e =
-    let parts = both-none (under term (entry ∷ [])) (sym (under-append term (entry ∷ []) rest) ∙ e) in
-    (λ same. never (sym (under-here [] same) ∙ parts.0), parts.1)
-  where
-    never : entry ∷ [] ≡ [] → ⊥
-    never x = cc
+under-none-one {term} entry rest e = search (arith, both-none, under-append, under-here)
 
 pub good-replayed : {sent : List Message} {m : ServerId} {v : PartView} (place : LogPlace) {rest : List Entry} →
     GoodParts sent m v → v.own.replay ≡ place.entry ∷ rest → place.client ≡ false →
@@ -288,73 +234,27 @@ good-replayed {sent} {m} {v} place {rest} good waits unclient = record {
 
     how : (state : PartState) (task : Task) → IsWaiting sent m v task state ⊎ HasJoined sent m v task state →
         IsWaiting sent m (replayed place rest v) task state ⊎ HasJoined sent m (replayed place rest v) task state
-    how state task (inl p) =
-        let none = under-none-one place.entry rest (sym (ap (under state.part.term) waits) ∙ p.none_waits) in
-        inl (record {
-          rows = p.rows;
-          some = p.some;
-          none_logged = under-place-other v.places place none.0 ∙ p.none_logged;
-          none_waits = none.1;
-          unowned = p.unowned;
-        })
-    how state task (inr p) = inr (record {
-      rows = p.rows;
-      entries = p.entries;
-      came = p.came;
-      size = p.size;
-      fresh = λ unowned. ap (λ l. l ++ under state.part.term rest) (under-place state.part.term v.places place)
-          ∙ append_assoc (under state.part.term (logged v.places)) (under state.part.term (place.entry ∷ [])) (under state.part.term rest)
-          ∙ ap (λ l. under state.part.term (logged v.places) ++ l)
-          (sym (under-append state.part.term (place.entry ∷ []) rest) ∙ ap (under state.part.term) (sym waits))
-          ∙ p.fresh unowned;
-      owned = λ e. (let q = p.owned e in (
-        begins-place state.part.term v.places place (map (under_term state.part.term) p.entries) q.0,
-        (under-none-one place.entry rest (sym (ap (under state.part.term) waits) ∙ q.1)).1,
-        let a = q.2 in let b = durable-place v place state.part.term in omega arith,
-      ));
-    })
+    how state task (inl p) = search (arith, under-none-one, under-place-other)
+    how state task (inr p) =
+        search (arith, under-place, append_assoc, under-append, begins-place, under-none-one, durable-place)
 
     which : (before after : List LogPlace) (one : LogPlace) → one.client ≡ true →
         IsLast v.places place before one after ⊎ IsBefore v.places place before one after →
         IsClients (replayed place rest v) before one.entry
     which before after one client (inl p) = true_false (sym client ∙ (ap (λ (it : LogPlace). it.client) p.is ∙ unclient))
-    which before after one client (inr p) =
-        let q = good.clients before p.rest one p.whole client in
-        record { grant = q.grant; among = q.among; term_is = q.term_is; holds = q.holds; rises = q.rises; after = q.after }
+    which before after one client (inr p) = search arith
 
     -- the part of the entry that waited first
     first : (state : PartState) → In state v.own.parts → state.part.term ≡ place.entry.term → (task : Task) →
         IsWaiting sent m v task state ⊎ HasJoined sent m v task state →
         IsReplayed (replayed place rest v) v.places place.entry
-    first state at same task (inl p) =
-        absurd ((under-none-one place.entry rest (sym (ap (under state.part.term) waits) ∙
-        p.none_waits)).0 (sym same))
+    first state at same task (inl p) = search (arith, under-none-one)
     first state at same task (inr p) = by (owns_term v.own state.part.term) refl
       where
         by : (b : Bool) → owns_term v.own state.part.term ≡ b → IsReplayed (replayed place rest v) v.places place.entry
         by true owns = absurd ((under-none-one place.entry rest
             (sym (ap (under state.part.term) waits) ∙ (p.owned owns).1)).0 (sym same))
-        by false owns =
-            let whole : under state.part.term (logged v.places) ++ place.entry ∷ under state.part.term rest ≡ map
-            (under_term state.part.term) p.entries =
-            ap (λ l. under state.part.term (logged v.places) ++ l)
-            (sym (under-here rest (sym same)) ∙ ap (under state.part.term) (sym waits)) ∙ p.fresh owns in
-            let long : length (under state.part.term (logged v.places) ++ place.entry ∷ under state.part.term rest) ≡
-            length (under state.part.term (logged v.places)) + length (place.entry ∷ under state.part.term rest) =
-            length-append (under state.part.term (logged v.places)) (place.entry ∷ under state.part.term rest) in
-            let all : length (map (under_term state.part.term) p.entries) ≡ length p.entries =
-            length-map p.entries (under_term state.part.term) in
-            let size : state.size ≡ length p.entries = p.size in
-            let lengths : length (under state.part.term (logged v.places) ++ place.entry ∷ under state.part.term rest) ≡
-            length (map (under_term state.part.term) p.entries) = ap length whole in
-            let less : count_under state.part.term (logged v.places) < state.size = omega arith in
-            record {
-              state = state;
-              among = at;
-              term_is = same;
-              rows = p.rows;
-              first = subst (λ t. count_under t (logged v.places) < state.size) same less;
-            }
+        by false owns = search (arith, under-here, length-append, length-map)
 
     which_replay : (before after : List LogPlace) (one : LogPlace) → one.client ≡ false →
         IsLast v.places place before one after ⊎ IsBefore v.places place before one after →
@@ -366,6 +266,4 @@ good-replayed {sent} {m} {v} place {rest} good waits unclient = record {
         subst (λ (l : List LogPlace). IsReplayed (replayed place rest v) l one.entry) (sym p.before_is)
         (subst (λ (it : LogPlace). IsReplayed (replayed place rest v) v.places it.entry) (sym p.is)
         (first found.0 found.1 (eqb-true found.0.part.term place.entry.term found.2) q.task q.how))
-    which_replay before after one client (inr p) =
-        let q = good.replays before p.rest one p.whole client in
-        record { state = q.state; among = q.among; term_is = q.term_is; rows = q.rows; first = q.first }
+    which_replay before after one client (inr p) = search (arith, first)

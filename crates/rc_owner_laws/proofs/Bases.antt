@@ -2,8 +2,8 @@
 use Rattle.std.proofs.Common.{◌≡◌, ◌⊎◌, ℕ, ◌≤◌, Bool, true, false, List, ◌++◌, length, map, filter, take, drop}
 use Rattle.std.proofs.Common.{Some, refl, sym, ap, ◌∙◌, subst, inl, inr, arith}
 use Rattle.std.proofs.lemmas.List.{take-append-drop, length-map}
-use Rattle.rc_model.specs.Model.{ServerId, Addr, Server, Entry, Part, PlanRow, Grant, Message, between, to_coordinator, is_in_part}
-use Rattle.rc_model.specs.Model.{LogPlace, places_of, PartState, owns_term, under_term, count_under, Master, Task, Attempt, Decision}
+use Rattle.rc_model.specs.Model.{ServerId, Addr, Server, Entry, Part, PlanRow, Grant, Message, to_coordinator, is_in_part}
+use Rattle.rc_model.specs.Model.{places_of, PartState, owns_term, under_term, count_under, Master, Task, Attempt, Decision}
 use Rattle.rc_model.specs.Model.{GivenPart, HostNode, In, WasAccepted}
 use Rattle.rc_types.specs.declared.messages.Body.TheVariants as body
 use Rattle.rc_model.specs.Coordinator.{Coordinator}
@@ -14,9 +14,8 @@ use Rattle.rc_step_laws.proofs.Places.{IsOf, places_to-are, place-logged}
 use Rattle.rc_model.proofs.Ascending.{IsAscending}
 use Rattle.rc_owner_laws.specs.Grants.{IsDecided, IsPlanOf, own_said}
 use Rattle.rc_owner_laws.specs.Terms.{IsGivenBy}
-use Rattle.rc_owner_laws.specs.Data.{IsCut}
 use Rattle.rc_owner_laws.specs.Parts.{part_view, logged, under, durable_under, HasSent, WasPlanned, IsWaiting, HasJoined, IsPart}
-use Rattle.rc_owner_laws.specs.PartMoves.{HasEnded, HasFetched}
+use Rattle.rc_owner_laws.specs.PartMoves.{HasEnded}
 use Rattle.rc_owner_laws.proofs.PartLists.{under-append, under-In, begins-within, nothing-more}
 use Rattle.rc_owner_laws.specs.Worlds.{AllHold}
 use Rattle.rc_owner_laws.specs.Words.{IsSafelyLogged}
@@ -29,11 +28,7 @@ cut_of masters task row = filter (is_in_part task.part) (take row.len (log_in (m
 
 pub decided-same : {attempts : List Attempt} {number : ℕ} {m k : ServerId} {one other : Decision} →
     IsDecided attempts number m one → IsDecided attempts number k other → (m ≡ k) × (one ≡ other)
-decided-same {one} {other} p q =
-    let same : p.attempt ≡ q.attempt = numbered-same p.numbered q.numbered in
-    let first : p.attempt.decided ≡ Some one = p.decided in
-    let second : p.attempt.decided ≡ Some other = ap (λ (a : Attempt). a.decided) same ∙ q.decided in
-    (sym p.master_is ∙ ap (λ (a : Attempt). a.master) same ∙ q.master_is, cc)
+decided-same {one} {other} p q = search (arith, numbered-same)
 
 -- a task is of a decision that was sent
 pub record IsTaskOf (sent : List Message) (c : Coordinator) (x : ServerId) (task : Task) : Type 0 where
@@ -105,38 +100,7 @@ module _ (sent : List Message) (masters : ServerId → Master) (hosts : ℕ → 
   pub row-cut : (x : ServerId) (task : Task) (row : PlanRow) (entries : List Entry) → In task (masters x).tasks →
       In row task.rows → HasSent sent x row.holder task.part.term row.seg entries →
       (entries ≡ cut_of masters task row) × (row.len ≤ length (log_in (masters task.master).log row.seg))
-  row-cut x task row entries at there was = (
-    cut.entries_are ∙ same_cut,
-    subst (λ n. n ≤ length (log_in (masters task.master).log row.seg)) len_is
-        (subst (λ m. cut.len ≤ length (log_in (masters m).log row.seg)) master_is cut.within),
-  )
-    where
-      cut : IsCut sent masters row.holder x was.attempt row.seg task.part.term entries
-      cut = all.cuts (between row.holder x (body.Data was.attempt row.seg task.part.term entries)) was.among
-
-      asked : HasFetched (part_view (masters x)) (Server row.holder) was.attempt cut.master row.seg cut.len cut.part
-      asked = all.parts.said (between x row.holder (body.Fetch was.attempt cut.master row.seg cut.len cut.part)) cut.asked
-
-      same : SameTask task asked.task
-      same = same-task x task asked.task at asked.among (ap (λ (part : Part). part.term) asked.part_is ∙ cut.term_is)
-
-      row_same : asked.row ≡ row
-      row_same = one-row task.rows asked.row row (task-ascends x task at)
-          (subst (In asked.row) same.rows asked.row_among) there asked.seg_is
-
-      len_is : cut.len ≡ row.len
-      len_is = sym asked.len_is ∙ ap (λ (one : PlanRow). one.len) row_same
-
-      master_is : cut.master ≡ task.master
-      master_is = sym asked.master_is ∙ same.master
-
-      part_is : cut.part ≡ task.part
-      part_is = sym asked.part_is ∙ same.part
-
-      same_cut : filter (is_in_part cut.part) (take cut.len (log_in (masters cut.master).log row.seg)) ≡ cut_of masters task row
-      same_cut = ap (λ part. filter (is_in_part part) (take cut.len (log_in (masters cut.master).log row.seg))) part_is
-          ∙ ap (λ n. filter (is_in_part task.part) (take n (log_in (masters cut.master).log row.seg))) len_is
-          ∙ ap (λ m. filter (is_in_part task.part) (take row.len (log_in (masters m).log row.seg))) master_is
+  row-cut x task row entries at there was = search (arith, same-task, one-row, task-ascends)
 
   -- The base of a grant
 

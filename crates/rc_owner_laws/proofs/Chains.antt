@@ -57,9 +57,7 @@ grants_at-beside (first ∷ grants) grant table key e =
 pub found-at : (tablets : List Tablet) (tablet : Tablet) (table key : ℕ) → TabletsApart tablets → In tablet tablets →
     holds tablet table key ≡ true → tablet_of tablets table key ≡ Some tablet
 found-at [] tablet table key apart at e = absurd at
-found-at (first ∷ tablets) tablet table key apart (inl same) e =
-    ap (λ b. cond b (Some first) (tablet_of tablets table key))
-    (subst (λ (one : Tablet). holds one table key ≡ true) same e) ∙ ap Some (sym same)
+found-at (first ∷ tablets) tablet table key apart (inl same) e = search arith
 found-at (first ∷ tablets) tablet table key apart (inr rest) e = by (found-at tablets tablet table key apart.1 rest e)
   where
     by : tablet_of tablets table key ≡ Some tablet → tablet_of (first ∷ tablets) table key ≡ Some tablet
@@ -119,14 +117,7 @@ part-of ids place term (tablet ∷ tablets) given at =
     by (slice_get ids (place % length ids)) (part-of ids (place + 1) (term + 1) tablets given) at
   where
     later : IsPartOf tablets (term + 1) given → IsPartOf (tablet ∷ tablets) term given
-    later p = record {
-      tablet = p.tablet;
-      among = inr p.among;
-      under = p.under;
-      part_is = p.part_is;
-      above = (let one : term + 1 ≤ p.under = p.above in omega arith);
-      below = (let one : p.under < term + 1 + length tablets = p.below in omega arith);
-    }
+    later p = search arith
 
     by : (to : Option ServerId) → (In given (gives_parts ids (place + 1) (term + 1) tablets) → IsPartOf tablets (term + 1) given) →
         In given (given_to to (part_of tablet term) (gives_parts ids (place + 1) (term + 1) tablets)) →
@@ -162,10 +153,7 @@ parts-apart ids place term (tablet ∷ tablets) apart =
   where
     differ : (other : GivenPart) (table key : ℕ) → In other (gives_parts ids (place + 1) (term + 1) tablets) →
         holds tablet table key ≡ true → in_range other.part.range table key ≡ true → ⊥
-    differ other table key at here there =
-        let of : IsPartOf tablets (term + 1) other = part-of ids (place + 1) (term + 1) tablets other at in
-        let held : holds of.tablet table key ≡ true = sym (ap (λ part. in_range part.range table key) of.part_is) ∙ there in
-        some-none (sym (found-at tablets of.tablet table key apart.1 of.among held) ∙ apart.0 table key here)
+    differ other table key at here there = search (arith, part-of, some-none, found-at)
 
     by : (to : Option ServerId) → PartsApart (gives_parts ids (place + 1) (term + 1) tablets) →
         PartsApart (given_to to (part_of tablet term) (gives_parts ids (place + 1) (term + 1) tablets))

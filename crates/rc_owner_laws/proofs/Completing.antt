@@ -4,7 +4,7 @@ use Rattle.std.proofs.Common.{take, drop, filter, not, cond, ◌+◌, append_ass
 use Rattle.std.proofs.lemmas.Bool.{eqb-true, leb-true, le-leb}
 use Rattle.std.proofs.lemmas.List.{take-append-drop, length-map}
 use Rattle.rc_model.specs.Model.{ServerId, Entry, Message, PartRow, PartState, owns_term, under_term, count_under, LogPlace, replayed_at}
-use Rattle.rc_model.specs.Model.{Master, durable_entries, durable_replayed, replay}
+use Rattle.rc_model.specs.Model.{Master, durable_entries, durable_replayed}
 use Rattle.rc_step_laws.specs.Words.{Begins}
 use Rattle.rc_step_laws.proofs.Lists.{begins-length, begins-refl, begins-trans}
 use Rattle.rc_step_laws.proofs.Replicas.{begins-whole}
@@ -156,14 +156,7 @@ with-joined {sent} {m} {master} {state} part joined none late =
     own = map (under_term state.part.term) joined.entries
 
     are : AreItsOwn sent m master state own
-    are = record {
-      task = part.task;
-      among = part.among;
-      part_is = part.part_is;
-      entries = joined.entries;
-      came = joined.came;
-      own_are = refl;
-    }
+    are = search arith
 
     by : (owned : Bool) → owns_term master.ownership state.part.term ≡ owned →
         length own ≤ length (under state.part.term (durable_entries master)) →

@@ -2,8 +2,8 @@
 use Rattle.std.proofs.Common.{◌≡◌, ◌⊎◌, ℕ, zero, suc, ◌≤◌, List, [], ◌∷◌, ◌++◌, length, filter, take, nat_le, Option}
 use Rattle.std.proofs.Common.{Some, None, refl, sym, ap, ◌∙◌, subst, inl, inr, arith}
 use Rattle.std.proofs.lemmas.Bool.{leb-true}
-use Rattle.rc_model.specs.Model.{ServerId, Addr, Server, Outside, Entry, Part, Message, Body, between, to_coordinator, Replica, Backup}
-use Rattle.rc_model.specs.Model.{replica_of, replica_after, is_refused, keeps, stores, stored_of, fences, rows_of_replicas, is_in_part}
+use Rattle.rc_model.specs.Model.{ServerId, Addr, Server, Outside, Entry, Part, Message, Body, between, Replica, Backup}
+use Rattle.rc_model.specs.Model.{replica_of, keeps, stores, fences, is_in_part}
 use Rattle.rc_model.specs.Model.{data_of, answers_fetch, backup_takes, Master, In}
 use Rattle.rc_types.specs.declared.ids.Addr.TheVariants.{Coordinator as AtCoordinator}
 use Rattle.rc_types.specs.declared.messages.Body.TheVariants as body
@@ -93,10 +93,7 @@ module _ (sent : List Message) (masters : ServerId → Master) (index generation
   keeps-fine m seg (Some replica) = one tt
 
   stores-fine : (m : ServerId) (seg : ℕ) (says : Body) → AllFine (stores backup m seg says).1
-  stores-fine m seg says =
-      either (λ (after : Backup × List Message). AllFine after.1) (is_refused seg (backup.held m)) (backup, [])
-      (keeps backup m seg (replica_after (replica_of seg (backup.held m).replicas) says))
-      (λ _. none) (λ _. keeps-fine m seg (replica_after (replica_of seg (backup.held m).replicas) says))
+  stores-fine m seg says = search (arith, none, keeps-fine)
 
   -- the answer to a Fetch
   module _ (asker m : ServerId) (attempt seg len : ℕ) (part : Part)
@@ -122,15 +119,7 @@ module _ (sent : List Message) (masters : ServerId → Master) (index generation
 
         cut : len ≤ length replica.entries → IsCut sent masters backup.own asker attempt seg part.term
             (filter (is_in_part part) (take len replica.entries))
-        cut long = record {
-          master = m;
-          len = len;
-          part = part;
-          asked = asked;
-          term_is = refl;
-          within = (let b = begins-length replica.entries (log_in (masters m).log seg) good.begins in omega arith);
-          entries_are = ap (filter (is_in_part part)) (sym (take-begins replica.entries good.begins long));
-        }
+        cut long = search (arith, begins-length, good, take-begins)
 
         by : len ≤ length replica.entries →
             (says ≡ body.Data attempt seg part.term (filter (is_in_part part) (take len replica.entries))) ⊎ ⊥ →

@@ -1,4 +1,5 @@
 -- What holds of data holds of every world that a list of events leads to.
+use Rattle.std.proofs.Common.{arith}
 use Rattle.std.proofs.Common.{◌≡◌, ◌⊎◌, ℕ, true, List, [], ◌∷◌, ◌++◌, Option, Some, None, refl, sym, subst, inl, inr}
 use Rattle.std.proofs.lemmas.Bool.{and_parts}
 use Rattle.rc_model.specs.Model.{ServerId, Addr, Server, Setup, Event, Message, Body, Log, Master, master_takes, master_ticks, NodeWork}
@@ -44,10 +45,7 @@ fine-none : (world : World) → AllFine world []
 fine-none world message at = absurd at
 
 fine-outside : (world : World) (work : NodeWork) → outside_can work ≡ true → AllFine world (outside_sends work)
-fine-outside world (Ask to asked) can message (inl same) =
-    subst (λ (one : Message). data_fine world.sent world.masters one.from one.to one.body) (sym same)
-    (no-data-fine world.sent world.masters Rattle.rc_types.specs.declared.ids.Addr.TheVariants.Outside (Server to) asked
-    (by_clients asked (and_parts (is_for_clients asked) _ can).0))
+fine-outside world (Ask to asked) can message (inl same) = search (arith, no-data-fine, by_clients, and_parts)
 fine-outside world (Ask to asked) can message (inr never) = absurd never
 fine-outside world _ can message at = absurd at
 

@@ -1,13 +1,13 @@
 -- Attempts, answers and decisions: what is decided after one of them, and what the messages say that tell it.
-use Rattle.std.proofs.Common.{◌≡◌, ◌⊎◌, ℕ, ◌+◌, ◌-◌, ◌<◌, Bool, true, false, cond, List, [], ◌∷◌, ◌++◌, length, find, slice_get}
-use Rattle.std.proofs.Common.{◌&&◌, slice_set, Some, None, refl, sym, ap, ◌∙◌, subst, inl, inr, arith, nat_eq, Option}
+use Rattle.std.proofs.Common.{◌≡◌, ◌⊎◌, ℕ, ◌+◌, ◌-◌, Bool, true, false, cond, List, [], ◌∷◌, ◌++◌, length, find}
+use Rattle.std.proofs.Common.{slice_set, Some, None, refl, sym, ap, ◌∙◌, inl, inr, arith, nat_eq, Option}
 use Rattle.std.proofs.Common.{option_and_then}
 use Rattle.rc_model.specs.Model.{ServerId, Row, Part, Message, put_id, same_id, Attempt, Decision, GivenPart}
 use Rattle.rc_model.specs.Model.{from_coordinator, new_attempt, parts_of, begins_attempt, with_answer, In}
-use Rattle.rc_model.specs.Model.{Grant, part_in, is_current, grant_to, is_grant_to}
+use Rattle.rc_model.specs.Model.{Grant, part_in, is_current, grant_to}
 use Rattle.rc_types.specs.declared.messages.Body.TheVariants.{Plan as PlanBody}
 use Rattle.rc_model.specs.Coordinator.{Coordinator}
-use Rattle.rc_model.proofs.Members.{In-get, In-left}
+use Rattle.rc_model.proofs.Members.{In-left}
 use Rattle.rc_model.proofs.Sending.{Each}
 use Rattle.rc_step_laws.proofs.Lists.{get-append, get-within, get-set}
 use Rattle.rc_owner_laws.specs.Grants.{IsDecided, GoodGrants, own_said, IsGiven}
@@ -42,10 +42,7 @@ given-in id (first ∷ parts) part at = by (same_id id first.to) refl (given-in 
     by : (b : Bool) → same_id id first.to ≡ b → (In part (parts_of id parts) → In (record { to = id; part = part }) parts) →
         In part (cond b (first.part ∷ parts_of id parts) (parts_of id parts)) →
         (gives id part ≡ first) ⊎ In (record { to = id; part = part }) parts
-    by true e rec (inl same) = inl (both (same_id-true id first.to e) same)
-      where
-        both : id ≡ first.to → part ≡ first.part → gives id part ≡ first
-        both p q j = record { to = p j; part = q j }
+    by true e rec (inl same) = search (arith, same_id-true)
     by true e rec (inr rest) = inr (rec rest)
     by false e rec rest = inr (rec rest)
 
@@ -71,55 +68,13 @@ pub plan-said : {c : Coordinator} {number : ℕ} {master : ServerId} {decision :
     IsDecided c.attempts number master decision → (id : ServerId) (part : Part) (parts : List Part) →
     parts_of id decision.parts ≡ part ∷ parts →
     OwnSaid c (from_coordinator id (PlanBody decision.plan.head number master decision.plan.rows (part ∷ parts)))
-plan-said {decision} decided id part parts are = record {
-  id = id;
-  to_is = refl;
-  decision = decision;
-  decided = decided;
-  rows_are = refl;
-  given = λ some at. given-in id decision.parts some (subst (In some) (sym are) at);
-}
+plan-said {decision} decided id part parts are = search (arith, given-in)
 
 -- what is decided once an attempt has begun was decided before, and in a current attempt only if it was current
 pub begun-decided : (c : Coordinator) (master : ServerId) (number : ℕ) (other : ServerId) (decision : Decision) →
     IsDecided (c.attempts ++ new_attempt master ∷ []) number other decision →
     IsDecided c.attempts number other decision × (put_id c.current master (length c.attempts + 1) other ≡ number → c.current other ≡ number)
-begun-decided c master number other decision decided =
-    old (get-append c.attempts (new_attempt master ∷ []) decided.numbered.place
-    decided.numbered.attempt_is)
-  where
-    undecided : (j : ℕ) (attempt : Attempt) (decision : Decision) →
-        slice_get (new_attempt master ∷ []) j ≡ Some attempt → attempt.decided ≡ Some decision → ⊥
-    undecided j attempt decision e has = new (In-get (new_attempt master ∷ []) j attempt e)
-      where
-        new : (attempt ≡ new_attempt master) ⊎ ⊥ → ⊥
-        new (inl same) = some-none (sym has ∙ ap (λ (one : Attempt). one.decided) same)
-        new (inr never) = never
-
-    current : number < length c.attempts + 1 → put_id c.current master (length c.attempts + 1) other ≡ number → c.current other ≡ number
-    current below =
-        put_id_each (λ (k : ServerId) (n : ℕ). n ≡ number → c.current k ≡ number) c.current master (length c.attempts + 1)
-        (λ e. absurd (never e)) (λ k e. e) other
-      where
-        never : length c.attempts + 1 ≡ number → ⊥
-        never e = omega (arith, e, below)
-
-    old : (slice_get c.attempts decided.numbered.place ≡ Some decided.attempt) ⊎
-        ((j : ℕ) × (decided.numbered.place ≡ length c.attempts + j) ×
-        (slice_get (new_attempt master ∷ []) j ≡ Some decided.attempt)) →
-        IsDecided c.attempts number other decision × (put_id c.current master (length c.attempts + 1) other ≡ number →
-        c.current other ≡ number)
-    old (inl there) = (
-      record {
-        attempt = decided.attempt;
-        numbered = record { place = decided.numbered.place; number_is = decided.numbered.number_is; attempt_is = there };
-        master_is = decided.master_is;
-        decided = decided.decided;
-      },
-      current (let below : decided.numbered.place < length c.attempts = get-within c.attempts decided.numbered.place there in
-          let is : number ≡ decided.numbered.place + 1 = decided.numbered.number_is in omega (arith, below, is)),
-    )
-    old (inr (j, p, q)) = absurd (undecided j decided.attempt decision q decided.decided)
+begun-decided c master number other decision decided = search (arith, get-append, some-none, put_id_each, get-within)
 
 -- an attempt begins
 pub begun-good : {c : Coordinator} → GoodGrants c → (master : ServerId) → GoodGrants (begins_attempt c master).0
@@ -131,44 +86,14 @@ pub answered-decided : (c : Coordinator) (from : ServerId) (number : ℕ) (rows 
     IsDecided (slice_set c.attempts (number - 1) (with_answer from rows attempt)) other master decision →
     IsDecided c.attempts other master decision
 answered-decided c from number rows attempt undecided other master decision decided =
-    by (get-set c.attempts (number - 1) decided.numbered.place decided.numbered.attempt_is)
-  where
-    by : (slice_get c.attempts decided.numbered.place ≡ Some decided.attempt) ⊎
-        ((decided.numbered.place ≡ number - 1) × (decided.attempt ≡ with_answer from rows attempt)) →
-        IsDecided c.attempts other master decision
-    by (inl there) = record {
-      attempt = decided.attempt;
-      numbered = record { place = decided.numbered.place; number_is = decided.numbered.number_is; attempt_is = there };
-      master_is = decided.master_is;
-      decided = decided.decided;
-    }
-    by (inr (p, q)) = some-none (sym decided.decided ∙ (ap (λ (one : Attempt). one.decided) q ∙ undecided))
+    search (arith, get-set, some-none)
 
 -- what is decided once this attempt is decided was decided before, or is this decision
 pub newly-decided : (c : Coordinator) (number : ℕ) (attempt : Attempt) {new : Decision} (other : ℕ) (master : ServerId)
     (decision : Decision) →
     IsDecided (slice_set c.attempts (number - 1) (record attempt { decided = Some new })) other master decision →
     IsDecided c.attempts other master decision ⊎ ((master ≡ attempt.master) × (decision ≡ new))
-newly-decided c number attempt {new} other master decision decided =
-    by (get-set c.attempts (number - 1) decided.numbered.place
-    decided.numbered.attempt_is)
-  where
-    by : (slice_get c.attempts decided.numbered.place ≡ Some decided.attempt) ⊎
-        ((decided.numbered.place ≡ number - 1) × (decided.attempt ≡ record attempt { decided = Some new })) →
-        IsDecided c.attempts other master decision ⊎ ((master ≡ attempt.master) × (decision ≡ new))
-    by (inl there) = inl (record {
-      attempt = decided.attempt;
-      numbered = record { place = decided.numbered.place; number_is = decided.numbered.number_is; attempt_is = there };
-      master_is = decided.master_is;
-      decided = decided.decided;
-    })
-    by (inr (p, q)) = inr (
-      sym decided.master_is ∙ ap (λ (one : Attempt). one.master) q,
-      same (sym decided.decided ∙ ap (λ (one : Attempt). one.decided) q),
-    )
-      where
-        same : Some decision ≡ Some new → decision ≡ new
-        same e = cc
+newly-decided c number attempt {new} other master decision decided = search (arith, get-set)
 
 -- Whose part it is
 
@@ -218,11 +143,4 @@ module _ (c : Coordinator) where
 
   pub senders-open : {id : ServerId} {number term : ℕ} {part : Part} → IsSenders id number term part →
       grant_to c id term ≡ None → IsGiven c.grants (gives id part) → ⊥
-  senders-open {id} {term} mine none p = find-none (is_grant_to id term) c.grants p.grant none p.among passes
-    where
-      passes : (nat_eq p.grant.term term && same_id p.grant.owner id) ≡ true
-      passes = ap (λ n. nat_eq n term && same_id p.grant.owner id) (p.term ∙ mine.term_is) ∙
-          (ap (λ (m : ServerId). nat_eq term term && same_id m id) p.owner ∙ own term)
-        where
-          own : (n : ℕ) → (nat_eq n n && same_id id id) ≡ true
-          own n = grind (arith, nat_tests)
+  senders-open {id} {term} mine none p = search (arith, find-none, nat_tests)

@@ -1,13 +1,13 @@
 -- A recovery that was decided can be granted, in every world.
-use Rattle.std.proofs.Common.{◌≡◌, ℕ, ◌+◌, ◌-◌, true, false, cond, List, [], ◌∷◌, ◌++◌, find, nat_eq, slice_get}
+use Rattle.std.proofs.Common.{◌≡◌, ℕ, true, cond, List, [], ◌∷◌, ◌++◌, find, nat_eq}
 use Rattle.std.proofs.Common.{Option, Some, None, refl, sym, ap, ◌∙◌, subst, inl, inr, arith, option_and_then}
 use Rattle.std.proofs.lemmas.Bool.{and_parts, eqb-true, eq-eqb}
 use Rattle.std.proofs.lemmas.Bool.Decides.{nat_tests}
-use Rattle.rc_model.specs.Model.{ServerId, Addr, Server, Setup, Event, NoTable, Deposed, Part, Grant, Message, Own, same_id}
+use Rattle.rc_model.specs.Model.{ServerId, Addr, Server, Setup, Event, NoTable, Part, Grant, Message, Own, same_id}
 use Rattle.rc_model.specs.Model.{from_coordinator, is_up, has_range, assigned, Attempt, GivenPart, parts_of, refuses_server, attempt_at}
-use Rattle.rc_model.specs.Model.{is_current, own_body, grant_of, is_grant_to, grant_to, part_in, part_of_sender}
+use Rattle.rc_model.specs.Model.{own_body, grant_of, is_grant_to, grant_to, part_of_sender}
 use Rattle.rc_model.specs.Model.{takes_recovered, NodeWork, coordinator_step, outside_sends, server_of}
-use Rattle.rc_model.specs.Model.{host_step, next_server, World, opening, NodeName, TheOutside, TheCoordinator, TheHost, Job, job_of}
+use Rattle.rc_model.specs.Model.{host_step, next_server, World, NodeName, TheOutside, TheCoordinator, TheHost, Job, job_of}
 use Rattle.rc_model.specs.Model.{is_possible, node_done, job_done, step, replay_from, replay, In, Enlist, to_coordinator, grants_anew}
 use Rattle.rc_types.specs.declared.messages.Body.TheVariants.{Plan as PlanBody}
 use Rattle.rc_model.specs.Coordinator.{Coordinator}
@@ -72,11 +72,7 @@ tablets-node {world} one TheCoordinator work good grants p given = record {
   says = more-says world.sent (coordinator_step world.coordinator work).1 p.says
       (tablets-moved world.sent world.coordinator good.coordinator grants.good p.good work).says;
 }
-tablets-node {world} one (TheHost i) work good grants p given = record {
-  good = p.good;
-  says = more-says world.sent (host_step (world.hosts i) work).1 p.says
-      (servers-say (host_step (world.hosts i) work).1 (from-host world one i good work given));
-}
+tablets-node {world} one (TheHost i) work good grants p given = search (arith, more-says, servers-say, from-host)
 
 tablets-job : {world : World} (one : Event) (found : Option Job) → job_of world.sent one ≡ found → GoodWorld world →
     OfWorld world → TabletsWorld world → TabletsWorld (job_done world one found)
@@ -107,22 +103,11 @@ no-server-lacks setup events id at = true_false ((tablets-world setup events).sa
 
 -- an attempt is found by its number
 found-by : (c : Coordinator) {number : ℕ} {attempt : Attempt} → IsNumbered c.attempts number attempt → attempt_at c number ≡ Some attempt
-found-by c is = ap (attempt_at c) is.number_is ∙
-    (ap (λ b. cond b None (slice_get c.attempts (is.place + 1 - 1))) (above is.place) ∙
-    (ap (slice_get c.attempts) (back is.place) ∙ is.attempt_is))
-  where
-    above : (n : ℕ) → nat_eq (n + 1) 0 ≡ false
-    above n = grind (arith, nat_tests)
-
-    back : (n : ℕ) → n + 1 - 1 ≡ n
-    back n = omega arith
+found-by c is = search (arith, nat_tests)
 
 parts-in : (id : ServerId) (parts : List GivenPart) (part : Part) → In (gives id part) parts → In part (parts_of id parts)
 parts-in id [] part at = absurd at
-parts-in id (first ∷ parts) part (inl same) =
-    either (In part) (same_id id first.to) (first.part ∷ parts_of id parts) (parts_of id parts)
-    (λ _. inl (ap (λ (one : GivenPart). one.part) same))
-    (λ differs. true_false (sym (ap (λ (one : GivenPart). same_id id one.to) (sym same) ∙ same_id-refl id) ∙ differs))
+parts-in id (first ∷ parts) part (inl same) = search (arith, same_id-refl)
 parts-in id (first ∷ parts) part (inr rest) =
     either (In part) (same_id id first.to) (first.part ∷ parts_of id parts) (parts_of id parts)
     (λ _. inr (parts-in id parts part rest)) (λ _. parts-in id parts part rest)
@@ -161,27 +146,14 @@ module _ (setup : Setup) (events : List Event) (id : ServerId) (number : ℕ) (m
   -- the part, or another of its term, is found for whom it was given to
   found-part : (replay setup events).coordinator.current master ≡ number →
       part_of_sender (replay setup events).coordinator id number part.term ≡ None → ⊥
-  found-part current none = find-none (λ (p : Part). nat_eq p.term part.term) (parts_of id of.decision.parts) part found
-      (parts-in id of.decision.parts part given) (eq-eqb part.term part.term refl)
-    where
-      is_now : is_current (replay setup events).coordinator number of.decided.attempt ≡ true
-      is_now = eq-eqb ((replay setup events).coordinator.current of.decided.attempt.master) number
-          (ap (replay setup events).coordinator.current of.decided.master_is ∙ current)
-
-      found : find (λ (p : Part). nat_eq p.term part.term) (parts_of id of.decision.parts) ≡ None
-      found = sym (ap (option_and_then (λ one. cond (is_current (replay setup events).coordinator number one)
-          (part_in id part.term one.decided) None)) (found-by (replay setup events).coordinator of.decided.numbered)
-          ∙ (ap (λ b. cond b (part_in id part.term of.decided.attempt.decided) None) is_now ∙
-          ap (part_in id part.term) of.decided.decided)) ∙ none
+  found-part current none = search (arith, find-none, of, parts-in, given, eq-eqb, find, option_and_then, found-by)
 
   -- what a Recovered of server-same that is up is answered by
   answer-is : is_up (replay setup events).coordinator.servers id ≡ true →
       (takes_recovered (replay setup events).coordinator id number part.term).1
       ≡ (by_grant (replay setup events).coordinator id number part.term
       (grant_to (replay setup events).coordinator id part.term)).1
-  answer-is up = ap (λ b. (cond b (by_grant (replay setup events).coordinator id number part.term
-      (grant_to (replay setup events).coordinator id part.term))
-      ((replay setup events).coordinator, refuses_server id Deposed ∷ [])).1) up
+  answer-is up = search (arith, by_grant)
 
   granted-before : is_up (replay setup events).coordinator.servers id ≡ true → {grant : Grant} →
       grant_to (replay setup events).coordinator id part.term ≡ Some grant →
@@ -230,18 +202,7 @@ module _ (setup : Setup) (events : List Event) (id : ServerId) (number : ℕ) (m
   pub planned-is-granted : (replay setup events).coordinator.current master ≡ number →
       is_up (replay setup events).coordinator.servers id ≡ true →
       IsAnsweredByOwn (replay setup events).coordinator id number part.term
-  planned-is-granted current up = by (grant_to (replay setup events).coordinator id part.term) refl
-    where
-      by_part : grant_to (replay setup events).coordinator id part.term ≡ None → (found : Option Part) →
-          part_of_sender (replay setup events).coordinator id number part.term ≡ found →
-          IsAnsweredByOwn (replay setup events).coordinator id number part.term
-      by_part none None is = absurd (found-part current is)
-      by_part none (Some mine) is = granted-now up none is
-
-      by : (found : Option Grant) → grant_to (replay setup events).coordinator id part.term ≡ found →
-          IsAnsweredByOwn (replay setup events).coordinator id number part.term
-      by (Some grant) is = granted-before up is
-      by None is = by_part is (part_of_sender (replay setup events).coordinator id number part.term) refl
+  planned-is-granted current up = search (arith, by_part, found-part, granted-now, granted-before)
 
 pub planned-parts-are-tablets : PlannedPartsAreTablets
 planned-parts-are-tablets setup events id number master part planned current unowned =

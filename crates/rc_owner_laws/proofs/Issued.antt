@@ -1,5 +1,6 @@
 -- Whatever was sent of a term is one and the same.
-use Rattle.std.proofs.Common.{◌≡◌, ◌⊎◌, ℕ, List, refl, sym, ap, ◌∙◌, subst, inl, inr}
+use Rattle.std.proofs.Common.{arith}
+use Rattle.std.proofs.Common.{◌≡◌, ◌⊎◌, ℕ, List, refl, sym, ap, ◌∙◌, inl, inr}
 use Rattle.rc_model.specs.Model.{ServerId, Addr, Server, Grant, Message, Body, Own, Decision, GivenPart, replay, In}
 use Rattle.rc_types.specs.declared.messages.Body.TheVariants.{Plan as PlanBody}
 use Rattle.rc_model.specs.Coordinator.{Coordinator}
@@ -59,13 +60,7 @@ module _ (sent : List Message) (c : Coordinator) (good : GoodTerms sent c) (kept
       })
 
   of-body : (to : Addr) (says : Body) (issue : Issue) → own_said c to says → In issue (issues_in to says) → OfTable c issue ⊎ OfPart c issue
-  of-body to (Own range term before attempt) issue own at =
-      by (subst (λ (says : Body). In issue (issues_in (Server own.grant.owner) says)) own.body_is
-      (subst (λ (addr : Addr). In issue (issues_in addr (Own range term before attempt))) own.to_is at))
-    where
-      by : (issue ≡ of_grant own.grant) ⊎ ⊥ → OfTable c issue ⊎ OfPart c issue
-      by (inl same) = subst (λ (one : Issue). OfTable c one ⊎ OfPart c one) (sym same) (of-grant own.grant own.among)
-      by (inr never) = absurd never
+  of-body to (Own range term before attempt) issue own at = search (arith, of-grant)
   of-body to (PlanBody head number master rows parts) issue plan at =
       let found = In-map (issue_of to number) issue parts at in
       inr (record {

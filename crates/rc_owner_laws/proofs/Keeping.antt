@@ -1,7 +1,7 @@
 -- What holds of terms stays so where none is issued, where a grant is made, and where parts are given.
 use Rattle.std.proofs.Common.{◌≡◌, ◌⊎◌, ℕ, ◌+◌, ◌-◌, ◌<◌, ◌≤◌, true, false, ◌%◌, List, [], ◌∷◌, ◌++◌, length}
 use Rattle.std.proofs.Common.{slice_get, Option, Some, None, refl, sym, ap, ◌∙◌, subst, inl, inr, arith}
-use Rattle.rc_model.specs.Model.{ServerId, Part, Tablet, Grant, Message, Recovered, to_coordinator, tablets_of, Attempt, Decision}
+use Rattle.rc_model.specs.Model.{ServerId, Tablet, Grant, Message, tablets_of, Attempt, Decision}
 use Rattle.rc_model.specs.Model.{GivenPart, part_of, given_to, gives_parts, decision_of, decides_on, in_range, In}
 use Rattle.rc_types.specs.declared.rows.Plan.{Plan}
 use Rattle.rc_model.specs.Coordinator.{Coordinator}
@@ -10,7 +10,7 @@ use Rattle.rc_step_laws.specs.All.{IsNumbered, AttemptLater, CoordinatorLater}
 use Rattle.rc_step_laws.proofs.Lists.{get-set}
 use Rattle.rc_step_laws.proofs.Copies.{More, split}
 use Rattle.rc_owner_laws.specs.Grants.{owner_at, IsDecided, GoodGrants}
-use Rattle.rc_owner_laws.proofs.Chains.{IsPartOf, part-of}
+use Rattle.rc_owner_laws.proofs.Chains.{part-of}
 use Rattle.rc_owner_laws.specs.Terms.{IsGrantedTo, IsGivenBy, GoodTerms}
 
 -- Later
@@ -22,19 +22,7 @@ pub decided-later : {old new : Coordinator} → CoordinatorLater old new →
 decided-later {new} later number master decision d = by (later.attempts number d.attempt d.numbered)
   where
     by : AttemptLater new.attempts number d.attempt → IsDecided new.attempts number master decision
-    by now = record {
-      attempt = now.now;
-      numbered = now.numbered;
-      master_is = now.master ∙ d.master_is;
-      decided = which now.decided;
-    }
-      where
-        which : (d.attempt.decided ≡ now.now.decided) ⊎ (d.attempt.decided ≡ None) → now.now.decided ≡ Some decision
-        which (inl same) = sym same ∙ d.decided
-        which (inr none) = absurd (never (sym none ∙ d.decided))
-          where
-            never : None ≡ Some decision → ⊥
-            never e = cc
+    by now = search arith
 
 granted-later : {grants more : List Grant} → ((grant : Grant) → In grant grants → In grant more) →
     {owner : ServerId} {term table key : ℕ} → IsGrantedTo grants owner term table key →
@@ -47,18 +35,7 @@ pub given-later : {sent sent_now : List Message} {old new : Coordinator} → Mor
     IsDecided new.attempts number master decision) →
     ((grant : Grant) → In grant old.grants → In grant new.grants) → {grant : Grant} → IsGivenBy sent old grant →
     IsGivenBy sent_now new grant
-given-later more decided all {grant} p = record {
-  master = p.master;
-  decision = p.decision;
-  decided = decided grant.attempt p.master p.decision p.decided;
-  part = p.part;
-  among = p.among;
-  range_is = p.range_is;
-  term_is = p.term_is;
-  previous_is = p.previous_is;
-  asked = more (to_coordinator grant.owner (Recovered grant.attempt grant.term)) p.asked;
-  after = λ table key holds. granted-later all (p.after table key holds);
-}
+given-later more decided all {grant} p = search (arith, granted-later)
 
 abbrev pub Origin : List Message → Coordinator → Grant → Type 0
 Origin sent c grant = ((grant.attempt ≡ 0) × (grant.previous ≡ 0)) ⊎ IsGivenBy sent c grant
@@ -96,12 +73,7 @@ pub same-refl : {c : Coordinator} → SameTerms c c
 same-refl = record { grants = refl; last = refl; owners = λ table key. refl; back = λ number master decision decided. decided }
 
 pub same-trans : {a b c : Coordinator} → SameTerms a b → SameTerms b c → SameTerms a c
-same-trans p q = record {
-  grants = q.grants ∙ p.grants;
-  last = q.last ∙ p.last;
-  owners = λ table key. q.owners table key ∙ p.owners table key;
-  back = λ number master decision decided. p.back number master decision (q.back number master decision decided);
-}
+same-trans p q = search arith
 
 pub kept-terms : {sent : List Message} {old new : Coordinator} → CoordinatorLater old new → SameTerms old new →
     GoodTerms sent old → GoodTerms sent new
@@ -223,10 +195,7 @@ parts-once ids place term (tablet ∷ tablets) one other at there e =
     rest = gives_parts ids (place + 1) (term + 1) tablets
 
     above : (given : GivenPart) → In given (gives_parts ids (place + 1) (term + 1) tablets) → term < given.part.term
-    above given in_rest =
-        let p : IsPartOf tablets (term + 1) given = part-of ids (place + 1) (term + 1) tablets given in_rest in
-        let under : given.part.term ≡ p.under = ap (λ (part : Part). part.term) p.part_is in
-        let more : term + 1 ≤ p.under = p.above in omega arith
+    above given in_rest = search (arith, part-of)
 
     first : (given : GivenPart) (to : ServerId) → given ≡ record { to = to; part = part_of tablet term } → given.part.term ≡ term
     first given to same = ap (λ (g : GivenPart). g.part.term) same
@@ -260,39 +229,11 @@ module _ (sent : List Message) (c : Coordinator) (grants : GoodGrants c) (good :
   -- a decision that was there, or this one
   which : (other : ℕ) (master : ServerId) (decision : Decision) → IsDecided decided_now.attempts other master decision →
       IsDecided c.attempts other master decision ⊎ IsThis other master decision
-  which other master decision decided =
-      by (get-set c.attempts (number - 1) decided.numbered.place decided.numbered.attempt_is)
-    where
-      now : Attempt
-      now = record attempt { decided = Some (decision_of c number attempt.master plan (id ∷ ids)) }
-
-      by : (slice_get c.attempts decided.numbered.place ≡ Some decided.attempt) ⊎
-          ((decided.numbered.place ≡ number - 1) × (decided.attempt ≡ now)) →
-          IsDecided c.attempts other master decision ⊎ IsThis other master decision
-      by (inl there) = inl (record {
-        attempt = decided.attempt;
-        numbered = record { place = decided.numbered.place; number_is = decided.numbered.number_is; attempt_is = there };
-        master_is = decided.master_is;
-        decided = decided.decided;
-      })
-      by (inr (p, q)) = inr (record {
-        number_is = (let a = decided.numbered.number_is in let b = numbered.number_is in omega (arith, a, b, p));
-        master_is = sym decided.master_is ∙ ap (λ (one : Attempt). one.master) q;
-        decision_is = same (sym decided.decided ∙ ap (λ (one : Attempt). one.decided) q);
-      })
-        where
-          same : Some decision ≡ Some (decision_of c number attempt.master plan (id ∷ ids)) →
-              decision ≡ decision_of c number attempt.master plan (id ∷ ids)
-          same e = cc
+  which other master decision decided = search (arith, get-set)
 
   -- its terms are above all earlier ones
   above : (given : GivenPart) → In given (decision_of c number attempt.master plan (id ∷ ids)).parts → c.last_term < given.part.term
-  above given at =
-      let p : IsPartOf (tablets_of attempt.master c.tablets) (c.last_term + 1) given =
-      part-of (id ∷ ids) (number - 1) (c.last_term + 1) (tablets_of attempt.master c.tablets) given at in
-      let under : given.part.term ≡ p.under = ap (λ (part : Part). part.term) p.part_is in
-      let more : c.last_term + 1 ≤ p.under = p.above in
-      omega arith
+  above given at = search (arith, part-of)
 
   in-this : (other : ℕ) (master : ServerId) (decision : Decision) (given : GivenPart) → IsThis other master decision →
       In given decision.parts → In given (decision_of c number attempt.master plan (id ∷ ids)).parts

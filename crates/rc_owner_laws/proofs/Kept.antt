@@ -1,6 +1,6 @@
 -- Later owners keep what was acknowledged, and what is durable.
 use Rattle.std.proofs.Common.{◌≡◌, ◌⊎◌, ℕ, zero, suc, ◌+◌, ◌<◌, ◌≤◌, Bool, true, false, ◌||◌, List, [], ◌∷◌, ◌++◌, map}
-use Rattle.std.proofs.Common.{nat_eq, slice_get, Some, refl, sym, ap, ◌∙◌, subst, inl, inr, arith}
+use Rattle.std.proofs.Common.{slice_get, Some, refl, sym, ap, ◌∙◌, subst, inl, inr, arith}
 use Rattle.std.proofs.lemmas.Bool.{eqb-true}
 use Rattle.rc_model.specs.Model.{ServerId, Addr, Server, Entry, Part, Grant, GrantedRange, Message, Ack, Granted, grant_in, granted}
 use Rattle.rc_model.specs.Model.{IsGranted, covers, grants_of, previous, IsEarlier, Segment, from_coordinator, places_in, places_to}

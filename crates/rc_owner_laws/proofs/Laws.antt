@@ -1,6 +1,7 @@
 -- What follows where all facts hold.
+use Rattle.std.proofs.Common.{arith}
 use Rattle.std.proofs.Common.{◌≡◌, ◌⊎◌, ℕ, List, sym, ap, ◌∙◌, subst, inl, inr}
-use Rattle.rc_model.specs.Model.{ServerId, Addr, Server, Message, Granted, granted, Master, HostNode}
+use Rattle.rc_model.specs.Model.{ServerId, Message, Granted, granted, Master, HostNode}
 use Rattle.rc_model.specs.Coordinator.{Coordinator}
 use Rattle.rc_model.proofs.Members.{In-get}
 use Rattle.rc_owner_laws.specs.Terms.{IsGivenBy}
@@ -23,10 +24,7 @@ grants-start sent masters hosts c all grant x was to recovered =
     r = remembered c sent all.kept.known grant (In-get (granted sent) was.0 grant was.1)
 
     owner : r.grant.owner ≡ x
-    owner = server (sym (ap (λ (g : Granted). g.owner) r.is) ∙ to)
-      where
-        server : ◌≡◌ {A = Addr} (Server r.grant.owner) (Server x) → r.grant.owner ≡ x
-        server e = cc
+    owner = search (arith, r)
 
     by : ((r.grant.attempt ≡ 0) × (r.grant.previous ≡ 0)) ⊎ IsGivenBy sent c r.grant →
         StartsFromBase sent r.grant.owner (masters r.grant.owner).log (granted_of r.grant)

@@ -1,5 +1,5 @@
 -- Marked tablets stay, but for the one that is granted; and who is up stays up, but for whose tablets are marked.
-use Rattle.std.proofs.Common.{◌≡◌, ◌⊎◌, ℕ, ◌+◌, ◌≤◌, Bool, true, false, cond, ◌||◌, List, [], ◌∷◌, ◌++◌, nat_eq}
+use Rattle.std.proofs.Common.{◌≡◌, ◌⊎◌, ℕ, ◌≤◌, Bool, true, false, cond, ◌||◌, List, [], ◌∷◌, ◌++◌, nat_eq}
 use Rattle.std.proofs.Common.{nat_lt, Option, Some, None, refl, sym, ap, ◌∙◌, subst, inl, inr, arith}
 use Rattle.std.proofs.lemmas.Bool.{eqb-true}
 use Rattle.std.proofs.lemmas.Bool.Decides.{nat_tests}
@@ -28,9 +28,7 @@ MarkedStay old new = (tablet : Tablet) → In tablet old → tablet.crashed ≡ 
 -- Marks
 
 mark-same : (owner : ServerId) {tablet : Tablet} → tablet.crashed ≡ true → mark_if_owned owner tablet ≡ tablet
-mark-same owner {tablet} e =
-    either (λ (now : Tablet). now ≡ tablet) (same_id owner tablet.owner) (record tablet { crashed = true }) tablet
-    (λ _. ap (λ b. record tablet { crashed = b }) (sym e)) (λ _. refl)
+mark-same owner {tablet} e = search arith
 
 pub stay-marked : (owner : ServerId) (tablets : List Tablet) → MarkedStay tablets (marked_crashed owner tablets)
 stay-marked owner [] tablet at e = absurd at
@@ -65,9 +63,7 @@ stay-split table at (first ∷ tablets) one found unmarked tablet there e =
         (tablet_of tablets table at ≡ Some one → In tablet tablets → tablet.crashed ≡ true →
         In tablet (split_at table at tablets)) → (tablet ≡ first) ⊎ In tablet tablets →
         In tablet (cond b (lower_half at first ∷ upper_half at first ∷ tablets) (first ∷ split_at table at tablets))
-    by true is it rec (inl same) =
-        let this : first ≡ one = cc in
-        true_false (sym e ∙ (ap (λ (t : Tablet). t.crashed) same ∙ (ap (λ (t : Tablet). t.crashed) this ∙ unmarked)))
+    by true is it rec (inl same) = search arith
     by true is it rec (inr rest) = inr (inr rest)
     by false is it rec (inl same) = inl same
     by false is it rec (inr rest) = inr (rec it rest e)
@@ -165,10 +161,7 @@ stay-assigned range id term (first ∷ tablets) tablet at differs =
 -- it has the part's range
 pub its-range : {tablets : List Tablet} {owner : ServerId} {part : Part} → (is : IsTablet tablets owner part) →
     is_range part.range is.tablet ≡ true
-its-range is = subst (λ (range : KeyRange). is_range range is.tablet ≡ true) is.range (its-own is.tablet)
-  where
-    its-own : (tablet : Tablet) → is_range tablet.range tablet ≡ true
-    its-own tablet = grind (arith, nat_tests)
+its-range is = search (arith, nat_tests)
 
 -- a tablet's first key is in its range
 pub first-key : (range : KeyRange) (tablet : Tablet) → is_range range tablet ≡ true → tablet.range.lo ≤ tablet.range.hi →
@@ -193,15 +186,7 @@ ranged {tablets} {part} is = in-ranged part.range tablets is.tablet is.among (it
 -- it is one of other tablets in which it stands
 pub tablet-in : (tablets now : List Tablet) (owner : ServerId) (part : Part) → (is : IsTablet tablets owner part) →
     In is.tablet now → IsTablet now owner part
-tablet-in tablets now owner part is at =
-    record {
-      tablet = is.tablet;
-      among = at;
-      range = is.range;
-      term = is.term;
-      owner_is = is.owner_is;
-      marked = is.marked;
-    }
+tablet-in tablets now owner part is at = search arith
 
 -- Who is up
 
@@ -223,9 +208,7 @@ marked-other id m (row ∷ rows) differs e =
 -- another than who crashes stays up
 pub up-crashed : (id m : ServerId) (servers : ServerList) → same_id id m ≡ false → is_up servers m ≡ true →
     is_up (crashed id servers) m ≡ true
-up-crashed id m servers differs e = either (λ (now : ServerList). is_up now m ≡ true) (is_up servers id)
-    (record { version = servers.version + 1; rows = id_crashed id servers.rows }) servers
-    (λ _. marked-other id m servers.rows differs e) (λ _. e)
+up-crashed id m servers differs e = search (arith, marked-other)
 
 marked-elsewhere : (index : ℕ) (m : ServerId) (rows more : List (ServerId × Bool)) → nat_eq m.index index ≡ false →
     marked_up rows m ≡ true → marked_up (index_crashed index rows ++ more) m ≡ true

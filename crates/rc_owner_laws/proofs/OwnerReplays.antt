@@ -1,9 +1,10 @@
 -- What holds of tablets and grants holds of every world that a list of events leads to.
-use Rattle.std.proofs.Common.{◌≡◌, ℕ, true, List, [], ◌∷◌, ◌++◌, Option, Some, None, refl, sym, subst, inl, inr}
+use Rattle.std.proofs.Common.{arith}
+use Rattle.std.proofs.Common.{◌≡◌, ℕ, true, List, [], ◌∷◌, ◌++◌, Option, Some, None, sym, subst, inl, inr}
 use Rattle.std.proofs.lemmas.Bool.{and_parts}
 use Rattle.rc_model.specs.Model.{ServerId, Addr, Server, Setup, Event, Message, Body, put, Backup, Log, Master, NodeWork, HostNode}
 use Rattle.rc_model.specs.Model.{is_for_clients, outside_can, outside_sends, coordinator_step, server_of, host_step, World, opening}
-use Rattle.rc_model.specs.Model.{NodeName, TheOutside, TheCoordinator, TheHost, Job, job_of, node_can, is_possible_job, is_possible}
+use Rattle.rc_model.specs.Model.{NodeName, TheOutside, TheCoordinator, TheHost, Job, job_of, node_can, is_possible_job}
 use Rattle.rc_model.specs.Model.{node_done, job_done, step, replay_from, replay, next_server, to_coordinator}
 use Rattle.rc_types.specs.declared.messages.Body.TheVariants as body
 use Rattle.rc_model.specs.Coordinator.{Coordinator}
@@ -17,7 +18,7 @@ use Rattle.rc_owner_laws.proofs.Decided.{OwnSaid, OwnSays}
 use Rattle.rc_owner_laws.proofs.OwnerSteps.{moved, new-grants}
 use Rattle.rc_owner_laws.proofs.OwnersOrdered.{kept-step, kept-others, kept-none}
 use Rattle.rc_model.proofs.Replays.{possible-job}
-use Rattle.rc_model.proofs.Tests.{true_false, either}
+use Rattle.rc_model.proofs.Tests.{true_false}
 
 pub record GrantsWorld (sent : List Message) (c : Coordinator) : Type 0 where
   pub good : GoodGrants c
@@ -89,9 +90,7 @@ grants-job world one None is good p can = p
 grants-job world one (Some job) is good p can = grants-node world one job.node job.work good p (job_of-given world.sent one is) can
 
 pub grants-step : (world : World) (one : Event) → GoodWorld world → OfWorld world → OfWorld (step world one)
-grants-step world one good p =
-    either OfWorld (is_possible world one) (job_done world one (job_of world.sent one)) world
-    (λ can. grants-job world one (job_of world.sent one) refl good p (possible-job world one can)) (λ _. p)
+grants-step world one good p = search (arith, grants-job, possible-job)
 
 grants-from : (world : World) (events : List Event) → GoodWorld world → OfWorld world → OfWorld (replay_from world events)
 grants-from world [] good p = p

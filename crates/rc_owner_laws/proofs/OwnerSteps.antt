@@ -1,22 +1,22 @@
 -- Each step of the coordinator keeps what holds of tablets and grants.
 use Rattle.std.proofs.Common.{◌≡◌, ◌⊎◌, ℕ, ◌+◌, ◌-◌, ◌<◌, ◌≤◌, Bool, true, false, List, [], ◌∷◌}
-use Rattle.std.proofs.Common.{◌++◌, length, nat_eq, slice_get, slice_set, Option, Some, None, option_map}
+use Rattle.std.proofs.Common.{◌++◌, length, nat_eq, slice_set, Option, Some, None, option_map}
 use Rattle.std.proofs.Common.{refl, sym, ap, ◌∙◌, subst, inl, inr, arith}
 use Rattle.std.proofs.lemmas.Bool.{and_parts}
 use Rattle.std.proofs.lemmas.Bool.Decides.{nat_tests}
 use Rattle.rc_model.specs.Model.{ServerId, Pair, Addr, Server, Row, Part, Tablet, Grant}
-use Rattle.rc_model.specs.Model.{NoTable, Message, Body}
+use Rattle.rc_model.specs.Model.{Message, Body}
 use Rattle.rc_model.specs.Model.{CommitOk, Gather, SplitOk, put_id}
-use Rattle.rc_model.specs.Model.{from_coordinator, coordinator_refuses, coordinator_tells, same_id, ServerList, is_up, has_crashed}
-use Rattle.rc_model.specs.Model.{enlisted, crashed, up, holds, has_table, tablets_of, with_table, whole_table}
-use Rattle.rc_model.specs.Model.{split_at, marked_crashed, has_range, assigned, greater_pair, Attempt, Decision, GivenPart}
-use Rattle.rc_model.specs.Model.{plan_messages, gives_parts, new_coordinator, refuses_server}
-use Rattle.rc_model.specs.Model.{list_body, spreads_list, begins_attempt, attempt_at}
+use Rattle.rc_model.specs.Model.{from_coordinator, coordinator_tells, same_id, ServerList, is_up, has_crashed}
+use Rattle.rc_model.specs.Model.{up, holds, has_table, tablets_of, with_table, whole_table}
+use Rattle.rc_model.specs.Model.{split_at, has_range, assigned, greater_pair, Attempt, Decision, GivenPart}
+use Rattle.rc_model.specs.Model.{gives_parts, new_coordinator}
+use Rattle.rc_model.specs.Model.{spreads_list, begins_attempt, attempt_at}
 use Rattle.rc_model.specs.Model.{with_attempt}
 use Rattle.rc_model.specs.Model.{with_answer, decision_of, decides_on}
 use Rattle.rc_model.specs.Model.{own_body, grant_of, is_grant_to, grant_to}
 use Rattle.rc_model.specs.Model.{first_grant}
-use Rattle.rc_model.specs.Model.{coordinator_ticks, NodeWork, coordinator_step}
+use Rattle.rc_model.specs.Model.{NodeWork, coordinator_step}
 use Rattle.rc_model.specs.Model.{in_range, In}
 use Rattle.rc_types.specs.declared.rows.Plan.{Plan}
 use Rattle.rc_model.specs.Coordinator.{Coordinator}
@@ -52,12 +52,7 @@ module _ (sent : List Message) (c : Coordinator) (base : GoodCoordinator sent c)
   -- no grant is made
   quiet : {new : Coordinator} {messages : List Message} → GoodGrants new → new.grants ≡ c.grants →
       Each (OwnSaid new) messages → Moved (new, messages)
-  quiet is same says = record {
-    good = is;
-    remembers = λ grant at. subst (λ (grants : List Grant). In grant grants) (sym same) at;
-    told = λ grant at. inl (subst (λ (grants : List Grant). In grant grants) same at);
-    says = says;
-  }
+  quiet is same says = search arith
 
   still : {message : Message} → OwnSaid c message → Moved (c, message ∷ [])
   still {message} says = quiet good refl (each-one (OwnSaid c) message says)
@@ -106,11 +101,7 @@ module _ (sent : List Message) (c : Coordinator) (base : GoodCoordinator sent c)
       ((table key : ℕ) → owner_at tablets table key ≡ owner_at c.tablets table key) →
       ((m : ServerId) → has_crashed c.servers m ≡ true → has_crashed servers m ≡ true) →
       Came (record c { servers = servers; tablets = tablets }, spreads_list servers)
-  came {servers} apart owners crashes = record {
-    kept = changed apart owners crashes;
-    same = refl;
-    says = λ new. each-to (OwnSaid new) (list_body servers) (λ id. tt) (up servers);
-  }
+  came {servers} apart owners crashes = search (arith, changed, each-to)
 
   answered : (from : ServerId) (number : ℕ) (rows : List Row) (attempt : Attempt) → attempt.decided ≡ None →
       GoodGrants (with_attempt c number (with_answer from rows attempt))
@@ -162,16 +153,7 @@ module _ (sent : List Message) (c : Coordinator) (base : GoodCoordinator sent c)
       owned : (given : GivenPart) → IsPartOf (tablets_of attempt.master c.tablets) (c.last_term + 1) given →
           (table key : ℕ) → in_range given.part.range table key ≡ true →
           owner_at c.tablets table key ≡ Some (attempt.master, given.part.previous)
-      owned given of table key within =
-          let mine : In of.tablet c.tablets × (of.tablet.owner ≡ attempt.master) = of_owner attempt.master c.tablets of.tablet of.among in
-          let held : holds of.tablet table key ≡ true = sym (ap (λ part. in_range part.range table key) of.part_is) ∙ within in
-          ap owner_found (found-at c.tablets of.tablet table key good.apart mine.0 held)
-          ∙ (ap (λ (m : ServerId). Some (m, of.tablet.term)) mine.1 ∙
-          ap (λ (part : Part). Some (attempt.master, part.previous)) (sym of.part_is))
-        where
-          owner_found : Option Tablet → Option (ServerId × ℕ)
-          owner_found None = None
-          owner_found (Some tablet) = Some (owner_of tablet)
+      owned given of table key within = search (arith, of_owner, found-at)
 
       fresh_by : (other : ℕ) (master : ServerId) (decision : Decision) (given : GivenPart) → In given decision.parts →
           IsDecided c.attempts other master decision ⊎
@@ -203,9 +185,7 @@ module _ (sent : List Message) (c : Coordinator) (base : GoodCoordinator sent c)
           ((master ≡ attempt.master) × (decision ≡ decision_of c number attempt.master plan (id ∷ ids))) →
           PartsApart decision.parts
       parted_by other master decision (inl old) = good.parted other master decision old
-      parted_by other master decision (inr (p, q)) = subst (λ (one : Decision). PartsApart one.parts) (sym q)
-          (parts-apart (id ∷ ids) (number - 1) (c.last_term + 1) (tablets_of attempt.master c.tablets)
-          (apart-of_owner attempt.master c.tablets good.apart))
+      parted_by other master decision (inr (p, q)) = search (arith, parts-apart, apart-of_owner)
 
       waiting_by : (other : ℕ) (master : ServerId) (decision : Decision) → c.current master ≡ other →
           (given : GivenPart) → In given decision.parts → (IsGiven c.grants given → ⊥) → (table key : ℕ) →
@@ -216,8 +196,7 @@ module _ (sent : List Message) (c : Coordinator) (base : GoodCoordinator sent c)
       waiting_by other master decision current given at not_given table key within (inl old) =
           good.waiting other master decision old current given at not_given table key within
       waiting_by other master decision current given at not_given table key within (inr (p, q)) =
-          owned given (of_tablet given (subst (λ (one : Decision). In given one.parts) q at)) table key within ∙
-          ap (λ (m : ServerId). Some (m, given.part.previous)) (sym p)
+          search (arith, owned, of_tablet)
 
   decided-moved : {number : ℕ} {attempt : Attempt} (plan : Plan) (id : ServerId) (ids : List ServerId) →
       IsNumbered c.attempts number attempt →
@@ -296,10 +275,7 @@ module _ (sent : List Message) (c : Coordinator) (base : GoodCoordinator sent c)
           mine.among not_yet table key e
 
       first_same : (a b : ServerId) (x y : ℕ) → ◌≡◌ {A = Option (ServerId × ℕ)} (Some (a, x)) (Some (b, y)) → a ≡ b
-      first_same a b x y e = ap (λ (p : ServerId × ℕ). p.0) (one_pair (a, x) (b, y) e)
-        where
-          one_pair : (p q : ServerId × ℕ) → Some p ≡ Some q → p ≡ q
-          one_pair p q e = cc
+      first_same a b x y e = search arith
 
       clash : (other : ℕ) (master : ServerId) (decision : Decision) → IsDecided c.attempts other master decision →
           c.current master ≡ other → (given : GivenPart) → In given decision.parts →
@@ -322,11 +298,7 @@ module _ (sent : List Message) (c : Coordinator) (base : GoodCoordinator sent c)
               (subst (λ n. IsNumbered c.attempts n decided.attempt) number_same decided.numbered) mine.numbered
 
           decision_same : decision ≡ mine.decision
-          decision_same = one_some decision mine.decision
-              (sym decided.decided ∙ (ap (λ (one : Attempt). one.decided) attempt_same ∙ mine.decided))
-            where
-              one_some : (a b : Decision) → Some a ≡ Some b → a ≡ b
-              one_some a b e = cc
+          decision_same = search (arith, decision, attempt_same)
 
           is_this : given ≡ gives id part
           is_this = part-once mine.decision.parts given (gives id part) table key
@@ -392,16 +364,4 @@ module _ (sent : List Message) (c : Coordinator) (base : GoodCoordinator sent c)
 -- The beginning
 
 pub new-grants : GoodGrants new_coordinator
-new-grants = record {
-  apart = tt;
-  issued = λ table key. omega arith;
-  chains = λ table key. refl;
-  owners = λ table key grant at. absurd at;
-  once = λ table key. tt;
-  fresh = λ number master decision decided. absurd (none decided.numbered.place decided.attempt decided.numbered.attempt_is);
-  parted = λ number master decision decided. absurd (none decided.numbered.place decided.attempt decided.numbered.attempt_is);
-  waiting = λ number master decision decided. absurd (none decided.numbered.place decided.attempt decided.numbered.attempt_is);
-}
-  where
-    none : (k : ℕ) (attempt : Attempt) → slice_get [] k ≡ Some attempt → ⊥
-    none k attempt e = cc
+new-grants = search arith

@@ -19,14 +19,7 @@ said-later : {old new : Coordinator} → CoordinatorLater old new →
     own_said new to body
 said-later later more to (Own range term before attempt) is =
     record { grant = is.grant; among = more is.grant is.among; to_is = is.to_is; body_is = is.body_is }
-said-later later more to (PlanBody head number master rows parts) is = record {
-  id = is.id;
-  to_is = is.to_is;
-  decision = is.decision;
-  decided = decided-later later number master is.decision is.decided;
-  rows_are = is.rows_are;
-  given = is.given;
-}
+said-later later more to (PlanBody head number master rows parts) is = search (arith, decided-later)
 said-later later more to _ is = tt
 
 pub kept-step : (sent : List Message) (c : Coordinator) → GrantsKept sent c → (after : Coordinator × List Message) →
@@ -97,12 +90,8 @@ ordered : (all : List Granted) (start last : ℕ) (grants : List Grant) → IsCh
     (one.term ≡ other.term) ⊎ (IsBefore all one.term other.term ⊎ IsBefore all other.term one.term)
 ordered all start last [] chain among one other at there = absurd at
 ordered all start last (first ∷ grants) chain among one other (inl a) (inl b) = inl (ap (λ (g : Grant). g.term) (a ∙ sym b))
-ordered all start last (first ∷ grants) chain among one other (inl a) (inr rest) =
-    inr (inl (subst (λ (g : Grant). IsBefore all g.term other.term) (sym a)
-    (reached all first.term last grants chain.2 (λ g at. among g (inr at)) other rest)))
-ordered all start last (first ∷ grants) chain among one other (inr rest) (inl b) =
-    inr (inr (subst (λ (g : Grant). IsBefore all g.term one.term) (sym b)
-    (reached all first.term last grants chain.2 (λ g at. among g (inr at)) one rest)))
+ordered all start last (first ∷ grants) chain among one other (inl a) (inr rest) = search (arith, reached)
+ordered all start last (first ∷ grants) chain among one other (inr rest) (inl b) = search (arith, reached)
 ordered all start last (first ∷ grants) chain among one other (inr here) (inr there) =
     ordered all first.term last grants chain.2 (λ g at. among g (inr at)) one other here there
 

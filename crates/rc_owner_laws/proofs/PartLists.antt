@@ -65,11 +65,7 @@ under-In term x (y ∷ xs) at =
 
 count-step : (term d : ℕ) (x : Entry) (xs ys : List Entry) → count_under term xs ≤ count_under term ys →
     count_under term (x ∷ xs) ≤ count_under term (x ∷ ys)
-count-step term d x xs ys less = by (nat_eq x.term term)
-  where
-    by : (b : Bool) → length (cond b (x ∷ under term xs) (under term xs)) ≤ length (cond b (x ∷ under term ys) (under term ys))
-    by true = omega arith
-    by false = less
+count-step term d x xs ys less = search arith
 
 pub count-take : (term d : ℕ) (xs : List Entry) → count_under term (take d xs) ≤ count_under term xs
 count-take term zero xs = omega arith
@@ -86,18 +82,10 @@ count-grows term (suc d) (suc e) (x ∷ xs) ys less =
 -- one more entry counts where it is under the term
 pub count-first : (term : ℕ) (x : Entry) (xs : List Entry) {b : Bool} → nat_eq x.term term ≡ b →
     count_under term (x ∷ xs) ≡ cond b (count_under term xs + 1) (count_under term xs)
-count-first term x xs {b} is = ap (λ v. length (cond v (x ∷ under term xs) (under term xs))) is ∙ by b
-  where
-    by : (b : Bool) → length (cond b (x ∷ under term xs) (under term xs)) ≡ cond b (count_under term xs + 1) (count_under term xs)
-    by true = omega arith
-    by false = refl
+count-first term x xs {b} is = search arith
 
 count-more : (term : ℕ) (x : Entry) (xs : List Entry) → count_under term xs ≤ count_under term (x ∷ xs)
-count-more term x xs = by (nat_eq x.term term)
-  where
-    by : (b : Bool) → count_under term xs ≤ length (cond b (x ∷ under term xs) (under term xs))
-    by true = omega arith
-    by false = omega arith
+count-more term x xs = search arith
 
 -- of the first places those that were replayed are no more than all
 pub count-replayed : (term d : ℕ) (places : List LogPlace) →
@@ -142,10 +130,7 @@ begins-within (x ∷ xs) (y ∷ ys) zs p less =
 -- where it is as long as all, there is nothing more
 pub nothing-more : {X : Type 0} {xs ys : List X} (zs : List X) → ys ++ zs ≡ xs → length xs ≤ length ys → (zs ≡ []) × (ys ≡ xs)
 nothing-more {ys} [] e less = (refl, sym (append-nil ys) ∙ e)
-nothing-more {xs} {ys} (z ∷ zs) e less =
-    let long : length (ys ++ z ∷ zs) ≡ length ys + length (z ∷ zs) = length-append ys (z ∷ zs) in
-    let same : length (ys ++ z ∷ zs) ≡ length xs = ap length e in
-    absurd (omega arith)
+nothing-more {xs} {ys} (z ∷ zs) e less = search (arith, length-append)
 
 -- The last of a list
 

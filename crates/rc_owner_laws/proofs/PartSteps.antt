@@ -5,12 +5,12 @@ use Rattle.std.proofs.lemmas.Bool.{and_parts, ltb-true}
 use Rattle.std.proofs.lemmas.List.{append-nil}
 use Rattle.rc_model.specs.Model.{ServerId, Addr, Server, Outside, Entry, KeyRange, Part, PlanRow, GrantedRange, Fault, Message, Body}
 use Rattle.rc_model.specs.Model.{between}
-use Rattle.rc_model.specs.Model.{to_coordinator, refuses, from_rows, Log, LogPlace, places_of, head_of, is_writing, durable_now, stored}
-use Rattle.rc_model.specs.Model.{commit_noted, PartState, Ownership, term_of, owns_term, knows_term, put_data, grant, is_to_answer}
+use Rattle.rc_model.specs.Model.{to_coordinator, Log, LogPlace, places_of, head_of, is_writing, durable_now}
+use Rattle.rc_model.specs.Model.{PartState, Ownership, term_of, owns_term, knows_term, put_data, grant, is_to_answer}
 use Rattle.rc_model.specs.Model.{is_complete, to_answer, after_answer, after_replay, Master, Task, with_log, durable_replayed, ids_of}
 use Rattle.rc_model.specs.Model.{not_lost, appends_entry, refused, written, write_oks, new_durable, attempt_of, fetch_of}
-use Rattle.rc_model.specs.Model.{reminds, task_of, In, closes_old, left_out, starts, writes_on, old_head_of, with_segment, is_unclosed}
-use Rattle.rc_model.specs.Model.{with_closes_sent, close_marked, frees_segments, reads_under}
+use Rattle.rc_model.specs.Model.{reminds, task_of, In, left_out, old_head_of, is_unclosed}
+use Rattle.rc_model.specs.Model.{with_closes_sent}
 use Rattle.rc_types.specs.declared.ids.Addr.TheVariants.{Coordinator}
 use Rattle.rc_types.specs.declared.messages.Body.TheVariants as body
 use Rattle.rc_model.proofs.Members.{In-left, In-right, In-get}
@@ -34,14 +34,7 @@ use Rattle.rc_model.proofs.Tests.{either}
 
 later-places : {v : PartView} (more : List LogPlace) {own : Ownership} → own.grants ≡ v.own.grants →
     own.parts ≡ v.own.parts → PartsLater v (record v { places = v.places ++ more; own = own })
-later-places more grants parts = record {
-  places = (more, refl);
-  durable = omega arith;
-  grants = λ one at. subst (In one) (sym grants) at;
-  tasks = λ task at. at;
-  attempts = λ task at. refl;
-  joined = λ state at rows. record { now = state; among = subst (In state) (sym parts) at; part_is = refl; rows = rows; size = refl };
-}
+later-places more grants parts = search arith
 
 In-drop : {X : Type 0} (n : ℕ) (xs : List X) (x : X) → In x (drop n xs) → In x xs
 In-drop zero xs x at = at
@@ -62,9 +55,7 @@ module _ (sent : List Message) (m : ServerId) where
         entry = entry;
         client = client;
       }) (part_view master)
-  appended-view master entry client head writing =
-      ap (λ places. record { places = places; durable = master.log.durable; own = master.ownership; tasks = master.tasks })
-      (places-push master.log.segments master.log.head entry client (head writing))
+  appended-view master entry client head writing = search (arith, places-push)
 
   -- a client's entry is appended
   parts-write : {master : Master} {term : ℕ} (table key : ℕ) (value : Option (List ℕ)) →
@@ -154,13 +145,7 @@ module _ (sent : List Message) (m : ServerId) where
       next = record master { ownership = after_replay master.ownership }
 
       now : part_view (appends_entry next entry false).0 ≡ replayed place entries (part_view master)
-      now = appended-view next entry false head writing
-          ∙ ap (λ replay. record {
-            places = places_of master.log ++ place ∷ [];
-            durable = master.log.durable;
-            own = record master.ownership { replay = drop 1 replay };
-            tasks = master.tasks;
-          }) waits
+      now = search (arith, appended-view, next, entry, place)
 
   -- The end of a part
 
@@ -235,18 +220,7 @@ module _ (sent : List Message) (m : ServerId) where
 
   asked : {v : PartView} (task : Task) {row : PlanRow} → In task v.tasks → In row task.rows →
       part_said v (Server row.holder) (body.Fetch task.attempt task.master row.seg row.len task.part)
-  asked task {row} among row_among = record {
-    task = task;
-    among = among;
-    attempt_is = refl;
-    master_is = refl;
-    part_is = refl;
-    row = row;
-    row_among = row_among;
-    to_is = refl;
-    seg_is = refl;
-    len_is = refl;
-  }
+  asked task {row} among row_among = search arith
 
   later-begun : {v : PartView} (good : GoodParts sent m v) {task : Task} (was : WasPlanned sent m task)
       (unknown : knows_term v.own task.part.term ≡ false) → PartsLater v (begun sent m v good task was unknown)
@@ -358,21 +332,7 @@ module _ (sent : List Message) (m : ServerId) where
   planned-heard : (from : Addr) (v : PartView) (attempt : ℕ) (crashed : ServerId) (seg : ℕ) (rows : List PlanRow)
       (parts : List Part) → PartsHear sent m v from (body.Plan seg attempt crashed rows parts) →
       (part : Part) → In part parts → WasPlanned sent m (task_of attempt crashed rows part)
-  planned-heard from v attempt crashed seg rows parts hear part at = record {
-    message = record { from = from; to = Server m; body = body.Plan seg attempt crashed rows parts };
-    among = hears from hear;
-    to = refl;
-    head = seg;
-    parts = parts;
-    says = refl;
-    part = at;
-  }
-    where
-      hears : (one : Addr) → PartsHear sent m v one (body.Plan seg attempt crashed rows parts) →
-          In (record { from = one; to = Server m; body = body.Plan seg attempt crashed rows parts }) sent
-      hears (Server x) p = p
-      hears Coordinator p = p
-      hears Outside p = p
+  planned-heard from v attempt crashed seg rows parts hear part at = search arith
 
   own-heard : (from : Addr) {v : PartView} (range : KeyRange) {term : ℕ} (before attempt : ℕ) →
       PartsHear sent m v from (body.Own range term before attempt) →
@@ -415,10 +375,7 @@ module _ (sent : List Message) (m : ServerId) where
       heard is = subst (PartsHear sent m (part_view master) from) is hear
 
   parts-ticked : Ticked (Kept sent m)
-  parts-ticked = record {
-    enlists = λ master head good. quiet good head refl (plain-one tt);
-    reminds = parts-reminds;
-  }
+  parts-ticked = search (arith, quiet, plain-one, parts-reminds)
 
   parts-followed : Followed (Kept sent m)
   parts-followed = record {

@@ -1,12 +1,12 @@
 -- Moves that leave what the facts read, and moves one after another.
-use Rattle.std.proofs.Common.{◌≡◌, ◌⊎◌, ℕ, ◌≤◌, List, [], ◌∷◌, ◌++◌, take, map, refl, sym, ap, ◌∙◌, subst, inl, inr, arith}
-use Rattle.rc_model.specs.Model.{ServerId, Addr, Entry, Part, Message, Body, between, PartRow, PartState, count_under, Master, Task}
+use Rattle.std.proofs.Common.{◌≡◌, ◌⊎◌, ℕ, ◌≤◌, List, [], ◌∷◌, ◌++◌, map, refl, sym, ap, ◌∙◌, subst, inl, inr, arith}
+use Rattle.rc_model.specs.Model.{ServerId, Addr, Entry, Part, Message, Body, between, PartRow, PartState, Master, Task}
 use Rattle.rc_model.specs.Model.{to_ids, attempt_of, In}
 use Rattle.rc_types.specs.declared.messages.Body.TheVariants as body
 use Rattle.rc_model.proofs.Members.{In-left, In-append, In-map}
 use Rattle.rc_step_laws.proofs.Lists.{begins-refl, begins-trans}
 use Rattle.rc_step_laws.proofs.Copies.{More}
-use Rattle.rc_owner_laws.specs.Parts.{PartView, part_view, logged, durable_under, HasSent}
+use Rattle.rc_owner_laws.specs.Parts.{PartView, part_view, durable_under, HasSent}
 use Rattle.rc_owner_laws.specs.Parts.{SomeCame, AllCame, IsWaiting, HasJoined, IsPart, GoodParts}
 use Rattle.rc_owner_laws.specs.PartMoves.{HasHead, IsComplete, part_said, StateLater, PartsLater, PartsMoved}
 use Rattle.rc_owner_laws.proofs.PartLists.{count-grows, logged-append}
@@ -14,14 +14,7 @@ use Rattle.rc_owner_laws.proofs.PartLists.{count-grows, logged-append}
 -- Later views
 
 pub later-refl : {v : PartView} → PartsLater v v
-later-refl = record {
-  places = begins-refl;
-  durable = omega arith;
-  grants = λ grant at. at;
-  tasks = λ task at. at;
-  attempts = λ task at. refl;
-  joined = λ state at rows. record { now = state; among = at; part_is = refl; rows = rows; size = refl };
-}
+later-refl = search (arith, begins-refl)
 
 state-trans : {v w : PartView} {state : PartState} → StateLater v state → PartsLater v w → StateLater w state
 state-trans {w} p later =
@@ -39,11 +32,7 @@ later-trans {u} p q = record {
 }
 
 pub durable-later : {v w : PartView} (term : ℕ) → PartsLater v w → durable_under term v ≤ durable_under term w
-durable-later {v} {w} term later =
-    let whole : logged v.places ++ logged later.places.0 ≡ logged w.places =
-    sym (logged-append v.places later.places.0) ∙ ap logged later.places.1 in
-    subst (λ entries. durable_under term v ≤ count_under term (take w.durable entries)) whole
-    (count-grows term v.durable w.durable (logged v.places) (logged later.places.0) later.durable)
+durable-later {v} {w} term later = search (arith, logged-append, count-grows)
 
 pub complete-later : {v w : PartView} {term : ℕ} → PartsLater v w → IsComplete v term → IsComplete w term
 complete-later {w} {term} later p =
@@ -187,21 +176,8 @@ how-more : {sent sent_now : List Message} → More sent sent_now →
     {m : ServerId} {v : PartView} {task : Task} {state : PartState} →
     IsWaiting sent m v task state ⊎ HasJoined sent m v task state
     → IsWaiting sent_now m v task state ⊎ HasJoined sent_now m v task state
-how-more {sent} {sent_now} more {m} {task} {state} (inl p) = inl (record {
-  rows = some-more sent sent_now more m state.part.term (Rattle.rc_owner_laws.specs.Parts.rows_of_task task) state.rows p.rows;
-  some = p.some;
-  none_logged = p.none_logged;
-  none_waits = p.none_waits;
-  unowned = p.unowned;
-})
-how-more {sent} {sent_now} more {m} {task} {state} (inr p) = inr (record {
-  rows = p.rows;
-  entries = p.entries;
-  came = all-more sent sent_now more m state.part.term (Rattle.rc_owner_laws.specs.Parts.rows_of_task task) p.entries p.came;
-  size = p.size;
-  fresh = p.fresh;
-  owned = p.owned;
-})
+how-more {sent} {sent_now} more {m} {task} {state} (inl p) = search (arith, some-more)
+how-more {sent} {sent_now} more {m} {task} {state} (inr p) = search (arith, all-more)
 
 pub good-more : {sent sent_now : List Message} → More sent sent_now → {m : ServerId} {v : PartView} →
     GoodParts sent m v → GoodParts sent_now m v

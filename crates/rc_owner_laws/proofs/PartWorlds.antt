@@ -1,9 +1,9 @@
 -- What holds of each master's parts holds of every world that a list of events leads to.
+use Rattle.std.proofs.Common.{arith}
 use Rattle.std.proofs.Common.{◌≡◌, ◌⊎◌, ℕ, List, [], ◌∷◌, ◌++◌, refl, sym, ap, ◌∙◌, subst, inl, inr, true}
-use Rattle.rc_model.specs.Model.{ServerId, Addr, Server, Outside, Part, Grant, Setup, Event, Message, Body, to_coordinator, PartState}
-use Rattle.rc_model.specs.Model.{Master, master_takes, master_ticks, own_body, master_setup, World, opening, step, replay_from, replay}
+use Rattle.rc_model.specs.Model.{ServerId, Addr, Server, Part, Grant, Setup, Event, Message, Body, to_coordinator, PartState}
+use Rattle.rc_model.specs.Model.{Master, own_body, master_setup, World, opening, step, replay_from, replay}
 use Rattle.rc_model.specs.Model.{In}
-use Rattle.rc_types.specs.declared.ids.Addr.TheVariants.{Coordinator as AtCoordinator}
 use Rattle.rc_types.specs.declared.messages.Body.TheVariants as body
 use Rattle.rc_model.proofs.Members.{In-append}
 use Rattle.rc_step_laws.specs.Facts.{GoodMaster}
@@ -17,7 +17,7 @@ use Rattle.rc_owner_laws.specs.Parts.{PartView, part_view, IsPart, WasPlanned, G
 use Rattle.rc_owner_laws.specs.PartMoves.{HasHead, IsComplete, HasEnded, part_said, PartsMoved, PartsHear, PartsLater}
 use Rattle.rc_owner_laws.proofs.PartViews.{good-more, said-later, later-refl}
 use Rattle.rc_owner_laws.proofs.PartSteps.{takes-keep-parts, ticks-keep-parts, new-has-good-parts}
-use Rattle.rc_owner_laws.specs.Worlds.{parts_fine, PartsHold}
+use Rattle.rc_owner_laws.specs.Worlds.{PartsHold}
 use Rattle.rc_model.proofs.Tests.{true_false}
 use Rattle.rc_step_laws.proofs.LogMoves.{more-left}
 use Rattle.rc_log_laws.proofs.EachMaster.{is_others, IsLed, led-by}
@@ -34,18 +34,10 @@ record Its (sent : List Message) (m : ServerId) (master : Master) : Type 0 where
   said : (message : Message) → In message sent → message.from ≡ Server m → part_said (part_view master) message.to message.body
 
 its-of : {sent : List Message} {masters : ServerId → Master} → PartsHold sent masters → {m : ServerId} → Its sent m (masters m)
-its-of {masters} p {m} = record {
-  good = p.each m;
-  said = λ message at from. subst (λ (addr : Addr). parts_fine masters addr message.to message.body) from (p.said message at);
-}
+its-of {masters} p {m} = search arith
 
 of-all : {sent : List Message} {masters : ServerId → Master} → ((m : ServerId) → Its sent m (masters m)) → PartsHold sent masters
-of-all {sent} {masters} its = record { each = λ m. (its m).good; said = λ message at. by message at message.from refl }
-  where
-    by : (message : Message) → In message sent → (from : Addr) → message.from ≡ from → parts_fine masters from message.to message.body
-    by message at (Server m) is = (its m).said message at is
-    by message at AtCoordinator is = tt
-    by message at Outside is = tt
+of-all {sent} {masters} its = search arith
 
 fine-others : (v : PartView) (to : Addr) (says : Body) → is_others says ≡ true → part_said v to says
 fine-others v to (body.Recovered attempt term) e = true_false (sym e)
@@ -91,10 +83,7 @@ module _ (world : World) (grants : OfWorld world) (terms : GoodTerms world.sent 
         of_body : Rattle.rc_owner_laws.specs.Grants.own_said world.coordinator plan.message.to plan.message.body →
             IsPlanOf world.coordinator (Server m) task_of_state.task.attempt
             task_of_state.task.master task_of_state.task.rows plan.parts
-        of_body said = subst (λ (to : Addr). Rattle.rc_owner_laws.specs.Grants.own_said world.coordinator to
-            (body.Plan plan.head task_of_state.task.attempt task_of_state.task.master task_of_state.task.rows
-            plan.parts)) plan.to
-            (subst (Rattle.rc_owner_laws.specs.Grants.own_said world.coordinator plan.message.to) plan.says said)
+        of_body said = search (arith, plan, task_of_state)
 
     -- the part's term is no new table's
     uncreated : (grant : Grant) → In grant world.coordinator.grants → grant.term ≡ term → grant.attempt ≡ 0 → ⊥
@@ -149,11 +138,7 @@ module _ (world : World) (grants : OfWorld world) (terms : GoodTerms world.sent 
 
   hears-its : (sent : List Message) (m : ServerId) (master : Master) → Was sent m master → (from : Addr) (says : Body) →
       In (record { from = from; to = Server m; body = says }) sent → PartsHear sent m (part_view master) from says
-  hears-its sent m master was from says at =
-      subst (λ (all : List Message). PartsHear all m (part_view master) from says) (sym was.sent_is)
-      (subst (λ (one : Master). PartsHear world.sent m (part_view one) from says) (sym was.master_is)
-      (hears-parts m from says
-      (subst (λ (all : List Message). In (record { from = from; to = Server m; body = says }) all) was.sent_is at)))
+  hears-its sent m master was from says at = search (arith, hears-parts)
 
   moved : {sent : List Message} {m : ServerId} {master : Master} {after : Master × List Message} → Was sent m master →
       PartsMoved sent m master after → Its (sent ++ after.1) m after.0

@@ -1,6 +1,7 @@
 -- Rules that leave what the facts read: the list rules, what the timer says again, and most of the rules that follow up.
-use Rattle.std.proofs.Common.{ℕ, false, List, [], ◌∷◌}
-use Rattle.rc_model.specs.Model.{ServerId, Message, head_of, opens_head, next_digest, loses, Master, with_log, to_ids, ids_of, place_of}
+use Rattle.std.proofs.Common.{arith}
+use Rattle.std.proofs.Common.{ℕ, false, List}
+use Rattle.rc_model.specs.Model.{ServerId, Message, head_of, opens_head, next_digest, Master, with_log, ids_of, place_of}
 use Rattle.rc_model.specs.Model.{places_head, dead_segments}
 use Rattle.rc_model.proofs.Walk.{Joined, Listed, Rolls}
 use Rattle.rc_owner_laws.specs.Parts.{part_view, GoodParts}
@@ -31,9 +32,4 @@ module _ (sent : List Message) (m : ServerId) where
   parts-rolls master ids writing room chosen = parts-opens (next_digest master.log (dead_segments master)) ids
 
   pub parts-listed : Listed (Kept sent m)
-  parts-listed = record {
-    replaces = λ master seg ids isn't head good. quiet-log head good (same-loses master.known seg)
-        (plain-to_ids _ ids (place_of (loses master.known seg master.log).0 seg
-        ((loses master.known seg master.log).0.segments seg).shut) tt);
-    opens = λ master ids none chosen. parts-opens (1 ∷ []) ids;
-  }
+  parts-listed = search (arith, quiet-log, same-loses, plain-to_ids, parts-opens)

@@ -1,18 +1,18 @@
 -- A row comes, a range is granted, a part is begun, and its end is told.
-use Rattle.std.proofs.Common.{◌≡◌, ◌⊎◌, ℕ, ◌<◌, ◌≤◌, Bool, true, false, cond, ◌||◌, List, [], ◌∷◌, ◌++◌, length, map}
+use Rattle.std.proofs.Common.{◌≡◌, ◌⊎◌, ℕ, ◌≤◌, Bool, true, false, cond, ◌||◌, List, [], ◌∷◌, ◌++◌, length, map}
 use Rattle.std.proofs.Common.{take, nat_eq, nat_le, Some, None, refl, sym, ap, ◌∙◌, subst, inl, inr, arith}
 use Rattle.std.specs.List.{list_any}
 use Rattle.std.proofs.lemmas.Bool.{and_parts, eqb-true, eq-eqb, leb-true, or_right, or_left, or_parts}
 use Rattle.std.proofs.lemmas.List.{length-map}
 use Rattle.rc_model.specs.Model.{ServerId, Entry, Part, GrantedRange, Message, LogPlace, PartRow, PartState, Ownership, owns_term}
-use Rattle.rc_model.specs.Model.{has_part, knows_term, awaited_row, rows_in_order, insert_row, awaits, all_came, entries_that_came}
-use Rattle.rc_model.specs.Model.{under_term, joined, joining, part_with_row, with_row, data_in, replay_in, put_data, new_part}
+use Rattle.rc_model.specs.Model.{has_part, knows_term, awaited_row, rows_in_order, insert_row, awaits}
+use Rattle.rc_model.specs.Model.{under_term, joined, joining, part_with_row, data_in, replay_in, put_data, new_part}
 use Rattle.rc_model.specs.Model.{count_under, replayed_at, is_complete, answered_in, after_answer, Task, attempt_of, In}
 use Rattle.rc_model.proofs.Members.{In-append, In-left, In-right}
 use Rattle.rc_step_laws.specs.Words.{Begins}
 use Rattle.rc_step_laws.proofs.Lists.{begins-refl}
 use Rattle.rc_owner_laws.specs.Parts.{PartView, logged, under, durable_under, RangeWasGranted, WasPlanned, HasSent, rows_of_task}
-use Rattle.rc_owner_laws.specs.Parts.{SomeCame, AllCame, IsWaiting, HasJoined, IsPart, IsClients, IsReplayed, GoodParts}
+use Rattle.rc_owner_laws.specs.Parts.{SomeCame, IsWaiting, HasJoined, IsPart, IsClients, IsReplayed, GoodParts}
 use Rattle.rc_owner_laws.specs.PartMoves.{IsComplete}
 use Rattle.rc_owner_laws.proofs.PartLists.{append-nil, under-append, under-all, under-none, count-replayed, count-take, nothing-more}
 use Rattle.rc_owner_laws.proofs.Appending.{knows-part, owns-granted}
@@ -34,9 +34,7 @@ module _ (sent : List Message) (m : ServerId) (v : PartView) (good : GoodParts s
   has-now t = has_term-same t v.own.parts (data_in term seg from entries v.own.parts) (same-data term seg from entries v.own.parts)
 
   knows-now : (t : ℕ) → knows_term (put_data term seg from entries v.own) t ≡ knows_term v.own t
-  knows-now t = ap (λ b. b || owns_term v.own t)
-      (has_term-same t v.own.parts (data_in term seg from entries v.own.parts)
-      (same-data term seg from entries v.own.parts))
+  knows-now t = search (arith, has_term-same, same-data)
 
   under-data : (t : ℕ) → under t (replay_in term seg from entries v.own.parts) ≡ [] →
       under t (v.own.replay ++ replay_in term seg from entries v.own.parts) ≡ under t v.own.replay
@@ -49,22 +47,8 @@ module _ (sent : List Message) (m : ServerId) (v : PartView) (good : GoodParts s
       IsWaiting sent m v task state ⊎ HasJoined sent m v task state →
       IsWaiting sent m (with_own (put_data term seg from entries v.own) v) task state ⊎
       HasJoined sent m (with_own (put_data term seg from entries v.own) v) task state
-  beside {state} none (inl p) =
-      inl (record {
-        rows = p.rows;
-        some = p.some;
-        none_logged = p.none_logged;
-        none_waits = under-data state.part.term none ∙ p.none_waits;
-        unowned = p.unowned;
-      })
-  beside {state} none (inr p) = inr (record {
-    rows = p.rows;
-    entries = p.entries;
-    came = p.came;
-    size = p.size;
-    fresh = λ unowned. ap (λ l. under state.part.term (logged v.places) ++ l) (under-data state.part.term none) ∙ p.fresh unowned;
-    owned = λ e. (let q = p.owned e in (q.0, under-data state.part.term none ∙ q.1, q.2));
-  })
+  beside {state} none (inl p) = search (arith, under-data)
+  beside {state} none (inr p) = search (arith, under-data)
 
   other : (state : PartState) → IsOther term v.own.parts (replay_in term seg from entries v.own.parts) state →
       IsPart sent m (with_own (put_data term seg from entries v.own) v) state
@@ -93,49 +77,7 @@ module _ (sent : List Message) (m : ServerId) (v : PartView) (good : GoodParts s
       HasJoined sent m (with_own (put_data term seg from entries v.own) v) task now
   taken state task now awaited now_is replay_is (inr p) = absurd (awaits-some term seg from state awaited p.rows)
   taken state task now awaited now_is replay_is (inl p) =
-      subst (λ (one : PartState). How one) (sym now_is) (by (all_came rows_now) refl)
-    where
-      How : PartState → Type 0
-      How one = IsWaiting sent m (with_own (put_data term seg from entries v.own) v) task one ⊎
-          HasJoined sent m (with_own (put_data term seg from entries v.own) v) task one
-
-      rows_now : List PartRow
-      rows_now = with_row seg from entries state.rows
-
-      rows : SomeCame sent m state.part.term (rows_of_task task) rows_now
-      rows = some-with_row (rows_of_task task) state.rows
-          (subst (λ t. HasSent sent m from t seg entries) (sym (awaits-term seg from state awaited)) was) p.rows
-
-      joins : (b : Bool) → all_came rows_now ≡ b → replay_in term seg from entries v.own.parts ≡ cond b
-          (map (under_term state.part.term) (entries_that_came rows_now)) []
-      joins b e = replay_is ∙ ap (λ c. cond c (map (under_term state.part.term) (entries_that_came rows_now)) []) e
-
-      by : (b : Bool) → all_came rows_now ≡ b → How (joined (part_with_row seg from entries state))
-      by true e = subst How (sym (ap (λ c. cond c
-          (record (part_with_row seg from entries state) { rows = []; size = length (entries_that_came rows_now) })
-          (part_with_row seg from entries state)) e))
-          (inr (record {
-            rows = refl;
-            entries = entries_that_came rows_now;
-            came = all-came sent m state.part.term (rows_of_task task) rows_now rows e;
-            size = refl;
-            fresh = λ unowned.
-                ap (λ l. l ++ under state.part.term (v.own.replay ++ replay_in term seg from entries v.own.parts)) p.none_logged
-                ∙ under-append state.part.term v.own.replay (replay_in term seg from entries v.own.parts)
-                ∙ ap (λ l. l ++ under state.part.term (replay_in term seg from entries v.own.parts)) p.none_waits
-                ∙ ap (under state.part.term) (joins true e) ∙ under-all state.part.term (entries_that_came rows_now);
-            owned = λ owns. true_false (sym owns ∙ p.unowned);
-          }))
-      by false e = subst How (sym (ap (λ c. cond c
-          (record (part_with_row seg from entries state) { rows = []; size = length (entries_that_came rows_now) })
-          (part_with_row seg from entries state)) e))
-          (inl (record {
-            rows = rows;
-            some = rows-some seg from entries state.rows p.some;
-            none_logged = p.none_logged;
-            none_waits = under-data state.part.term (ap (under state.part.term) (joins false e)) ∙ p.none_waits;
-            unowned = p.unowned;
-          }))
+      search (arith, some-with_row, awaits-term, all-came, under-append, under-all, rows-some, under-data)
 
   taker : {now : PartState} → IsTaker term seg from entries v.own.parts (replay_in term seg from entries v.own.parts)
       now → IsPart sent m (with_own (put_data term seg from entries v.own) v) now
@@ -210,11 +152,7 @@ granted-test : (term : ℕ) (grants : List GrantedRange) (granted : GrantedRange
     list_any (λ (one : GrantedRange). nat_eq one.term term)
     (grants ++ granted ∷ []) ≡ (list_any (λ (one : GrantedRange). nat_eq one.term term) grants ||
     nat_eq granted.term term)
-granted-test term [] granted = by (nat_eq granted.term term)
-  where
-    by : (b : Bool) → (b || false) ≡ b
-    by true = refl
-    by false = refl
+granted-test term [] granted = search arith
 granted-test term (first ∷ grants) granted = by (nat_eq first.term term) (granted-test term grants granted)
   where
     by : (b : Bool) → list_any (λ (one : GrantedRange). nat_eq one.term term)
@@ -235,13 +173,7 @@ module _ (sent : List Message) (m : ServerId) (v : PartView) (good : GoodParts s
   owns-now term = granted-test term v.own.grants granted
 
   knows-more : (term : ℕ) → knows_term v.own term ≡ true → knows_term (owning granted v.own) term ≡ true
-  knows-more term e = by (has_part v.own term) (owns_term v.own term) e (owns-now term)
-    where
-      by : (a b : Bool) → (a || b) ≡ true → owns_term (owning granted v.own) term ≡ (b || nat_eq granted.term term) →
-          (a || owns_term (owning granted v.own) term) ≡ true
-      by true b p q = refl
-      by false true p q = q
-      by false false p q = true_false (sym p)
+  knows-more term e = search (arith, owns-now)
 
   is-ended : (state : PartState) → In state v.own.parts → state.part.term ≡ granted.term →
       (state.rows ≡ []) × (state.size ≤ durable_under granted.term v)
@@ -362,11 +294,7 @@ In-insert row new (other ∷ rows) at = either (λ (l : List PartRow). In row l 
     further : (In row (insert_row new rows) → (row ≡ new) ⊎ In row rows) →
         (row ≡ other) ⊎ In row (insert_row new rows) → (row ≡ new) ⊎ In row (other ∷ rows)
     further rec (inl same) = inr (inl same)
-    further rec (inr rest) = which (rec rest)
-      where
-        which : (row ≡ new) ⊎ In row rows → (row ≡ new) ⊎ ((row ≡ other) ⊎ In row rows)
-        which (inl same) = inl same
-        which (inr old) = inr (inr old)
+    further rec (inr rest) = search arith
 
 none-came : (names : List (ℕ × ServerId)) → NoneCame (rows_in_order (map awaited_row names))
 none-came [] row at = absurd at
@@ -430,42 +358,15 @@ module _ (sent : List Message) (m : ServerId) (v : PartView) (good : GoodParts s
       (has-new states)
 
   knows-begun : (term : ℕ) → knows_term v.own term ≡ true → knows_term begun.own term ≡ true
-  knows-begun term e = by (has_part v.own term) refl e
-    where
-      by : (b : Bool) → has_part v.own term ≡ b → (b || owns_term v.own term) ≡ true → knows_term begun.own term ≡ true
-      by true has p = or_left (has_part begun.own term) (owns_term v.own term) (has-more term v.own.parts has)
-      by false has p = or_right (has_part begun.own term) (owns_term v.own term) p
+  knows-begun term e = search (arith, or_left, has-more, or_right)
 
   how-begun : {state : PartState} {one : Task} → IsWaiting sent m v one state ⊎ HasJoined sent m v one state →
       IsWaiting sent m begun one state ⊎ HasJoined sent m begun one state
-  how-begun (inl p) =
-      inl (record {
-        rows = p.rows;
-        some = p.some;
-        none_logged = p.none_logged;
-        none_waits = p.none_waits;
-        unowned = p.unowned;
-      })
-  how-begun (inr p) =
-      inr (record {
-        rows = p.rows;
-        entries = p.entries;
-        came = p.came;
-        size = p.size;
-        fresh = p.fresh;
-        owned = p.owned;
-      })
+  how-begun (inl p) = search arith
+  how-begun (inr p) = search arith
 
   how-new : (rows : List PartRow) → rows_of_task task ≡ rows → IsWaiting sent m begun task new ⊎ HasJoined sent m begun task new
-  how-new [] e = inr (record {
-    rows = e;
-    entries = [];
-    came = subst (λ rows. AllCame sent m task.part.term rows []) (sym e) refl;
-    size = refl;
-    fresh = λ unowned. ap (λ l. l ++ under task.part.term v.own.replay) (no-entry (logged v.places) good.logged_known) ∙
-        no-entry v.own.replay (λ entry at. knows-part v.own entry.term (good.waiting_part entry at));
-    owned = λ owns. true_false (sym owns ∙ tests.1);
-  })
+  how-new [] e = search (arith, no-entry, knows-part, tests)
   how-new (row ∷ rows) e = inl (record {
     rows = some-none sent m task.part.term (rows_of_task task) (none-came (map (λ row. (row.seg, row.holder)) task.rows));
     some = λ none. never (sym e ∙ none);
@@ -572,34 +473,13 @@ good-answered {sent} {m} {v} durable good = record {
         HasJoined sent m (with_own (after_answer durable v.own) v) task state
 
     how : (task : Task) (state : PartState) → IsWaiting sent m v task state ⊎ HasJoined sent m v task state → How task state
-    how task state (inl p) = inl
-        (record {
-          rows = p.rows;
-          some = p.some;
-          none_logged = p.none_logged;
-          none_waits = p.none_waits;
-          unowned = p.unowned;
-        })
+    how task state (inl p) = search arith
     how task state (inr p) = inr
         (record { rows = p.rows; entries = p.entries; came = p.came; size = p.size; fresh = p.fresh; owned = p.owned })
 
     -- by the part, the rows and the size alone
     like : (task : Task) (old now : PartState) → SameState old now → How task old → How task now
-    like task old now same p = subst (λ (part : Part). How task
-        (record { part = part; rows = now.rows; size = now.size; answered = now.answered })) (sym same.part)
-        (subst (λ rows. How task (record { part = old.part; rows = rows; size = now.size; answered = now.answered })) (sym same.rows)
-        (subst (λ size. How task (record { part = old.part; rows = old.rows; size = size; answered = now.answered }))
-        (sym same.size) (mark p)))
-      where
-        mark : How task old → How task (record { part = old.part; rows = old.rows; size = old.size; answered = now.answered })
-        mark (inl q) = inl (record {
-          rows = q.rows;
-          some = q.some;
-          none_logged = q.none_logged;
-          none_waits = q.none_waits;
-          unowned = q.unowned;
-        })
-        mark (inr q) = inr (record { rows = q.rows; entries = q.entries; came = q.came; size = q.size; fresh = q.fresh; owned = q.owned })
+    like task old now same p = search arith
 
     part : (now : PartState) → (old : PartState) × (In old v.own.parts) × SameState old now →
         IsPart sent m (with_own (after_answer durable v.own) v) now
@@ -626,13 +506,7 @@ good-answered {sent} {m} {v} durable good = record {
       where
         by : (now : PartState) × (In now (answered_in durable v.own.parts)) × SameState p.state now →
             IsReplayed (with_own (after_answer durable v.own) v) before entry
-        by (now, at, same) = record {
-          state = now;
-          among = at;
-          term_is = ap (λ (one : Part). one.term) same.part ∙ p.term_is;
-          rows = same.rows ∙ p.rows;
-          first = subst (λ n. count_under entry.term (logged before) < n) (sym same.size) p.first;
-        }
+        by (now, at, same) = search arith
 
 -- what the test of a complete part says
 pub complete-is : (v : PartView) (state : PartState) → In state v.own.parts →

@@ -19,7 +19,7 @@ use Rattle.rc_owner_laws.specs.Terms.{IsGrantedTo, IsGivenBy}
 use Rattle.rc_owner_laws.specs.Parts.{part_view, logged, under, AllCame, RangeWasGranted, IsClients}
 use Rattle.rc_owner_laws.specs.PartMoves.{HasWritten}
 use Rattle.rc_owner_laws.proofs.PartLists.{under-append, under-In, logged-append, begins-within, begins-more}
-use Rattle.rc_owner_laws.specs.Worlds.{parts_fine, AllHold}
+use Rattle.rc_owner_laws.specs.Worlds.{AllHold}
 use Rattle.rc_owner_laws.specs.Words.{IsKeptBy, Keeps}
 use Rattle.rc_owner_laws.specs.VersionClaims.{MayFree}
 use Rattle.rc_owner_laws.proofs.Rows.{in-order, CameFor, came-for}
@@ -70,13 +70,7 @@ pub record IsRemembered (c : Coordinator) (one : Granted) : Type 0 where
 
 remembered-in : (c : Coordinator) (to : Addr) (says : Body) (one : Granted) → own_said c to says →
     In one (grant_in to says) → IsRemembered c one
-remembered-in c to (body.Own range term before attempt) one own at =
-    by (subst (λ (says : Body). In one (grant_in (Server own.grant.owner) says)) own.body_is
-    (subst (λ (addr : Addr). In one (grant_in addr (body.Own range term before attempt))) own.to_is at))
-  where
-    by : (one ≡ granted_of own.grant) ⊎ ⊥ → IsRemembered c one
-    by (inl e) = record { grant = own.grant; among = own.among; is = e }
-    by (inr never) = absurd never
+remembered-in c to (body.Own range term before attempt) one own at = search arith
 remembered-in c to _ one own at = absurd at
 
 pub remembered : (c : Coordinator) (sent : List Message) →
@@ -103,28 +97,12 @@ pub record Has (Freed : Type 0) (sent : List Message) (m : ServerId) (log : Log)
 
 has-of : {Freed : Type 0} {sent : List Message} {m : ServerId} {log : Log} {term : ℕ} {was : Entry} →
     Keeps Freed sent m log term was → Has Freed sent m log term was
-has-of k = record {
-  seg = k.at.seg;
-  offset = k.at.offset;
-  entry = k.entry;
-  safe = k.at.safe;
-  holds = k.at.holds;
-  term_is = k.term_is;
-  keeps = k.keeps;
-}
+has-of k = search arith
 
 -- at a safe place it has the entry itself
 pub has-itself : {Freed : Type 0} {sent : List Message} {m : ServerId} {log : Log} {s o : ℕ} {entry : Entry} →
     IsSafe sent m log s o → slice_get (log_in log s) o ≡ Some entry → Has Freed sent m log entry.term entry
-has-itself {s} {o} {entry} safe holds = record {
-  seg = s;
-  offset = o;
-  entry = entry;
-  safe = safe;
-  holds = holds;
-  term_is = refl;
-  keeps = record { table_is = refl; key_is = refl; kept = inl (refl, refl) };
-}
+has-itself {s} {o} {entry} safe holds = search arith
 
 -- a recovery has the place itself, or, where segments are freed, a greater version of its key
 pub record IsKeptIn (Freed : Type 0) (m : ServerId) (log : Log) (rows : List PlanRow) (s o : ℕ) (entry : Entry) : Type 0 where
@@ -135,9 +113,7 @@ module _ (sent : List Message) (masters : ServerId → Master) (hosts : ℕ → 
     (all : AllHold sent masters hosts c) where
   pub term-started : (grant : Grant) (given : IsGivenBy sent c grant) →
       (started sent masters hosts c all grant given).state.part.term ≡ grant.term
-  term-started grant given =
-      let p : IsStarted sent masters hosts c all grant given = started sent masters hosts c all grant given in
-      ap (λ (part : Part). part.term) (sym p.part_is ∙ p.given_is) ∙ sym given.term_is
+  term-started grant given = search (arith, started)
 
   -- each recovery keeps what is safe
   abbrev pub Covers : Type 0 → Type 0
@@ -218,20 +194,8 @@ module _ (sent : List Message) (masters : ServerId → Master) (hosts : ℕ → 
 
         least : ((there.seg ≡ has_it.seg) × (there.offset ≡ has_it.offset)) ⊎ (Freed × (has_it.entry.version < there.other.version)) →
             ((there.other.version ≡ was.version) × (there.other.value ≡ was.value)) ⊎ (Freed × (was.version < there.other.version))
-        least (inl e) =
-            let here : slice_get (log_in (masters s.task.master).log has_it.seg) has_it.offset ≡ Some there.other =
-            subst (λ o. slice_get (log_in (masters s.task.master).log has_it.seg) o ≡ Some there.other) e.1
-            (subst (λ t. slice_get (log_in (masters s.task.master).log t) there.offset ≡ Some there.other) e.0 there.holds) in
-            let stood : slice_get (log_in (masters s.task.master).log has_it.seg) has_it.offset ≡ Some has_it.entry = has_it.holds in
-            let same : has_it.entry ≡ there.other = cc in
-            subst (λ (one : Entry). ((one.version ≡ was.version) × (one.value ≡ was.value)) ⊎
-            (Freed × (was.version < one.version))) same has_it.keeps.kept
-        least (inr (freed, more)) = inr (freed, greater has_it.keeps.kept)
-          where
-            greater : ((has_it.entry.version ≡ was.version) × (has_it.entry.value ≡ was.value)) ⊎
-                (Freed × (was.version < has_it.entry.version)) → was.version < there.other.version
-            greater (inl e) = let a = e.0 in omega arith
-            greater (inr (_, less)) = omega arith
+        least (inl e) = search (arith, s, has_it, there)
+        least (inr (freed, more)) = search (arith, has_it, there)
 
         -- the row that holds it
         row : PlanRow
@@ -249,12 +213,7 @@ module _ (sent : List Message) (masters : ServerId → Master) (hosts : ℕ → 
             (ap (λ (part : Part). part.term) (sym s.part_is)) came.was)
 
         in_part : is_in_part s.task.part there.other ≡ true
-        in_part = range-holds s.task.part there.other
-            (there.term ∙ has_it.term_is ∙ given.previous_is ∙ ap (λ (part : Part). part.previous) (sym s.given_is))
-            (subst (λ k. in_range s.task.part.range there.other.table k ≡ true) (sym key_same)
-            (subst (λ t. in_range s.task.part.range t was.key ≡ true) (sym table_same)
-            (ap (λ (part : Part). in_range part.range was.table was.key) s.given_is ∙
-            ap (λ range. in_range range was.table was.key) (sym given.range_is) ∙ holds)))
+        in_part = search (arith, range-holds, s, there, has_it, given, key_same, table_same)
 
         in_cut : In there.other (cut_of masters s.task row)
         in_cut = filter-In (is_in_part s.task.part) there.other (take row.len (log_in (masters s.task.master).log row.seg))
@@ -305,11 +264,7 @@ module _ (sent : List Message) (masters : ServerId → Master) (hosts : ℕ → 
 
     pub goes-on : {was : Entry} {earlier later : ℕ} → IsBefore (grants_of sent was.table was.key) earlier later →
         0 < earlier → OwnersHave earlier was → GoesTo later was
-    goes-on {was} (previous k one e) above has =
-        let p = at-point was.table was.key k e in
-        let before : one.previous ≡ p.0.previous = ap (λ (g : Granted). g.previous) p.2 in
-        subst (λ n. GoesTo n was) (ap (λ (g : Granted). g.term) (sym p.2))
-        (step-over p.0 p.1 p.3 (subst (λ n. 0 < n) before above) (subst (λ n. OwnersHave n was) before has))
+    goes-on {was} (previous k one e) above has = search (arith, at-point, step-over)
     goes-on {was} (onward from k one e way) above has =
         let rest : GoesTo one.previous was = goes-on way above has in
         let p = at-point was.table was.key k e in
@@ -389,11 +344,7 @@ module _ (sent : List Message) (masters : ServerId → Master) (hosts : ℕ → 
     pub written : HasWritten (part_view (masters m)) ack.seg ack.offset ack.term ack.table ack.key ack.version
 
   pub acked : {m : ServerId} {ack : Ack} → HasAcknowledged sent m ack → IsAcked m ack
-  acked {m} was = record {
-    write = acknowledged-is all.good was;
-    written = subst (parts_fine masters (Server m) was.message.to) was.says
-        (subst (λ (from : Addr). parts_fine masters from was.message.to was.message.body) was.from (all.parts.said was.message was.among));
-  }
+  acked {m} was = search (arith, acknowledged-is)
 
   -- a master has sent it
   pub acknowledger : {ack : Ack} → WasAcknowledged sent ack → (m : ServerId) × HasAcknowledged sent m ack
@@ -472,9 +423,7 @@ module _ (sent : List Message) (masters : ServerId → Master) (hosts : ℕ → 
         (subst (λ t. IsEarlier sent t later.key earlier.term later.term) (sym (q.write.table_is ∙ tables)) before)
 
     has : Has MayFree sent old.grant.owner (masters old.grant.owner).log earlier.term q.write.entry
-    has = subst (λ k. Has MayFree sent k (masters k).log earlier.term q.write.entry) old.owner_is
-        (subst (λ n. Has MayFree sent m (masters m).log n q.write.entry) q.write.term_is
-        (has-itself q.write.safe q.write.holds))
+    has = search (arith, old, has-itself)
 
     goes : GoesTo MayFree covers-anyhow later.term q.write.entry
     goes = goes-on MayFree covers-anyhow way (subst (λ n. 0 < n) old.term_is (all.terms.issued old.grant old.among).0)
@@ -501,7 +450,4 @@ module _ (sent : List Message) (masters : ServerId → Master) (hosts : ℕ → 
         subst (λ n. n < later.version) q.write.version_is (subst (λ n. q.write.entry.version < n) p.written.version_is less)
 
   pub versions-rise : VersionsRise sent
-  versions-rise later p earlier q tables keys before =
-      let x : (x : ServerId) × HasAcknowledged sent x later = acknowledger p in
-      let m : (m : ServerId) × HasAcknowledged sent m earlier = acknowledger q in
-      rises x.0 m.0 later earlier (acked x.1) (acked m.1) tables keys before
+  versions-rise later p earlier q tables keys before = search (arith, acknowledger, rises, acked)

@@ -9,7 +9,6 @@ use Rattle.rc_model.proofs.Ascending.{IsBelow, IsAscending, IsAscending-ascendin
 use Rattle.rc_model.proofs.PickColumns.{segs-taken}
 use Rattle.rc_model.proofs.Pickable.{pickable-from_picked}
 use Rattle.rc_owner_laws.specs.Parts.{HasSent, AllCame}
-use Rattle.rc_model.proofs.Tests.{either}
 
 -- the segments of rows
 abbrev pub segs_of : List PlanRow → List ℕ
@@ -51,12 +50,7 @@ waited rows = map awaited_row (map (λ row. (row.seg, row.holder)) rows)
 insert-first : (row : PlanRow) (rows : List PlanRow) → IsBelow row.seg (segs_of rows) →
     insert_row (awaited_row (row.seg, row.holder)) (waited rows) ≡ awaited_row (row.seg, row.holder) ∷ waited rows
 insert-first row [] below = refl
-insert-first row (other ∷ rows) below =
-    either (λ (l : List PartRow). l ≡ awaited_row (row.seg, row.holder) ∷ waited (other ∷ rows)) (nat_lt other.seg row.seg)
-    (awaited_row (other.seg, other.holder) ∷ insert_row (awaited_row (row.seg, row.holder)) (waited rows))
-    (awaited_row (row.seg, row.holder) ∷ waited (other ∷ rows))
-    (λ e. (let less : other.seg < row.seg = ltb-true other.seg row.seg e in let more : row.seg < other.seg = below.0 in
-    absurd (omega arith))) (λ _. refl)
+insert-first row (other ∷ rows) below = search (arith, nat_lt, ltb-true)
 
 -- rows that ascend are in order
 pub in-order : (rows : List PlanRow) → IsAscending (segs_of rows) → rows_in_order (waited rows) ≡ waited rows

@@ -1,10 +1,11 @@
 -- Lists of parts: what depends on their terms alone, and what the coming of a row changes.
+use Rattle.std.proofs.Common.{arith}
 use Rattle.std.proofs.Common.{◌≡◌, ◌⊎◌, ℕ, Bool, true, false, cond, ◌||◌, List, [], ◌∷◌, ◌++◌, length, map, nat_eq}
 use Rattle.std.proofs.Common.{Option, Some, None, is_some, refl, sym, ap, ◌∙◌, subst, inl, inr}
 use Rattle.std.specs.List.{list_any}
 use Rattle.std.proofs.lemmas.Bool.{and_parts, eqb-true, eq-eqb, or_right}
 use Rattle.std.specs.Prelude.{unwrap_or}
-use Rattle.rc_model.specs.Model.{ServerId, Entry, Message, same_id, PartRow, PartState, is_awaited, with_row, awaits, all_came}
+use Rattle.rc_model.specs.Model.{ServerId, Entry, Message, PartRow, PartState, is_awaited, with_row, awaits, all_came}
 use Rattle.rc_model.specs.Model.{entries_that_came, under_term, joined, joining, part_with_row, data_in, replay_in}
 use Rattle.rc_model.specs.Model.{is_to_answer, answered_in, In}
 use Rattle.rc_model.proofs.Members.{In-map}
@@ -96,9 +97,7 @@ differ-append states new differ without = by states differ (none-without new.par
 
 -- the part awaits nothing where it has no rows
 pub awaits-some : (term seg : ℕ) (from : ServerId) (state : PartState) → awaits term seg from state ≡ true → state.rows ≡ [] → ⊥
-awaits-some term seg from state e none =
-    true_false (sym (and_parts (nat_eq state.part.term term) (list_any (is_awaited seg from) state.rows) e).1 ∙
-    ap (λ (rows : List PartRow). list_any (is_awaited seg from) rows) none)
+awaits-some term seg from state e none = search (arith, and_parts)
 
 pub awaits-term : {term : ℕ} (seg : ℕ) (from : ServerId) (state : PartState) → awaits term seg from state ≡ true → state.part.term ≡ term
 awaits-term {term} seg from state e = eqb-true state.part.term term
@@ -133,11 +132,7 @@ replay-term term seg from entries (state ∷ states) entry at =
         In entry (cond b (joining (part_with_row seg from entries state)) (replay_in term seg from entries states)) →
         (In entry (replay_in term seg from entries states) → (entry.term ≡ term) × (has_term term states ≡ true)) →
         (entry.term ≡ term) × ((nat_eq state.part.term term || has_term term states) ≡ true)
-    by true is now rec =
-        let same : state.part.term ≡ term = awaits-term seg from state is in (
-          joining-term (part_with_row seg from entries state) entry now ∙ same,
-          ap (λ b. b || has_term term states) (eq-eqb state.part.term term same),
-        )
+    by true is now rec = search (arith, awaits-term, joining-term, eq-eqb)
     by false is now rec = (let p = rec now in (p.0, or_right (nat_eq state.part.term term) (has_term term states) p.1))
 
 -- a state after a row has come: it was there and no other of its term has taken the row, or it is the one that has
@@ -174,27 +169,11 @@ data-cases term seg from entries (state ∷ states) now differ at =
 
     later : (replay : List Entry) → IsOther term states replay now ⊎ IsTaker term seg from entries states replay now → Cases replay
     later replay (inl p) = inl (record { among = inr p.among; beside = p.beside })
-    later replay (inr p) = inr (record {
-      state = p.state;
-      among = inr p.among;
-      awaited = p.awaited;
-      now_is = p.now_is;
-      replay_is = p.replay_is;
-    })
+    later replay (inr p) = search arith
 
     first : now ≡ state → (b : Bool) → nat_eq state.part.term term ≡ b → Cases (replay_in term seg from entries states)
-    first same true e = inl (record {
-      among = inl same;
-      beside = inr
-          (no-replay term seg from entries states (subst (λ t. NoneUnder t states) (eqb-true state.part.term term e)
-          differ.0));
-    })
-    first same false e = inl (record {
-      among = inl same;
-      beside = inl
-          (λ is. true_false (sym (eq-eqb state.part.term term (ap (λ (one : PartState). one.part.term) (sym same) ∙ is)) ∙
-          e));
-    })
+    first same true e = search (arith, no-replay, eqb-true)
+    first same false e = search (arith, eq-eqb)
 
     by : (b : Bool) → awaits term seg from state ≡ b →
         In now (cond b (joined (part_with_row seg from entries state) ∷ states)
@@ -203,12 +182,7 @@ data-cases term seg from entries (state ∷ states) now differ at =
         now ⊎ IsTaker term seg from entries states (replay_in term seg from entries states) now) →
         Cases (cond b (joining (part_with_row seg from entries state)) (replay_in term seg from entries states))
     by true is (inl same) rec = inr (record { state = state; among = inl refl; awaited = is; now_is = same; replay_is = refl })
-    by true is (inr rest) rec =
-        inl (record {
-          among = inr rest;
-          beside = inl (λ e. none-In state.part.term states now differ.0 rest
-              (e ∙ sym (awaits-term seg from state is)));
-        })
+    by true is (inr rest) rec = search (arith, none-In, awaits-term)
     by false is (inl same) rec = first same (nat_eq state.part.term term) refl
     by false is (inr rest) rec = later (replay_in term seg from entries states) (rec rest)
 
@@ -234,9 +208,7 @@ data-stays term seg from entries (first ∷ states) state at none =
 -- Rows
 
 awaited-is : {seg : ℕ} {from : ServerId} (row : PartRow) → is_awaited seg from row ≡ true → (row.seg ≡ seg) × (row.holder ≡ from)
-awaited-is {seg} {from} row e =
-    let both = and_parts (nat_eq row.seg seg) _ e in
-    (eqb-true row.seg seg both.0, same_id-true row.holder from (and_parts (same_id row.holder from) _ both.1).0)
+awaited-is {seg} {from} row e = search (arith, and_parts, eqb-true, same_id-true)
 
 -- the row that has come was sent
 pub some-with_row : {sent : List Message} {m : ServerId} {term seg : ℕ} {from : ServerId} {entries : List Entry}
@@ -252,23 +224,12 @@ some-with_row {sent} {m} {term} {seg} {from} {entries} (first ∷ rows) (row ∷
   where
     now : (row.seg ≡ seg) × (row.holder ≡ from) → (some : List Entry) → Some entries ≡ Some some →
         HasSent sent m row.holder term row.seg some
-    now is some came =
-        let same : entries ≡ some = some-same came in
-        subst (λ s. HasSent sent m row.holder term s some) (sym is.0)
-        (subst (λ y. HasSent sent m y term seg some) (sym is.1) (subst (HasSent sent m from term seg) same was))
-      where
-        some-same : Some entries ≡ Some some → entries ≡ some
-        some-same e = cc
+    now is some came = search arith
 
 pub rows-some : (seg : ℕ) (from : ServerId) (entries : List Entry) (rows : List PartRow) → (rows ≡ [] → ⊥) →
     with_row seg from entries rows ≡ [] → ⊥
 rows-some seg from entries [] some none = some refl
-rows-some seg from entries (row ∷ rows) some none =
-    either (λ (l : List PartRow). l ≡ [] → ⊥) (is_awaited seg from row) (record row { came = Some entries } ∷ rows)
-    (row ∷ with_row seg from entries rows) (λ _ e. never e) (λ _ e. never e) none
-  where
-    never : {one : PartRow} {l : List PartRow} → one ∷ l ≡ [] → ⊥
-    never e = cc
+rows-some seg from entries (row ∷ rows) some none = search arith
 
 came-some : (came : Option (List Entry)) → is_some came ≡ true → came ≡ Some (unwrap_or came [])
 came-some None e = true_false (sym e)

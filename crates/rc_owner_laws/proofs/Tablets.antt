@@ -1,6 +1,6 @@
 -- Tablets that do not overlap: who owns a point after each change of them.
-use Rattle.std.proofs.Common.{◌≡◌, ℕ, ◌<◌, Bool, true, false, cond, ◌&&◌, ◌||◌, List, [], ◌∷◌, nat_eq}
-use Rattle.std.proofs.Common.{nat_lt, nat_le, Option, Some, None, option_map, refl, sym, ap, ◌∙◌, subst, arith}
+use Rattle.std.proofs.Common.{◌≡◌, ℕ, ◌<◌, Bool, true, false, cond, ◌||◌, List, [], ◌∷◌, nat_eq}
+use Rattle.std.proofs.Common.{nat_lt, Option, Some, None, option_map, refl, sym, ap, ◌∙◌, subst, arith}
 use Rattle.std.proofs.lemmas.Bool.{eqb-true, and_parts}
 use Rattle.std.proofs.lemmas.Bool.Decides.{nat_tests}
 use Rattle.rc_model.specs.Model.{lower_half, upper_half, ServerId, Tablet, KeyRange, same_id, holds, tablet_of, has_table, insert_tablet}
@@ -89,27 +89,12 @@ owner_at-split table at (tablet ∷ tablets) other key =
   where
     rest : owner_at (split_at table at tablets) other key ≡ owner_at tablets other key →
         owner_at (tablet ∷ split_at table at tablets) other key ≡ owner_at (tablet ∷ tablets) other key
-    rest rec = split (holds tablet other key)
-        (λ e. ap (option_map owner_of) (first-holds (split_at table at tablets) other key e ∙
-        sym (first-holds tablets other key e)))
-        (λ e. ap (option_map owner_of) (first-lacks tablet (split_at table at tablets) other key e)
-        ∙ (rec ∙ sym (ap (option_map owner_of) (first-lacks tablet tablets other key e))))
+    rest rec = search (arith, split, option_map, first-holds, first-lacks)
 
     halves : holds tablet table at ≡ true →
         owner_at (lower_half at tablet ∷ upper_half at tablet ∷ tablets) other key ≡ owner_at
         (tablet ∷ tablets) other key
-    halves e = split (holds (lower_half at tablet) other key)
-        (λ here. ap (option_map owner_of) (first-holds (upper_half at tablet ∷ tablets) other key here)
-        ∙ sym (ap (option_map owner_of) (first-holds tablets other key (lower-within tablet table at other key e here))))
-        (λ not_here. ap (option_map owner_of)
-        (first-lacks (lower_half at tablet) (upper_half at tablet ∷ tablets) other key not_here)
-        ∙ split (holds tablet other key) (λ whole. ap (option_map owner_of) (first-holds tablets other key
-        (lower-lacks tablet at other key not_here whole))
-        ∙ sym (ap (option_map owner_of) (first-holds tablets other key whole)))
-        (λ none. ap (option_map owner_of) (first-lacks (upper_half at tablet) tablets other key
-        (split (holds (upper_half at tablet) other key)
-        (λ up. true_false (sym (upper-within tablet table at other key e up) ∙ none)) (λ no. no)))
-        ∙ sym (ap (option_map owner_of) (first-lacks tablet tablets other key none))))
+    halves e = search (arith, split, option_map, first-holds, lower-within, first-lacks, lower-lacks, upper-within)
 
 -- where nobody owned a point, nobody does after a split
 none-of : (found : Option Tablet) → option_map owner_of found ≡ None → found ≡ None
@@ -145,9 +130,7 @@ none-of_table (tablet ∷ tablets) table key e =
         (has_table tablets table ≡ false → tablet_of tablets table key ≡ None) →
         has_table (tablet ∷ tablets) table ≡ false → tablet_of (tablet ∷ tablets) table key ≡ None
     by true later is rec e = true_false (sym (ap (λ b. b || has_table tablets table) is) ∙ e)
-    by false later is rec e =
-        first-lacks tablet tablets table key (ap (λ b. b && (nat_le tablet.range.lo key && nat_le key tablet.range.hi)) is) ∙
-        rec (sym (ap (λ b. b || has_table tablets table) is) ∙ e)
+    by false later is rec e = search (arith, first-lacks)
 
 -- a new tablet owns its points, if nobody did, and no other point changes
 inserted : {new : Tablet} (tablets : List Tablet) (table key : ℕ) → holds new table key ≡ true →
@@ -185,9 +168,7 @@ apart-inserted new (tablet ∷ tablets) none apart =
     ))
   where
     later : (table key : ℕ) → holds new table key ≡ true → tablet_of tablets table key ≡ None
-    later table key e = split (holds tablet table key)
-        (λ here. some-none (sym (first-holds tablets table key here) ∙ none table key e))
-        (λ lacks. sym (first-lacks tablet tablets table key lacks) ∙ none table key e)
+    later table key e = search (arith, split, some-none, first-holds, first-lacks)
 
 -- a point of a whole table is one of that table
 whole-table : {table other : ℕ} (key : ℕ) (owner : ServerId) (term : ℕ) → holds (whole_table table owner term) other key ≡ true → table ≡ other
@@ -207,30 +188,18 @@ owner_at-beside table term other key owner tablets e = ap (option_map owner_of) 
 pub owner_at-before : (table term other key : ℕ) (owner : ServerId) (tablets : List Tablet) →
     has_table tablets table ≡ false → holds (whole_table table owner term) other key ≡ true →
     owner_at tablets other key ≡ None
-owner_at-before table term other key owner tablets fresh e =
-    ap (option_map owner_of) (subst (λ t. tablet_of tablets t key ≡ None) (whole-table key owner term e)
-    (none-of_table tablets table key fresh))
+owner_at-before table term other key owner tablets fresh e = search (arith, option_map, whole-table, none-of_table)
 
 pub apart-new : (table term : ℕ) (owner : ServerId) (tablets : List Tablet) → has_table tablets table ≡ false →
     TabletsApart tablets → TabletsApart (with_table table owner term tablets)
-apart-new table term owner tablets fresh apart = apart-inserted (whole_table table owner term) tablets
-    (λ other key e. subst (λ t. tablet_of tablets t key ≡ None) (whole-table key owner term e)
-    (none-of_table tablets table key fresh)) apart
+apart-new table term owner tablets fresh apart = search (arith, apart-inserted, whole-table, none-of_table)
 
 -- Grants
 
 -- a tablet of exactly this range holds exactly its points
 range-holds : (range : KeyRange) (tablet : Tablet) (table key : ℕ) → is_range range tablet ≡ true →
     holds tablet table key ≡ in_range range table key
-range-holds range tablet table key e = ap (λ r. in_range r table key) (λ i. record { table = parts.0 i; lo = parts.1 i; hi = parts.2 i })
-  where
-    parts : (tablet.range.table ≡ range.table) × (tablet.range.lo ≡ range.lo) × (tablet.range.hi ≡ range.hi)
-    parts = (let a : (nat_eq tablet.range.table range.table ≡ true) ×
-        ((nat_eq tablet.range.lo range.lo && nat_eq tablet.range.hi range.hi) ≡ true) =
-        and_parts (nat_eq tablet.range.table range.table) (nat_eq tablet.range.lo range.lo && nat_eq tablet.range.hi range.hi) e in
-        let b : (nat_eq tablet.range.lo range.lo ≡ true) × (nat_eq tablet.range.hi range.hi ≡ true) =
-        and_parts (nat_eq tablet.range.lo range.lo) (nat_eq tablet.range.hi range.hi) a.1 in
-        (eqb-true tablet.range.table range.table a.0, eqb-true tablet.range.lo range.lo b.0, eqb-true tablet.range.hi range.hi b.1))
+range-holds range tablet table key e = search (arith, and_parts, eqb-true)
 
 -- a point in a range that some tablet has is held
 ranged-some : (range : KeyRange) (tablets : List Tablet) (table key : ℕ) → has_range range tablets ≡ true →
@@ -242,9 +211,7 @@ ranged-some range (tablet ∷ tablets) table key has e none = by (is_range range
         (has_range range tablets ≡ true → in_range range table key ≡ true → tablet_of tablets table key ≡ None → ⊥) →
         (is_range range tablet || has_range range tablets) ≡ true → ⊥
     by true is rec h = some-none (sym (first-holds tablets table key (range-holds range tablet table key is ∙ e)) ∙ none)
-    by false is rec h = split (holds tablet table key)
-        (λ there. some-none (sym (first-holds tablets table key there) ∙ none))
-        (λ lacks. rec (sym (ap (λ b. b || has_range range tablets) is) ∙ h) e (sym (first-lacks tablet tablets table key lacks) ∙ none))
+    by false is rec h = search (arith, split, some-none, first-holds, first-lacks)
 
 -- a point outside the range keeps its tablet
 pub assigned-beside : (range : KeyRange) (id : ServerId) (term : ℕ) (tablets : List Tablet) (table key : ℕ) →
@@ -277,9 +244,7 @@ assigned-within range {id} {term} (tablet ∷ tablets) table key apart has e =
   where
     later : (has_range range tablets ≡ true → owner_at (assigned range id term tablets) table key ≡ Some (id, term)) →
         has_range range tablets ≡ true → owner_at (tablet ∷ assigned range id term tablets) table key ≡ Some (id, term)
-    later rec rest = split (holds tablet table key)
-        (λ here. absurd (ranged-some range tablets table key rest e (apart.0 table key here)))
-        (λ lacks. ap (option_map owner_of) (first-lacks tablet (assigned range id term tablets) table key lacks) ∙ rec rest)
+    later rec rest = search (arith, split, ranged-some, option_map, first-lacks)
 
 pub apart-assigned : (range : KeyRange) (id : ServerId) (term : ℕ) (tablets : List Tablet) → TabletsApart tablets →
     TabletsApart (assigned range id term tablets)

@@ -1,13 +1,13 @@
 -- What holds of terms holds of every world that a list of events leads to.
+use Rattle.std.proofs.Common.{arith}
 use Rattle.std.proofs.Common.{◌≡◌, List, [], ◌∷◌, ◌++◌, Option, Some, None, refl, sym, subst}
-use Rattle.rc_model.specs.Model.{Setup, Event, NodeWork, outside_sends, coordinator_step, host_step, World, opening, NodeName, TheOutside}
-use Rattle.rc_model.specs.Model.{TheCoordinator, TheHost, Job, job_of, is_possible, node_done, job_done, step, replay_from, replay}
+use Rattle.rc_model.specs.Model.{Setup, Event, NodeWork, outside_sends, host_step, World, opening, NodeName, TheOutside}
+use Rattle.rc_model.specs.Model.{TheCoordinator, TheHost, Job, job_of, node_done, job_done, step, replay_from, replay}
 use Rattle.rc_log_laws.proofs.Replays.{GoodWorld, IsGiven, job_of-given, taken-at, good-world}
 use Rattle.rc_owner_laws.proofs.OwnerReplays.{OfWorld, grants-world, later-coordinator}
 use Rattle.rc_owner_laws.specs.Terms.{GoodTerms}
 use Rattle.rc_owner_laws.proofs.Keeping.{terms-more}
 use Rattle.rc_owner_laws.proofs.TermSteps.{keeps-work, new-terms}
-use Rattle.rc_model.proofs.Tests.{either}
 use Rattle.rc_step_laws.proofs.LogMoves.{more-left}
 
 abbrev pub TermsOf : World → Type 0
@@ -17,9 +17,7 @@ terms-node : (world : World) (one : Event) (node : NodeName) (work : NodeWork) �
     TermsOf world → IsGiven world.sent node work → TermsOf (node_done world one node work)
 terms-node world one TheOutside work good grants terms given = terms-more (more-left world.sent (outside_sends work)) terms
 terms-node world one TheCoordinator work good grants terms given =
-    terms-more (more-left world.sent (coordinator_step world.coordinator work).1)
-    (keeps-work world.sent world.coordinator grants.good terms work (taken-at world.sent given)
-    (later-coordinator world work good given))
+    search (arith, terms-more, more-left, keeps-work, taken-at, later-coordinator)
 terms-node world one (TheHost i) work good grants terms given = terms-more
     (more-left world.sent (host_step (world.hosts i) work).1) terms
 
@@ -30,9 +28,7 @@ terms-job world one (Some job) is good grants terms =
     terms-node world one job.node job.work good grants terms (job_of-given world.sent one is)
 
 terms-step : (world : World) (one : Event) → GoodWorld world → OfWorld world → TermsOf world → TermsOf (step world one)
-terms-step world one good grants terms =
-    either TermsOf (is_possible world one) (job_done world one (job_of world.sent one)) world
-    (λ can. terms-job world one (job_of world.sent one) refl good grants terms) (λ _. terms)
+terms-step world one good grants terms = search (arith, terms-job)
 
 -- the events one after another
 replay-one : (world : World) (events : List Event) (one : Event) →

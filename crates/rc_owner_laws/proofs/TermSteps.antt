@@ -1,15 +1,15 @@
 -- Each step of the coordinator keeps what holds of terms.
-use Rattle.std.proofs.Common.{◌≡◌, ◌⊎◌, ℕ, ◌+◌, ◌≤◌, Bool, true, false, List, [], ◌∷◌, ◌++◌, slice_get}
-use Rattle.std.proofs.Common.{Option, Some, None, option_map, refl, sym, ap, ◌∙◌, subst, inl, inr, arith}
-use Rattle.rc_model.specs.Model.{ServerList, crashed, CommitOk, SplitOk, coordinator_tells, ServerId, Pair, Addr, Row, Part, Tablet, Grant}
+use Rattle.std.proofs.Common.{◌≡◌, ◌⊎◌, ℕ, ◌+◌, ◌≤◌, Bool, true, false, List, [], ◌∷◌, ◌++◌}
+use Rattle.std.proofs.Common.{Some, None, option_map, refl, sym, ap, ◌∙◌, subst, inl, inr, arith}
+use Rattle.rc_model.specs.Model.{ServerList, CommitOk, SplitOk, coordinator_tells, ServerId, Pair, Addr, Row, Part, Tablet, Grant}
 use Rattle.rc_model.specs.Model.{Message, Body, CommitOk}
 use Rattle.rc_model.specs.Model.{Recovered, put_id, from_coordinator, to_coordinator}
-use Rattle.rc_model.specs.Model.{enlisted, has_table, with_table, split_at, marked_crashed, has_range, assigned}
+use Rattle.rc_model.specs.Model.{has_table, with_table, split_at, has_range, assigned}
 use Rattle.rc_model.specs.Model.{greater_pair, Attempt, GivenPart}
 use Rattle.rc_model.specs.Model.{new_coordinator, begins_attempt}
 use Rattle.rc_model.specs.Model.{attempt_at, with_attempt}
-use Rattle.rc_model.specs.Model.{with_answer, decision_of}
-use Rattle.rc_model.specs.Model.{decides_on, grant_of, grant_to}
+use Rattle.rc_model.specs.Model.{with_answer}
+use Rattle.rc_model.specs.Model.{grant_of, grant_to}
 use Rattle.rc_model.specs.Model.{first_grant}
 use Rattle.rc_model.specs.Model.{NodeWork, Deliver, coordinator_step, in_range, In}
 use Rattle.rc_types.specs.declared.ids.Addr.TheVariants.{Coordinator as AtCoordinator}
@@ -28,31 +28,16 @@ use Rattle.rc_owner_laws.proofs.Keeping.{granted-terms, decided-terms}
 -- Steps in which no term is issued
 
 same-begun : {c : Coordinator} (master : ServerId) → SameTerms c (begins_attempt c master).0
-same-begun {c} master = record {
-  grants = refl;
-  last = refl;
-  owners = λ table key. refl;
-  back = λ number other decision decided. (begun-decided c master number other decision decided).0;
-}
+same-begun {c} master = search (arith, begun-decided)
 
 same-answer : {c : Coordinator} (from : ServerId) (number : ℕ) (rows : List Row) (attempt : Attempt) → attempt.decided ≡ None →
     SameTerms c (with_attempt c number (with_answer from rows attempt))
-same-answer {c} from number rows attempt undecided = record {
-  grants = refl;
-  last = refl;
-  owners = λ table key. refl;
-  back = answered-decided c from number rows attempt undecided;
-}
+same-answer {c} from number rows attempt undecided = search (arith, answered-decided)
 
 same-tablets : {c : Coordinator} {servers : ServerList} {ready : ServerId → Bool} {tablets : List Tablet} {least : ServerId → Pair} →
     ((table key : ℕ) → owner_at tablets table key ≡ owner_at c.tablets table key) →
     SameTerms c (record c { servers = servers; ready = ready; tablets = tablets; least = least })
-same-tablets owners = record {
-  grants = refl;
-  last = refl;
-  owners = owners;
-  back = λ number master decision decided. decided;
-}
+same-tablets owners = search arith
 
 module _ (sent : List Message) (c : Coordinator) (grants : GoodGrants c) (good : GoodTerms sent c) where
   -- a step that leads to a later coordinator keeps it
@@ -169,19 +154,4 @@ module _ (sent : List Message) (c : Coordinator) (grants : GoodGrants c) (good :
 -- The beginning
 
 pub new-terms : GoodTerms [] new_coordinator
-new-terms = record {
-  owned = λ table key owner term e. absurd (never owner term e);
-  issued = λ grant at. absurd at;
-  part_issued = λ number master decision decided. absurd (none decided.numbered.place decided.attempt decided.numbered.attempt_is);
-  part_once = λ number other master crashed one two given again decided.
-      absurd (none decided.numbered.place decided.attempt decided.numbered.attempt_is);
-  grant_once = λ one other at. absurd at;
-  created_apart = λ grant at. absurd at;
-  origin = λ grant at. absurd at;
-}
-  where
-    none : (k : ℕ) (attempt : Attempt) → slice_get [] k ≡ Some attempt → ⊥
-    none k attempt e = cc
-
-    never : (owner : ServerId) (term : ℕ) → ◌≡◌ {A = Option (ServerId × ℕ)} None (Some (owner, term)) → ⊥
-    never owner term e = cc
+new-terms = search arith

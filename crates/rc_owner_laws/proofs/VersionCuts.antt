@@ -1,15 +1,14 @@
 -- Data, and the base of a grant, by what was sent.
-use Rattle.std.proofs.Common.{◌≡◌, ℕ, zero, suc, ◌<◌, Bool, true, false, cond, ◌&&◌, List, [], ◌∷◌, ◌++◌, map, filter}
-use Rattle.std.proofs.Common.{take, nat_eq, slice_get, Some, refl, sym, ap, ◌∙◌, subst, inl, inr, arith}
+use Rattle.std.proofs.Common.{◌≡◌, ℕ, zero, suc, ◌<◌, Bool, true, false, cond, List, [], ◌∷◌, ◌++◌, map, filter}
+use Rattle.std.proofs.Common.{take, slice_get, Some, refl, sym, ap, ◌∙◌, subst, inl, inr, arith}
 use Rattle.rc_model.specs.Model.{ServerId, Addr, Server, Outside, Entry, Part, PlanRow, Grant, Message, Body, between, made, one_of}
 use Rattle.rc_model.specs.Model.{made_below, recovered_entries, is_carried, base, is_in_part, places_of, under_term, Master, Task}
-use Rattle.rc_model.specs.Model.{Attempt, Decision, HostNode, in_range, Accepted, In, HasMade, WasAccepted}
+use Rattle.rc_model.specs.Model.{HostNode, Accepted, In, HasMade, WasAccepted}
 use Rattle.rc_types.specs.declared.ids.Addr.TheVariants.{Coordinator as AtCoordinator}
-use Rattle.rc_types.specs.declared.rows.Plan.{Plan}
 use Rattle.rc_types.specs.declared.messages.Body.TheVariants as body
 use Rattle.rc_model.specs.Coordinator.{Coordinator}
 use Rattle.rc_model.proofs.Said.{HasMade-from, HasMade-in}
-use Rattle.rc_step_laws.specs.All.{Begins, log_in, IsNumbered, Good, IsPlan, body_fine}
+use Rattle.rc_step_laws.specs.All.{Begins, log_in, Good}
 use Rattle.rc_step_laws.proofs.Attempting.{numbered-same}
 use Rattle.rc_log_laws.proofs.Clauses.{made-is, accepted-is, held-made}
 use Rattle.rc_owner_laws.specs.Terms.{IsGivenBy}
@@ -50,30 +49,7 @@ filter-same {f} {g} (x ∷ xs) same =
 pub one-plan : {sent : List Message} {masters : ServerId → Master} {hosts : ℕ → HostNode} {c : Coordinator} →
     Good sent masters hosts c → {one other : Accepted} → WasAccepted sent one → WasAccepted sent other →
     one.attempt ≡ other.attempt → one ≡ other
-one-plan {sent} {masters} {hosts} {c} good {one} {other} was is same = joined one other same
-    (sym p.master_is ∙ (ap (λ (attempt : Attempt). attempt.master) attempts ∙ q.master_is))
-    (sym (ap (λ (plan : Plan). plan.rows) p.plan_is) ∙ (ap (λ (decision : Decision). decision.plan.rows) decisions ∙
-    ap (λ (plan : Plan). plan.rows) q.plan_is))
-  where
-    p : IsPlan c one.attempt one.master was.head one.rows
-    p = subst (λ (says : Body). body_fine sent masters hosts c was.message.from was.message.to says) was.says
-        (good.messages was.message was.among)
-
-    q : IsPlan c other.attempt other.master is.head other.rows
-    q = subst (λ (says : Body). body_fine sent masters hosts c is.message.from is.message.to says) is.says
-        (good.messages is.message is.among)
-
-    attempts : p.attempt ≡ q.attempt
-    attempts = numbered-same (subst (λ n. IsNumbered c.attempts n p.attempt) same p.numbered) q.numbered
-
-    decisions : p.decision ≡ q.decision
-    decisions = one_some p.decision q.decision (sym p.decided ∙ (ap (λ (attempt : Attempt). attempt.decided) attempts ∙ q.decided))
-      where
-        one_some : (a b : Decision) → Some a ≡ Some b → a ≡ b
-        one_some a b e = cc
-
-    joined : (a b : Accepted) → a.attempt ≡ b.attempt → a.master ≡ b.master → a.rows ≡ b.rows → a ≡ b
-    joined a b x y z j = record { attempt = x j; master = y j; rows = z j }
+one-plan {sent} {masters} {hosts} {c} good {one} {other} was is same = search (arith, numbered-same)
 
 -- What was made
 
@@ -184,9 +160,7 @@ module _ (sent : List Message) (masters : ServerId → Master) (hosts : ℕ → 
   -- the tests of a grant and of its part are one
   carried : (grant : Grant) (part : Part) → grant.range ≡ part.range → grant.previous ≡ part.previous →
       (entry : Entry) → is_in_part part entry ≡ is_carried (granted_of grant) entry
-  carried grant part range before entry =
-      ap (λ r. nat_eq entry.term part.previous && in_range r entry.table entry.key) (sym range)
-      ∙ ap (λ n. nat_eq entry.term n && in_range grant.range entry.table entry.key) (sym before)
+  carried grant part range before entry = search arith
 
   -- the recovery in which a grant was given
   abbrev pub plan-of : (grant : Grant) → IsGivenBy sent c grant → Accepted

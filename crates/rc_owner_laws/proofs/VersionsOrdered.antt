@@ -4,11 +4,11 @@ use Rattle.std.proofs.Common.{take, nat_eq, slice_get, Some, refl, sym, ap, ◌�
 use Rattle.std.proofs.lemmas.Bool.{and_parts, eqb-true}
 use Rattle.std.proofs.lemmas.List.{append_assoc, length-append, length-map}
 use Rattle.rc_model.specs.Model.{ServerId, Entry, Part, PlanRow, Message, recovered_entries, is_in_part, Segment, LogPlace, places_in}
-use Rattle.rc_model.specs.Model.{places_to, places_of, PartState, in_range, owns_term, under_term, count_under, Master, Task}
+use Rattle.rc_model.specs.Model.{places_to, places_of, PartState, in_range, owns_term, under_term, Master, Task}
 use Rattle.rc_model.specs.Model.{HostNode, In}
 use Rattle.rc_model.specs.Coordinator.{Coordinator}
 use Rattle.rc_model.proofs.Members.{In-left, In-right, In-append, In-get, place_of, In-map, In-filter}
-use Rattle.rc_step_laws.specs.All.{Begins, log_in, GoodMaster}
+use Rattle.rc_step_laws.specs.All.{Begins, log_in}
 use Rattle.rc_step_laws.proofs.Lists.{get-take}
 use Rattle.rc_step_laws.proofs.Tests.{get-map}
 use Rattle.rc_model.proofs.Ascending.{IsAscending}
@@ -138,10 +138,7 @@ splits-in seg offset (first ∷ entries) (suc o) e =
         ((k : ℕ) × (k < o) × (slice_get (map (λ (it : Entry × Bool). it.0) entries) k ≡ Some entry) →
         In entry (logged before)) → (k : ℕ) → k < suc o →
         slice_get (first.0 ∷ map (λ (it : Entry × Bool). it.0) entries) k ≡ Some entry → (entry ≡ first.0) ⊎ In entry (logged before)
-    by before entry rec zero less x = inl (sym (same entry x))
-      where
-        same : (b : Entry) → Some first.0 ≡ Some b → first.0 ≡ b
-        same b y = cc
+    by before entry rec zero less x = search arith
     by before entry rec (suc k) less x = inr (rec (k, omega arith, x))
 
 -- a place before another: of an earlier segment, or at a lower offset
@@ -197,18 +194,7 @@ splits-to {segments} (suc n) {s} {o} {one} above upto e = by (last-or s n upto) 
           client_is = here.client_is;
           has = earlier here.before same here.has;
         }
-    by (inr less) rec =
-        let there = rec less in
-        record {
-          before = there.before;
-          place = there.place;
-          after = there.after ++ places_in (suc n) 0 (segments (suc n)).entries;
-          whole = ap (λ l. l ++ places_in (suc n) 0 (segments (suc n)).entries) there.whole ∙
-              append_assoc there.before (there.place ∷ there.after) (places_in (suc n) 0 (segments (suc n)).entries);
-          entry_is = there.entry_is;
-          client_is = there.client_is;
-          has = there.has;
-        }
+    by (inr less) rec = search (arith, append_assoc)
 
 -- The theorem
 
@@ -223,38 +209,11 @@ module _ (sent : List Message) (masters : ServerId → Master) (hosts : ℕ → 
   -- what stands in a segment stands in one of the log's
   pub opened : {m : ServerId} {s : ℕ} (o : ℕ) {entry : Entry} → slice_get (log_in (masters m).log s) o ≡ Some entry →
       (0 < s) × (s ≤ (masters m).log.head)
-  opened {m} {s} o {entry} e = by (order s) (above-or s)
-    where
-      good : GoodMaster sent m (masters m)
-      good = all.good.masters_are m
-
-      none : (segment : Segment) → (masters m).log.segments s ≡ segment → map (λ (it : Entry × Bool). it.0) segment.entries ≡ [] → ⊥
-      none segment is empty = never
-          (sym (ap (λ l. slice_get l o) (ap (λ (one : Segment). map (λ (it : Entry × Bool). it.0) one.entries) is ∙
-          empty)) ∙ e)
-        where
-          never : slice_get [] o ≡ Some entry → ⊥
-          never x = cc
-
-      order : (n : ℕ) → (n ≡ 0) ⊎ (0 < n)
-      order zero = inl refl
-      order (suc n) = inr (omega arith)
-
-      above-or : (n : ℕ) → (n ≤ (masters m).log.head) ⊎ ((masters m).log.head < n)
-      above-or n = grind arith
-
-      by : (s ≡ 0) ⊎ (0 < s) → (s ≤ (masters m).log.head) ⊎ ((masters m).log.head < s) → (0 < s) × (s ≤ (masters m).log.head)
-      by (inl zero_is) q = absurd
-          (none (Rattle.rc_model.specs.Segment.no_segment 0) (ap (masters m).log.segments zero_is ∙ good.none_below)
-          refl)
-      by (inr above) (inl upto) = (above, upto)
-      by (inr above) (inr over) = absurd (none (Rattle.rc_model.specs.Segment.no_segment s) (good.none_above s over) refl)
+  opened {m} {s} o {entry} e = search arith
 
   -- the rows of a task, where the versions of its master's log rise
   row-rises : (m : ServerId) {term : ℕ} → LogRises m term → (seg len : ℕ) → RisesUnder term (take len (log_in (masters m).log seg))
-  row-rises m rises seg len = rises-by (take len (log_in (masters m).log seg)) (λ j k x y less e f same.
-      rises seg k seg j y x (get-take len (log_in (masters m).log seg) k f).1
-      (get-take len (log_in (masters m).log seg) j e).1 (inr (refl, less)) same)
+  row-rises m rises seg len = search (arith, rises-by, get-take)
 
   -- an entry of recovered rows stands in its master's log
   record StandsInRow (task : Task) (rows : List PlanRow) (entry : Entry) : Type 0 where
@@ -374,31 +333,17 @@ module _ (sent : List Message) (masters : ServerId → Master) (hosts : ℕ → 
       upto = under T (logged before) ++ place.entry ∷ []
 
       parted : under T logs ≡ upto ++ under T (logged after)
-      parted = ap (λ places. under T (logged places)) whole ∙ ap (under T) (logged-append before (place ∷ after)) ∙
-          under-append T (logged before) (place.entry ∷ logged after)
-          ∙ ap (λ l. under T (logged before) ++ l) (under-here (logged after) (sym r.term_is))
-          ∙ sym (append_assoc (under T (logged before)) (place.entry ∷ []) (under T (logged after)))
+      parted = search (arith, whole, logged-append, under-append, under-here, append_assoc)
 
       long : length upto ≤ length base
-      long =
-          let a : length upto ≡ length (under T (logged before)) + length (place.entry ∷ []) =
-          length-append (under T (logged before)) (place.entry ∷ []) in
-          let b : length base ≡ length p.entries = length-map p.entries (under_term r.state.part.term) in
-          let d : r.state.size ≡ length p.entries = p.size in
-          let f : count_under T (logged before) < r.state.size =
-          subst (λ t. count_under t (logged before) < r.state.size) (sym r.term_is) r.first in
-          omega arith
+      long = search (arith, upto, length-append, base, length-map)
 
       begins : Begins upto base
       begins = by (owns_term (masters m).ownership T) refl
         where
           by : (b : Bool) → owns_term (masters m).ownership T ≡ b → Begins upto base
           by true e = begins-within upto base (p.owned e).0.0 (under T (logged after), sym parted ∙ sym (p.owned e).0.1) long
-          by false e = (
-            under T (logged after) ++ under T (masters m).ownership.replay,
-            sym (append_assoc upto (under T (logged after)) (under T (masters m).ownership.replay)) ∙
-                ap (λ l. l ++ under T (masters m).ownership.replay) (sym parted) ∙ p.fresh e,
-          )
+          by false e = search (arith, append_assoc, upto, parted)
 
   -- so versions rise up to it
   replayed-rises : (m : ServerId) (before after : List LogPlace) (place : LogPlace)

@@ -1,13 +1,13 @@
 -- Each step of the coordinator keeps each part that waits for its grant a tablet of the list, and refuses nobody for want of one.
 use Rattle.std.proofs.Common.{◌≡◌, ◌⊎◌, ℕ, ◌+◌, ◌-◌, ◌≤◌, Bool, true, false, List, [], ◌∷◌, ◌++◌, length, nat_eq}
-use Rattle.std.proofs.Common.{slice_get, Option, Some, None, refl, sym, ap, ◌∙◌, subst, inl, inr, arith}
+use Rattle.std.proofs.Common.{Option, Some, None, refl, sym, ap, ◌∙◌, inl, inr, arith}
 use Rattle.std.proofs.lemmas.Bool.Decides.{nat_tests}
 use Rattle.rc_model.specs.Model.{ServerId, Pair, Addr, Row, Part, Tablet, Fault}
 use Rattle.rc_model.specs.Model.{NoTable, Message, Body}
-use Rattle.rc_model.specs.Model.{CommitOk, Gather, SplitOk, put_id, same_id}
-use Rattle.rc_model.specs.Model.{from_coordinator, coordinator_refuses, coordinator_tells, ServerList, is_up}
+use Rattle.rc_model.specs.Model.{CommitOk, Gather, SplitOk, same_id}
+use Rattle.rc_model.specs.Model.{from_coordinator, coordinator_tells, ServerList, is_up}
 use Rattle.rc_model.specs.Model.{enlisted, crashed, up, holds, tablet_of, tablets_of, whole_table, split_at}
-use Rattle.rc_model.specs.Model.{marked_crashed, is_range, has_range, assigned, greater_pair, Attempt, Decision, GivenPart}
+use Rattle.rc_model.specs.Model.{marked_crashed, is_range, has_range, assigned, Attempt, Decision, GivenPart}
 use Rattle.rc_model.specs.Model.{new_coordinator, refuses_server}
 use Rattle.rc_model.specs.Model.{list_body, spreads_list, begins_attempt, attempt_at}
 use Rattle.rc_model.specs.Model.{with_attempt, up_of_host, with_crashed}
@@ -120,9 +120,7 @@ module _ (sent : List Message) (c : Coordinator) (base : GoodCoordinator sent c)
   stays-up : (id : ServerId) {older : Option ServerId} → up_of_host id.index c.servers ≡ older → (tablet : Tablet) →
       (older ≡ Some tablet.owner → ⊥) → IsMarked c.servers tablet → IsMarked (enlisted id c.servers) tablet
   stays-up id is tablet other (inr e) = inr e
-  stays-up id is tablet other (inl e) = split (nat_eq tablet.owner.index id.index)
-      (λ same. absurd (other (sym is ∙ up-of_host c.servers id.index base.servers e same)))
-      (λ differs. inl (up-enlisted id tablet.owner c.servers differs e))
+  stays-up id is tablet other (inl e) = search (arith, split, up-of_host, up-enlisted)
 
   replaced-good : (id older : ServerId) → up_of_host id.index c.servers ≡ Some older → After (
     record c { servers = enlisted id c.servers; tablets = marked_crashed older c.tablets },
@@ -142,9 +140,7 @@ module _ (sent : List Message) (c : Coordinator) (base : GoodCoordinator sent c)
 
   answered-good : (from : ServerId) (number : ℕ) (rows : List Row) (attempt : Attempt) → attempt.decided ≡ None →
       GoodTablets (with_attempt c number (with_answer from rows attempt))
-  answered-good from number rows attempt undecided = stays-good good good.proper good.marked
-      (λ other master decision is. (answered-decided c from number rows attempt undecided other master decision is, λ e. e))
-      (λ given is. is) (λ tablet at e. at)
+  answered-good from number rows attempt undecided = search (arith, stays-good, answered-decided)
 
   -- Splits: only a tablet that isn't marked is split
 
@@ -205,10 +201,7 @@ module _ (sent : List Message) (c : Coordinator) (base : GoodCoordinator sent c)
           ((master ≡ attempt.master) × (decision ≡ decision_of c number attempt.master plan ids)) →
           IsTablet c.tablets master given.part
       by other master decision current given at ungiven (inl old) = good.waiting other master decision old current given at ungiven
-      by other master decision current given at ungiven (inr (p, q)) =
-          subst (λ (m : ServerId). IsTablet c.tablets m given.part) (sym p)
-          (new given (part-of ids (number - 1) (c.last_term + 1) (tablets_of attempt.master c.tablets) given
-          (subst (λ (one : Decision). In given one.parts) q at)))
+      by other master decision current given at ungiven (inr (p, q)) = search (arith, new, part-of)
 
   -- Grants
 
@@ -326,11 +319,4 @@ module _ (sent : List Message) (c : Coordinator) (base : GoodCoordinator sent c)
 -- The beginning
 
 pub new-tablets : GoodTablets new_coordinator
-new-tablets = record {
-  proper = λ tablet at. absurd at;
-  marked = λ tablet at. absurd at;
-  waiting = λ number master decision decided. absurd (none decided.numbered.place decided.attempt decided.numbered.attempt_is);
-}
-  where
-    none : (k : ℕ) (attempt : Attempt) → slice_get [] k ≡ Some attempt → ⊥
-    none k attempt e = cc
+new-tablets = search arith

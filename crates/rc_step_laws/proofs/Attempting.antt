@@ -1,10 +1,10 @@
 -- The coordinator's list of attempts, of which one is added or changed; and what its moves have in common.
-use Rattle.std.proofs.Common.{Option, ◌≡◌, ◌⊎◌, ℕ, zero, suc, ◌+◌, ◌-◌, ◌<◌, ◌≤◌, true, false, List, [], ◌∷◌, ◌++◌, length}
-use Rattle.std.proofs.Common.{nat_eq, slice_get, slice_set, Some, None, Ok, refl, sym, ap, ◌∙◌, subst, inl, inr, arith}
+use Rattle.std.proofs.Common.{Option, ◌≡◌, ◌⊎◌, ℕ, zero, suc, ◌+◌, ◌-◌, ◌≤◌, true, false, List, [], ◌∷◌, ◌++◌, length}
+use Rattle.std.proofs.Common.{slice_get, slice_set, Some, None, Ok, refl, sym, ap, ◌∙◌, subst, inl, inr, arith}
 use Rattle.std.proofs.lemmas.Bool.{eqb-false}
 use Rattle.std.proofs.lemmas.Bool.Decides.{nat_tests}
-use Rattle.rc_model.specs.Model.{ServerId, Pair, Row, Message, Replicas, put_id, to_coordinator}
-use Rattle.rc_model.specs.Model.{has_crashed, up_rows, is_below, pick, Attempt, Decision, new_coordinator, attempt_at, In}
+use Rattle.rc_model.specs.Model.{ServerId, Pair, Message, Replicas, put_id, to_coordinator}
+use Rattle.rc_model.specs.Model.{has_crashed, up_rows, is_below, pick, Attempt, Decision, new_coordinator, attempt_at}
 use Rattle.rc_types.specs.declared.ids.Addr.TheVariants.{Coordinator as AtCoordinator}
 use Rattle.std.proofs.lemmas.List.{length-append, length-set}
 use Rattle.std.specs.Prelude.{is_none}
@@ -14,7 +14,6 @@ use Rattle.rc_model.proofs.Sending.{Each}
 use Rattle.rc_step_laws.specs.All.{OnDifferentHosts, IsNumbered, IsOf, GoodAttempt, GoodCoordinator, AttemptLater, CoordinatorMoved}
 use Rattle.rc_step_laws.specs.All.{coordinator_body_said}
 use Rattle.rc_step_laws.proofs.Lists.{get-left, get-end, get-append, get-within, get-set, set-get}
-use Rattle.rc_model.proofs.Tests.{either}
 use Rattle.rc_model.proofs.Tables.{put_id_each}
 
 -- Pairs
@@ -30,28 +29,12 @@ below-trans a b c p q = grind (arith, nat_tests)
 -- a number names one attempt
 pub numbered-same : {attempts : List Attempt} {number : ℕ} {one other : Attempt} → IsNumbered attempts number one →
     IsNumbered attempts number other → one ≡ other
-numbered-same {attempts} {number} {one} {other} p q =
-    let place : p.place ≡ q.place =
-    (let a : number ≡ p.place + 1 = p.number_is in let b : number ≡ q.place + 1 = q.number_is in omega arith) in
-    let a : slice_get attempts q.place ≡ Some one = ap (slice_get attempts) (sym place) ∙ p.attempt_is in
-    let b : slice_get attempts q.place ≡ Some other = q.attempt_is in
-    cc
+numbered-same {attempts} {number} {one} {other} p q = search arith
 
 -- an attempt that is found by a number has it
 pub numbered-at : (c : Coordinator) {number : ℕ} (attempt : Attempt) → attempt_at c number ≡ Some attempt →
     IsNumbered c.attempts number attempt
-numbered-at c {number} attempt =
-    either (λ found. found ≡ Some attempt → IsNumbered c.attempts number attempt) (nat_eq number 0) None (slice_get c.attempts (number - 1))
-    (λ _ e. cc)
-    (λ above e. record {
-      place = number - 1;
-      number_is = (let nonzero : number ≡ 0 → ⊥ = eqb-false number 0 above in positive number nonzero);
-      attempt_is = e;
-    })
-  where
-    positive : (n : ℕ) → (n ≡ 0 → ⊥) → n ≡ n - 1 + 1
-    positive zero no_zero = absurd (no_zero refl)
-    positive (suc n) no_zero = omega arith
+numbered-at c {number} attempt = search (arith, eqb-false)
 
 -- what is put at a place stands there
 set-here : {X : Type 0} (xs : List X) (k : ℕ) {x new : X} → slice_get xs k ≡ Some x → slice_get (slice_set xs k new) k ≡ Some new
@@ -62,14 +45,7 @@ set-here (y ∷ xs) (suc k) e = set-here xs k e
 -- a changed attempt has the number of the one that was there
 pub numbered-set : {attempts : List Attempt} {number : ℕ} {was now : Attempt} → IsNumbered attempts number was →
     IsNumbered (slice_set attempts (number - 1) now) number now
-numbered-set {attempts} {number} {now} p =
-    let here : p.place ≡ number - 1 = (let e : number ≡ p.place + 1 = p.number_is in omega arith) in
-    record {
-      place = p.place;
-      number_is = p.number_is;
-      attempt_is = subst (λ k. slice_get (slice_set attempts k now) p.place ≡ Some now) here
-          (set-here attempts p.place p.attempt_is);
-    }
+numbered-set {attempts} {number} {now} p = search (arith, set-here)
 
 -- What stays
 
@@ -161,37 +137,13 @@ moved-added {sent} {old} {new} {messages} attempt good same current kept apart c
 }
   where
     upto : (m : ServerId) → put_id old.current attempt.master (length old.attempts + 1) m ≤ length (old.attempts ++ attempt ∷ [])
-    upto m = put_id_each (λ (k : ServerId) (n : ℕ). n ≤ length (old.attempts ++ attempt ∷ [])) old.current
-        attempt.master (length old.attempts + 1) (omega (arith, length-append old.attempts (attempt ∷ [])))
-        (λ other. (let was : old.current other ≤ length old.attempts = good.current_numbered other in
-        omega (arith, was, length-append old.attempts (attempt ∷ [])))) m
+    upto m = search (arith, put_id_each, length-append)
 
     -- the one at the end, or one that was there
     at-end : (number : ℕ) (one : Attempt) → IsNumbered (old.attempts ++ attempt ∷ []) number one →
         (number ≡ length old.attempts + 1 → one ≡ attempt) × (number ≤ length old.attempts →
         IsNumbered old.attempts number one)
-    at-end number one numbered = by (get-append old.attempts (attempt ∷ []) numbered.place numbered.attempt_is)
-      where
-        last : (j : ℕ) → slice_get (attempt ∷ []) j ≡ Some one → attempt ≡ one
-        last zero e = cc
-        last (suc j) e = cc
-
-        within : slice_get old.attempts numbered.place ≡ Some one → numbered.place < length old.attempts
-        within e = get-within old.attempts numbered.place e
-
-        by : (slice_get old.attempts numbered.place ≡ Some one) ⊎
-            ((j : ℕ) × (numbered.place ≡ length old.attempts + j) × (slice_get (attempt ∷ []) j ≡ Some one)) →
-            (number ≡ length old.attempts + 1 → one ≡ attempt) × (number ≤ length old.attempts → IsNumbered old.attempts number one)
-        by (inl there) = (
-          λ e. absurd (let less : numbered.place < length old.attempts = within there in
-              omega (arith, less, numbered.number_is, e)),
-          λ _. record {
-            place = numbered.place;
-            number_is = numbered.number_is;
-            attempt_is = there;
-          },
-        )
-        by (inr (j, p, q)) = (λ _. sym (last j q), λ e. absurd (omega (arith, p, numbered.number_is, e)))
+    at-end number one numbered = search (arith, get-append, get-within)
 
     of_current : (m : ServerId) (one : Attempt) →
         IsNumbered (old.attempts ++ attempt ∷ []) (put_id old.current attempt.master (length old.attempts + 1) m) one →
@@ -202,14 +154,7 @@ moved-added {sent} {old} {new} {messages} attempt good same current kept apart c
         (λ other numbered. good.current_master other one ((at-end (old.current other) one numbered).1 (good.current_numbered other))) m
 
     of_new : (number : ℕ) → GoodAttempt (sent ++ messages) new number attempt
-    of_new number = record {
-      crashed = crashed;
-      answered = λ y rows at. absurd (subst (λ (replies : List (ServerId × List Row)). In (y, rows) replies) empty at);
-      picked = λ decision e. absurd (none_some decision (sym undecided ∙ e));
-    }
-      where
-        none_some : (decision : Decision) → None ≡ Some decision → ⊥
-        none_some decision never = cc
+    of_new number = search arith
 
     good_now : (number : ℕ) (one : Attempt) → IsNumbered (old.attempts ++ attempt ∷ []) number one →
         GoodAttempt (sent ++ messages) new number one
@@ -228,15 +173,7 @@ moved-added {sent} {old} {new} {messages} attempt good same current kept apart c
 
 -- its number is one more than there were
 pub of-added : (attempts : List Attempt) (new : Attempt) → IsOf (attempts ++ new ∷ []) (length attempts + 1) new.master
-of-added attempts new = record {
-  attempt = new;
-  numbered = record {
-    place = length attempts;
-    number_is = refl;
-    attempt_is = get-end attempts [];
-  };
-  master_is = refl;
-}
+of-added attempts new = search (arith, get-end)
 
 -- an attempt that is gathering is changed
 pub moved-changed : {sent : List Message} {old new : Coordinator} {messages : List Message} {number : ℕ}
@@ -319,15 +256,7 @@ moved-changed {sent} {old} {new} {messages} {number} {was} {now} good is_was sam
 -- The beginning
 
 pub new-good : GoodCoordinator [] new_coordinator
-new-good = record {
-  attempts = λ number attempt numbered. absurd (none number attempt numbered);
-  servers = tt;
-  current_numbered = λ m. omega arith;
-  current_master = λ m attempt numbered. absurd (none 0 attempt numbered);
-}
-  where
-    none : (number : ℕ) (attempt : Attempt) → IsNumbered [] number attempt → ⊥
-    none number attempt numbered = let at : slice_get [] numbered.place ≡ Some attempt = numbered.attempt_is in cc
+new-good = search arith
 
 -- what isn't decided has no decision
 pub undecided-none : (decided : Option Decision) → is_none decided ≡ true → decided ≡ None

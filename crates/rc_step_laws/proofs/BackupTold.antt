@@ -1,6 +1,6 @@
 -- What holds of a host's replicas holds of them when more was sent, also what the host itself has told of one.
-use Rattle.std.proofs.Common.{◌≡◌, ◌⊎◌, ℕ, ◌<◌, ◌≤◌, Bool, true, false, List, [], ◌∷◌, ◌++◌, length, refl, ap, inl, inr, arith}
-use Rattle.rc_model.specs.Model.{ServerId, Server, Entry, Message, Place, Stored, between, Replica, Held, Log, In}
+use Rattle.std.proofs.Common.{◌≡◌, ◌⊎◌, ℕ, ◌<◌, ◌≤◌, Bool, true, false, List, [], ◌∷◌, ◌++◌, length, refl, inl, inr, arith}
+use Rattle.rc_model.specs.Model.{ServerId, Entry, Message, Place, Stored, between, Replica, Held, Log, In}
 use Rattle.rc_model.proofs.Members.{In-append}
 use Rattle.rc_step_laws.specs.All.{HasTold, HasToldClosed, IsMember, IsCopy, GoodReplica, GoodHeld}
 use Rattle.rc_step_laws.proofs.Copies.{More, made-more, placed-more, opened_at-more}
@@ -84,11 +84,7 @@ pub record SameStored (x y m n : ServerId) (s t e f len other : ℕ) (closed mar
 pub same-stored : {x y m n : ServerId} {s t e f len other : ℕ} {closed mark : Bool} →
     between x m (Stored s e len closed) ≡ between y n (Stored t f other mark) →
     SameStored x y m n s t e f len other closed mark
-same-stored {x} {y} {m} {n} {s} {t} {e} {f} {len} {other} {closed} {mark} same =
-    let froms : Server x ≡ Server y = ap (λ (one : Message). one.from) same in
-    let tos : Server m ≡ Server n = ap (λ (one : Message). one.to) same in
-    let bodies : Stored s e len closed ≡ Stored t f other mark = ap (λ (one : Message). one.body) same in
-    record { from = cc; to = cc; seg = cc; epoch = cc; length_is = cc; closed_is = cc }
+same-stored {x} {y} {m} {n} {s} {t} {e} {f} {len} {other} {closed} {mark} same = search arith
 
 -- the message that was added, or one that was there
 pub one-more : (message : Message) (sent : List Message) (last : Message) → In message (sent ++ last ∷ []) →

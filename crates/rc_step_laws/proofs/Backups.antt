@@ -11,10 +11,10 @@ use Rattle.rc_model.specs.Model.{Master, HostNode, server_of, In}
 use Rattle.rc_model.specs.Coordinator.{Coordinator}
 use Rattle.rc_model.proofs.Members.{In-left}
 use Rattle.rc_model.proofs.Storing.{inserted}
-use Rattle.rc_step_laws.specs.All.{IsOf, held_at, IsCopy, IsAnswer, IsStored, StillStands, GoodHeld, GoodReplica, GoodHost, Good}
+use Rattle.rc_step_laws.specs.All.{IsOf, IsCopy, IsAnswer, StillStands, GoodHeld, GoodReplica, GoodHost, Good}
 use Rattle.rc_step_laws.specs.All.{HeldLater, OwnFine, BackupMoved, backup_body_said}
 use Rattle.rc_step_laws.proofs.ReplicaLists.{replica_of-row, Ascending-filter, replica_of-filter, replica_of-without}
-use Rattle.rc_step_laws.proofs.Replicas.{Changed, Stood, AllStood}
+use Rattle.rc_step_laws.proofs.Replicas.{Changed, AllStood}
 use Rattle.rc_step_laws.proofs.Changes.{changed-place, changed-append, changed-close}
 use Rattle.rc_step_laws.proofs.BackupTold.{NoNewPlaces, NothingNewlyTold, held-told}
 use Rattle.rc_step_laws.proofs.Storing.{held_later-refl, AllHeld, moved-kept}
@@ -179,23 +179,7 @@ moved-fetch : {sent : List Message} {masters : ServerId → Master} {hosts : ℕ
 moved-fetch {sent} {masters} {hosts} {c} {host} asker m attempt seg len part own good = by (replica_of seg (host.backup.held m).replicas)
   where
     quiet : (entries : List Entry) → Quiet (between host.backup.own asker (Data attempt seg part.term entries) ∷ [])
-    quiet entries = record {
-      places = λ n x s e digest es closed at. placed n x s e digest es closed at;
-      told = λ x n s e k closed at. tells x n s e k closed at;
-    }
-      where
-        placed : (n x : ServerId) (s e : ℕ) (digest : List ℕ) (es : List Entry) (closed : Bool) →
-            In (between n x (Place s e digest es closed))
-            (between host.backup.own asker (Data attempt seg part.term entries) ∷ []) → ⊥
-        placed n x s e digest es closed (inl same) = let bodies : Place s e digest es closed ≡ Data attempt seg
-            part.term entries = ap (λ (one : Message). one.body) same in cc
-        placed n x s e digest es closed (inr never) = never
-
-        tells : (x n : ServerId) (s e k : ℕ) (closed : Bool) → In (between x n (Stored s e k closed))
-            (between host.backup.own asker (Data attempt seg part.term entries) ∷ []) → ⊥
-        tells x n s e k closed (inl same) = let bodies : Stored s e k closed ≡ Data attempt seg part.term entries =
-            ap (λ (one : Message). one.body) same in cc
-        tells x n s e k closed (inr never) = never
+    quiet entries = search arith
 
     answered : (entries : List Entry) → BackupMoved sent masters hosts c host
         (host.backup, between host.backup.own asker (Data attempt seg part.term entries) ∷ [])
@@ -216,9 +200,7 @@ moved-fetch {sent} {masters} {hosts} {c} {host} asker m attempt seg len part own
         says : (message : Message) → In message (between host.backup.own asker (Data attempt seg part.term entries) ∷ []) →
             backup_body_said (sent ++ between host.backup.own asker (Data attempt seg part.term entries) ∷ []) masters
             hosts c host host.backup message.to message.body
-        says message (inl same) = subst (λ (one : Message).
-            backup_body_said (sent ++ between host.backup.own asker (Data attempt seg part.term entries) ∷ []) masters
-            hosts c host host.backup one.to one.body) (sym same) tt
+        says message (inl same) = search arith
         says message (inr never) = absurd never
 
     by : (found : Option Replica) → BackupMoved sent masters hosts c host
@@ -246,39 +228,10 @@ moved-fences {sent} {masters} {hosts} {c} {host} {attempt} {m} own good of_attem
     answer = Replicas attempt (rows_of_replicas (host.backup.held m).replicas)
 
     fenced_later : HeldLater (host.backup.held m) (record (host.backup.held m) { fenced = true })
-    fenced_later = record {
-      replicas = λ s replica at.
-          inl (record {
-            replica = replica;
-            kept = at;
-            epoch = omega arith;
-            enough = omega arith;
-            closed_too = λ same. same;
-          });
-      freed = λ s same. same;
-      fenced = λ _. refl;
-    }
+    fenced_later = search arith
 
     quiet : Quiet (to_coordinator host.backup.own (Replicas attempt (rows_of_replicas (host.backup.held m).replicas)) ∷ [])
-    quiet = record {
-      places = λ n x s e digest es closed at. placed_not n x s e digest es closed at;
-      told = λ x n s e k closed at. tells x n s e k closed at;
-    }
-      where
-        placed_not : (n x : ServerId) (s e : ℕ) (digest : List ℕ) (es : List Entry) (closed : Bool) →
-            In (between n x (Place s e digest es closed))
-            (to_coordinator host.backup.own (Replicas attempt (rows_of_replicas (host.backup.held m).replicas)) ∷ []) →
-            ⊥
-        placed_not n x s e digest es closed (inl same) = let bodies : Place s e digest es closed ≡ Replicas attempt
-            (rows_of_replicas (host.backup.held m).replicas) = ap (λ (one : Message). one.body) same in cc
-        placed_not n x s e digest es closed (inr never) = never
-
-        tells : (x n : ServerId) (s e k : ℕ) (closed : Bool) → In (between x n (Stored s e k closed))
-            (to_coordinator host.backup.own (Replicas attempt (rows_of_replicas (host.backup.held m).replicas)) ∷ []) →
-            ⊥
-        tells x n s e k closed (inl same) = let bodies : Stored s e k closed ≡ Replicas attempt
-            (rows_of_replicas (host.backup.held m).replicas) = ap (λ (one : Message). one.body) same in cc
-        tells x n s e k closed (inr never) = never
+    quiet = search arith
 
     from : (message : Message) →
         In message (to_coordinator host.backup.own (Replicas attempt (rows_of_replicas (host.backup.held m).replicas)) ∷
@@ -311,9 +264,7 @@ moved-fences {sent} {masters} {hosts} {c} {host} {attempt} {m} own good of_attem
             IsCopy (sent ++ to_coordinator host.backup.own
             (Replicas attempt (rows_of_replicas (host.backup.held m).replicas)) ∷ []) m (masters m).log host.index
             host.generation row.seg row.epoch row.closed row.len row.digest
-        as-row row replica is copy = subst (λ (r : Row). IsCopy (sent ++ to_coordinator host.backup.own
-            (Replicas attempt (rows_of_replicas (host.backup.held m).replicas)) ∷ []) m (masters m).log host.index
-            host.generation row.seg r.epoch r.closed r.len r.digest) (sym is) copy
+        as-row row replica is copy = search arith
 
     is_answer : IsAnswer (sent ++ to_coordinator host.backup.own
         (Replicas attempt (rows_of_replicas (host.backup.held m).replicas)) ∷ []) masters hosts c (server_of host)
@@ -333,20 +284,14 @@ moved-fences {sent} {masters} {hosts} {c} {host} {attempt} {m} own good of_attem
         backup_body_said (sent ++ to_coordinator host.backup.own
         (Replicas attempt (rows_of_replicas (host.backup.held m).replicas)) ∷ []) masters hosts c host
         (with_held m (record (host.backup.held m) { fenced = true }) host.backup) message.to message.body
-    says message (inl same) = subst (λ (one : Message). backup_body_said (sent ++ to_coordinator host.backup.own
-        (Replicas attempt (rows_of_replicas (host.backup.held m).replicas)) ∷ []) masters hosts c host
-        (with_held m (record (host.backup.held m) { fenced = true }) host.backup) one.to one.body) (sym same) is_answer
+    says message (inl same) = search (arith, is_answer)
     says message (inr never) = absurd never
 
 -- A world's facts, as they are needed here
 
 pub own-fine : {sent : List Message} {masters : ServerId → Master} {hosts : ℕ → HostNode} {c : Coordinator} →
     Good sent masters hosts c → {m : ServerId} → OwnFine sent m (masters m).log
-own-fine {sent} {masters} {hosts} good {m} = record {
-  places = λ x s e digest entries closed at. good.messages (between m x (Place s e digest entries closed)) at;
-  told = λ x s e len closed at. (let stored : IsStored sent hosts m (masters m).log x s e len closed = good.messages
-      (between x m (Stored s e len closed)) at in stored.told);
-}
+own-fine {sent} {masters} {hosts} good {m} = search arith
 
 -- what the running server of a host has told of a segment that isn't freed stands in its replica
 all-stood : (sent : List Message) (masters : ServerId → Master) (hosts : ℕ → HostNode) (c : Coordinator) →
@@ -354,15 +299,7 @@ all-stood : (sent : List Message) (masters : ServerId → Master) (hosts : ℕ �
     is_freed s ((hosts i).backup.held m) ≡ false →
     AllStood sent (record { index = i; generation = (hosts i).generation }) m s
     (replica_of s ((hosts i).backup.held m).replicas)
-all-stood sent masters hosts c good i m s unfreed e len closed at = by (stored.stands refl)
-  where
-    stored : IsStored sent hosts m (masters m).log (record { index = i; generation = (hosts i).generation }) s e len closed
-    stored = good.messages (between (record { index = i; generation = (hosts i).generation }) m (Stored s e len closed)) at
-
-    by : StillStands (held_at hosts i m) s e len closed ⊎ (is_freed s (held_at hosts i m) ≡ true) →
-        Stood (replica_of s ((hosts i).backup.held m).replicas) e len closed
-    by (inl p) = record { replica = p.replica; is = p.kept; epoch = p.epoch; enough = p.enough; closed_too = p.closed_too }
-    by (inr freed) = true_false (sym freed ∙ unfreed)
+all-stood sent masters hosts c good i m s unfreed e len closed at = search arith
 
 -- the same as the host says its own index
 at-own-index : {sent : List Message} {masters : ServerId → Master} {i : ℕ} {host : HostNode} →

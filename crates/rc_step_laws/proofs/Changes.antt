@@ -3,8 +3,8 @@ use Rattle.std.proofs.Common.{◌≡◌, ℕ, ◌+◌, ◌-◌, ◌<◌, ◌≤�
 use Rattle.std.proofs.Common.{slice_get, nat_eq, nat_lt, nat_le, Option, Some, None, refl, sym, ap, ◌∙◌, subst, arith}
 use Rattle.std.proofs.lemmas.Bool.{eqb-true, eq-eqb, ltb-false, leb-true, and_parts, not-true}
 use Rattle.std.proofs.lemmas.List.{length-append, length-drop}
-use Rattle.rc_model.specs.Model.{ServerId, Entry, Message, Place, Append, Close, between, Replica, grown, placed, placed_open, appended}
-use Rattle.rc_model.specs.Model.{closes, closed_at, replica_after, Master, In, HasMade}
+use Rattle.rc_model.specs.Model.{ServerId, Entry, Message, Place, Append, Close, between, Replica, grown, placed_open}
+use Rattle.rc_model.specs.Model.{closes, replica_after, Master, In, HasMade}
 use Rattle.rc_step_laws.specs.All.{Begins, log_in, Stands, IsOpenedAt, GoodMaster, IsPlace, IsAppend, IsClose, GoodReplica, OwnFine}
 use Rattle.rc_step_laws.proofs.Lists.{get-within, get-below, begins-length, get-begins}
 use Rattle.rc_step_laws.proofs.Copies.{split}
@@ -32,9 +32,7 @@ whole-place {s} h shut_so = ((h.good.shut_below s (h.place.whole shut_so).0).1, 
 place-entries-made : {sent : List Message} {m : ServerId} {master : Master} {z : ServerId} {s e : ℕ} {digest : List ℕ}
     {entries : List Entry} {closed : Bool} →
     PlaceHeard sent m master z s e digest entries closed → (k : ℕ) (x : Entry) → slice_get entries k ≡ Some x → HasMade sent m s k x
-place-entries-made {sent} {m} {z} {s} {e} {digest} {entries} {closed} h k x there =
-    let n : 0 + k ≡ k = omega arith in
-    subst (λ place. HasMade sent m s place x) n (place-made sent m z s e digest entries closed h.at k x there)
+place-entries-made {sent} {m} {z} {s} {e} {digest} {entries} {closed} h k x there = search (arith, place-made)
 
 -- the entries of a good replica were made
 replica-made : {sent : List Message} {m : ServerId} (master : Master) {index generation s : ℕ} {old : Replica} →
@@ -84,23 +82,7 @@ placed-closed : {sent : List Message} {m : ServerId} {master : Master} {z : Serv
     old.epoch ≤ e → old.closed ≡ true →
     Changed sent m master.log z.index z.generation s (Some old) (record old { epoch = e })
 placed-closed {sent} {m} {z} {s} {e} {digest} {entries} {closed} {old} h good up shut_so =
-    changed-some (record {
-      begins = good.begins;
-      copy = record {
-        opened = good.copy.opened;
-        made = good.copy.made;
-        within = good.copy.within;
-        whole = good.copy.whole;
-        placed = record { to = z; digest = digest; entries = entries; closed = closed; placed = h.at; host = refl; since = omega arith };
-        opened_at = λ open_so. true_false (sym shut_so ∙ open_so);
-        digest_is = good.copy.digest_is;
-        above = told.above;
-        closed_too = λ x on member it. shut_so;
-      };
-    }) up (omega arith) (λ same. same)
-  where
-    told : AboveTold sent m z.index s e true (length old.entries)
-    told = above-whole h.fine (good.copy.whole shut_so).1
+    search (arith, changed-some, above-whole)
 
 -- an open one grows, and closes where the Place is closed
 placed-more : {sent : List Message} {m : ServerId} {master : Master} {z : ServerId} {s e : ℕ} {digest : List ℕ}
@@ -141,12 +123,7 @@ placed-more {sent} {m} {master} {z} {s} {e} {digest} {entries} {closed} {old} h 
     as_long = omega (arith, length-append old.entries (drop (length old.entries - 0) entries), length-drop (length old.entries - 0) entries)
 
     whole-length : closed ≡ true → length (grown old.entries 0 entries) ≡ length entries
-    whole-length shut_so =
-        let of_log : length (grown old.entries 0 entries) ≤ length (log_in master.log s) =
-        begins-length (grown old.entries 0 entries) (log_in master.log s) begins in
-        let is : length entries ≡ length (log_in master.log s) = (whole-place h shut_so).1 in
-        let long : length entries ≤ length (grown old.entries 0 entries) = as_long in
-        omega arith
+    whole-length shut_so = search (arith, begins-length, begins, whole-place, as_long)
 
     mark-true : closed ≡ true → (closed && nat_eq (length (grown old.entries 0 entries)) (length entries)) ≡ true
     mark-true shut_so = ap (λ b. b && nat_eq (length (grown old.entries 0 entries)) (length entries)) shut_so ∙
@@ -154,19 +131,11 @@ placed-more {sent} {m} {master} {z} {s} {e} {digest} {entries} {closed} {old} h 
 
     whole : (closed && nat_eq (length (grown old.entries 0 entries)) (length entries)) ≡ true →
         (s < master.log.head) × (length (grown old.entries 0 entries) ≡ length (log_in master.log s))
-    whole marked =
-        let shut_so : closed ≡ true = (and_parts closed (nat_eq (length (grown old.entries 0 entries)) (length entries)) marked).0 in
-        let is : (s < master.log.head) × (length entries ≡ length (log_in master.log s)) =
-        whole-place h shut_so in
-        (is.0, whole-length shut_so ∙ is.1)
+    whole marked = search (arith, and_parts, whole-place, whole-length)
 
     unclosed : (closed && nat_eq (length (grown old.entries 0 entries)) (length entries)) ≡ false →
         (closed ≡ false) × (length entries ≤ length (grown old.entries 0 entries))
-    unclosed unmarked = (
-      split closed (λ (shut_so : closed ≡ true). true_false (sym (mark-true shut_so) ∙ unmarked))
-          (λ (is : closed ≡ false). is),
-      as_long,
-    )
+    unclosed unmarked = search (arith, split, mark-true, as_long)
 
     if_closed : closed ≡ true →
         AboveTold sent m z.index s e (closed && nat_eq (length (grown old.entries 0 entries)) (length entries))
@@ -246,15 +215,7 @@ appended-more sent m master z s offset entries old at append good no_gap open_so
 
     opened_at : IsOpenedAt sent m s old.epoch z.index z.generation (length old.entries) →
         IsOpenedAt sent m s old.epoch z.index z.generation (length (grown old.entries offset entries))
-    opened_at p = record {
-      to = p.to;
-      digest = p.digest;
-      entries = p.entries;
-      placed = p.placed;
-      host = p.host;
-      since = p.since;
-      enough = (let one : length p.entries ≤ length old.entries = p.enough in omega (arith, one, longer));
-    }
+    opened_at p = search (arith, longer)
 
 pub changed-append : (sent : List Message) (m : ServerId) (master : Master) (z : ServerId) (s offset : ℕ)
     (entries : List Entry) (before : Option Replica) (after : Replica) →
@@ -277,21 +238,7 @@ changed-append sent m master z s offset entries (Some old) after at append good 
 closed-whole : {sent : List Message} {m : ServerId} (master : Master) (z : ServerId) {s len : ℕ} {old : Replica} →
     IsClose master.log s len → GoodReplica sent m master.log z.index z.generation s old → length old.entries ≡ len →
     Changed sent m master.log z.index z.generation s (Some old) (record old { closed = true })
-closed-whole master z close good same =
-    changed-some (record {
-      begins = good.begins;
-      copy = record {
-        opened = good.copy.opened;
-        made = good.copy.made;
-        within = good.copy.within;
-        whole = λ _. (close.final, same ∙ close.whole);
-        placed = good.copy.placed;
-        opened_at = λ never. true_false never;
-        digest_is = good.copy.digest_is;
-        above = good.copy.above;
-        closed_too = λ x on member told. refl;
-      };
-    }) (omega arith) (omega arith) (λ _. refl)
+closed-whole master z close good same = search (arith, changed-some)
 
 pub changed-close : {sent : List Message} {m : ServerId} (master : Master) (z : ServerId) {s len : ℕ}
     (before : Option Replica) {after : Replica} →

@@ -1,13 +1,14 @@
 -- Each step of the coordinator keeps what holds of it, and says only what it may say.
+use Rattle.std.proofs.Common.{arith}
 use Rattle.std.proofs.Common.{◌≡◌, ◌⊎◌, ℕ, ◌+◌, Bool, true, false, List, [], ◌∷◌, ◌++◌, length}
 use Rattle.std.proofs.Common.{Some, None, Ok, refl, sym, ap, ◌∙◌, subst, inl, inr}
-use Rattle.rc_model.specs.Model.{ServerId, Pair, Addr, Server, Outside, Row, Tablet, Grant, NoTable, Message, Body, CommitOk}
-use Rattle.rc_model.specs.Model.{Replicas, Gather, SplitOk, Refused, code_of, put_id, from_coordinator, to_coordinator}
-use Rattle.rc_model.specs.Model.{coordinator_tells, ServerList, is_up, has_crashed, enlisted, crashed, up, up_rows}
-use Rattle.rc_model.specs.Model.{split_at, marked_crashed, assigned, is_below, pick, greater_pair, Attempt, Decision, new_attempt}
+use Rattle.rc_model.specs.Model.{ServerId, Pair, Addr, Row, Tablet, Grant, Message, Body, CommitOk}
+use Rattle.rc_model.specs.Model.{Replicas, Gather, put_id, from_coordinator, to_coordinator}
+use Rattle.rc_model.specs.Model.{ServerList, is_up, has_crashed, crashed, up, up_rows}
+use Rattle.rc_model.specs.Model.{split_at, assigned, is_below, pick, greater_pair, Attempt, Decision, new_attempt}
 use Rattle.rc_model.specs.Model.{plan_messages, list_body, spreads_list, begins_attempt, attempt_at}
-use Rattle.rc_model.specs.Model.{with_attempt, suspects, with_answer, decision_of, decides_on, decides, own_body, grant_of}
-use Rattle.rc_model.specs.Model.{creates_table, first_grant, creates, splits, tablet_of, coordinator_ticks, coordinator_takes, In}
+use Rattle.rc_model.specs.Model.{with_attempt, suspects, with_answer, decision_of, decides_on, decides, grant_of}
+use Rattle.rc_model.specs.Model.{creates_table, creates, splits, tablet_of, coordinator_ticks, coordinator_takes, In}
 use Rattle.rc_types.specs.declared.ids.Addr.TheVariants.{Coordinator as AtCoordinator}
 use Rattle.rc_model.specs.Coordinator.{Coordinator}
 use Rattle.rc_model.proofs.Members.{In-left, In-append}
@@ -21,7 +22,6 @@ use Rattle.rc_step_laws.proofs.Servers.{crashed-not-up, crashed-stays-crashed, c
 use Rattle.rc_step_laws.proofs.Attempting.{below-refl, numbered-at, Kept, kept-refl, Says, moved-kept, moved-added, of-added}
 use Rattle.rc_step_laws.proofs.Attempting.{moved-changed, numbered-set}
 use Rattle.rc_model.proofs.Tables.{put_id-same, put_id_each}
-use Rattle.rc_model.proofs.Tests.{true_false}
 use Rattle.rc_model.proofs.Granting.{greater-left, greater-right}
 
 -- one message
@@ -126,9 +126,7 @@ module _ (sent : List Message) (c : Coordinator) (good : GoodCoordinator sent c)
 
       -- that of a crashed master stays, since it isn't up
       stay : (m : ServerId) → has_crashed c.servers m ≡ true → put_id c.least id (greater_pair (c.least id) pair) m ≡ c.least m
-      stay m e = put_id_each (λ (k : ServerId) (p : Pair). has_crashed c.servers k ≡ true → p ≡ c.least k) c.least
-          id (greater_pair (c.least id) pair)
-          (λ has. true_false (sym is ∙ crashed-not-up c.servers id has)) (λ other has. refl) m e
+      stay m e = search (arith, put_id_each, crashed-not-up)
 
       mine : is_below (put_id c.least id (greater_pair (c.least id) pair) id) pair ≡ false
       mine = ap (λ (p : Pair). is_below p pair) (put_id-same c.least id (greater_pair (c.least id) pair)) ∙

@@ -3,7 +3,7 @@ use Rattle.std.proofs.Common.{◌≡◌, ◌⊎◌, ⊎_elim, ℕ, ◌<◌, ◌�
 use Rattle.std.proofs.Common.{ap, ◌∙◌, subst, inl, inr, arith}
 use Rattle.rc_model.specs.Model.{ServerId, Entry, Message, Place, Stored, between, Log, In, HasMade}
 use Rattle.rc_model.proofs.Members.{In-append}
-use Rattle.rc_step_laws.specs.All.{Begins, log_in, IsOpened, HasTold, HasToldClosed, IsMember, IsPlacedAt, IsOpenedAt, IsPlace, IsTold}
+use Rattle.rc_step_laws.specs.All.{Begins, log_in, IsOpened, HasTold, HasToldClosed, IsMember, IsPlacedAt, IsOpenedAt, IsTold}
 use Rattle.rc_step_laws.specs.All.{IsCopy, LogLater, IsNewPlace, OwnFine}
 use Rattle.rc_step_laws.proofs.Lists.{begins-length, get-begins, begins-map}
 
@@ -43,27 +43,11 @@ member-more more p = record { digest = p.digest; entries = p.entries; placed = m
 
 pub placed-more : {sent sent_now : List Message} → More sent sent_now → {m : ServerId} {s e i g h : ℕ} → g ≤ h →
     IsPlacedAt sent m s e i g → IsPlacedAt sent_now m s e i h
-placed-more more {g} up p = record {
-  to = p.to;
-  digest = p.digest;
-  entries = p.entries;
-  closed = p.closed;
-  placed = more _ p.placed;
-  host = p.host;
-  since = (let one : p.to.generation ≤ g = p.since in omega arith);
-}
+placed-more more {g} up p = search arith
 
 pub opened_at-more : {sent sent_now : List Message} → More sent sent_now → {m : ServerId} {s e i g h len : ℕ} → g ≤ h →
     IsOpenedAt sent m s e i g len → IsOpenedAt sent_now m s e i h len
-opened_at-more more {g} up p = record {
-  to = p.to;
-  digest = p.digest;
-  entries = p.entries;
-  placed = more _ p.placed;
-  host = p.host;
-  since = (let one : p.to.generation ≤ g = p.since in omega arith);
-  enough = p.enough;
-}
+opened_at-more more {g} up p = search arith
 
 pub made-more : {sent sent_now : List Message} → More sent sent_now → {m : ServerId} {s o : ℕ} {entry : Entry} →
     HasMade sent m s o entry → HasMade sent_now m s o entry
@@ -90,17 +74,7 @@ NoneNewUpTo sent sent_now m index generation = (x : ServerId) (s e len : ℕ) (c
 pub member-before : {sent sent_now : List Message} {m : ServerId} {old : Log} → OwnFine sent m old → NewPlaces sent sent_now m old →
     {x : ServerId} (y : ServerId) {s e : ℕ} (len : ℕ) (closed : Bool) → In (between y m (Stored s e len closed)) sent →
     IsMember sent_now m s e x → IsMember sent m s e x
-member-before {sent} {m} {old} fine new {x} y {s} {e} len closed told p = by (new x s e p.digest p.entries false p.placed)
-  where
-    was : IsTold sent m old y s e len closed
-    was = fine.told y s e len closed told
-
-    place : IsPlace sent m old was.placed.to s e was.placed.digest was.placed.entries was.placed.closed
-    place = fine.places was.placed.to s e was.placed.digest was.placed.entries was.placed.closed was.placed.placed
-
-    by : In (between m x (Place s e p.digest p.entries false)) sent ⊎ IsNewPlace sent m old x s e p.entries false → IsMember sent m s e x
-    by (inl there) = record { digest = p.digest; entries = p.entries; placed = there }
-    by (inr one) = one.known refl was.opened.below place.epoch
+member-before {sent} {m} {old} fine new {x} y {s} {e} len closed told p = search arith
 
 -- what is needed of the world in which a copy lives on
 pub record CopyLives (sent sent_now : List Message) (m : ServerId) (old new : Log) (index generation : ℕ) : Type 0 where
@@ -126,12 +100,7 @@ above-later {sent} {sent_now} {m} {old} {new} {index} {generation} {s} {e} {clos
 
     -- a closed copy is whole
     if_closed : closed ≡ true → o < len
-    if_closed shut_so =
-        let whole : (s < old.head) × (len ≡ length (log_in old s)) = c.whole shut_so in
-        let same : length (log_in new s) ≡ length (log_in old s) = ap length (final-log w.later whole.0) in
-        let within : told_len ≤ length (log_in new s) = new_told.within in
-        let e1 : len ≡ length (log_in old s) = whole.1 in
-        omega arith
+    if_closed shut_so = search (arith, final-log, new_told)
 
     -- an open one was opened at the one member of its host
     if_open : (x.generation ≤ generation → ⊥) → closed ≡ false → o < len

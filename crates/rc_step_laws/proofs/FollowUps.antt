@@ -9,7 +9,7 @@ use Rattle.rc_model.specs.Model.{Commit, Ready, Recovered, between, to_coordinat
 use Rattle.rc_model.specs.Model.{Segment, is_ready, is_all_closed, is_unclosed, has_unclosed, with_closes_sent, Log, LogPlace, places_of}
 use Rattle.rc_model.specs.Model.{head_of, old_head_of, has_old_head, with_segment, numbers_to, is_opening, is_closing, durable_now, shuts}
 use Rattle.rc_model.specs.Model.{may_start, may_close, may_write, left_out, with_freed, starts, closes_old, writes_on, after_replay}
-use Rattle.rc_model.specs.Model.{after_answer, Master, with_log, durable_replayed, to_ids, ids_of, appends_entry, close_is_due}
+use Rattle.rc_model.specs.Model.{Master, with_log, to_ids, ids_of, appends_entry, close_is_due}
 use Rattle.rc_model.specs.Model.{close_marked, frees_segments, first_open, commits, write_oks, new_durable, attempt_of, goes_on}
 use Rattle.rc_model.specs.Model.{In}
 use Rattle.rc_model.proofs.Members.{In-append, In-map, In-filter}
@@ -61,17 +61,7 @@ phase-moved {sent} {m} {log} {phase} good fine opened shut empty = moved-log goo
 
     each : (s : ℕ) → GoodSegment (sent ++ []) m log.phase log.head s (log.segments s) →
         GoodSegment (sent ++ []) m phase log.head s (log.segments s)
-    each s p = record {
-      old_shut = p.old_shut;
-      writing_shut = λ writing above less. shut writing s above less;
-      shut_below = p.shut_below;
-      shut_committed = p.shut_committed;
-      complete = p.complete;
-      apart = p.apart;
-      noted = p.noted;
-      noted_closed = p.noted_closed;
-      committed = p.committed;
-    }
+    each s p = search arith
 
 -- quiet messages after a move that sends nothing
 then-quiet : {sent : List Message} {m : ServerId} {old new : Log} {messages : List Message} → GoodLog sent m old →
@@ -201,14 +191,7 @@ moved-shut {m} master e sent view = (
     log = master.log
 
     all_shut : (log.segments (log.head - 1)).shut ≡ true → (s : ℕ) → 0 < s → s < log.head → (log.segments s).shut ≡ true
-    all_shut shut s above less = by (last_or s log.head less)
-      where
-        last_or : (a b : ℕ) → a < b → (a ≡ b - 1) ⊎ (a + 1 < b)
-        last_or a b less = grind arith
-
-        by : (s ≡ log.head - 1) ⊎ (s + 1 < log.head) → (log.segments s).shut ≡ true
-        by (inl same) = subst (λ n. (log.segments n).shut ≡ true) (sym same) shut
-        by (inr under) = (view.log.each s).old_shut above under
+    all_shut shut s above less = search (arith, log)
 
 -- Commits
 

@@ -1,13 +1,14 @@
 -- Members on different hosts: those that are chosen, and those after lost ones were replaced.
-use Rattle.std.proofs.Common.{◌≡◌, ◌⊎◌, ℕ, zero, suc, ◌-◌, ◌%◌, Bool, true, false, cond, not, nat_eq, nat_lt, List, [], ◌∷◌, ◌++◌, length}
+use Rattle.std.proofs.Common.{arith}
+use Rattle.std.proofs.Common.{◌≡◌, ◌⊎◌, ℕ, zero, suc, Bool, true, false, cond, not, nat_eq, nat_lt, List, [], ◌∷◌, ◌++◌}
 use Rattle.std.proofs.Common.{take, drop, map, filter, Option, Some, None, refl, sym, ap, ◌∙◌, subst, inl, inr}
 use Rattle.std.proofs.lemmas.Bool.{eq-eqb}
 use Rattle.std.proofs.lemmas.List.{append-nil, append_assoc}
 use Rattle.std.specs.List.{list_any}
 use Rattle.std.specs.Option.{option_map}
 use Rattle.std.specs.Prelude.{option_and_then}
-use Rattle.rc_model.specs.Model.{ServerId, Member, id_before, insert_id, ids_in_order, ServerList, knows, first_rows, up_rows, up}
-use Rattle.rc_model.specs.Model.{new_member, of_other_hosts, candidates, choose, staying, first_free, substitutes, replaced, ids_of, In}
+use Rattle.rc_model.specs.Model.{ServerId, Member, id_before, insert_id, ids_in_order, ServerList, knows, first_rows, up_rows}
+use Rattle.rc_model.specs.Model.{new_member, candidates, choose, staying, first_free, substitutes, replaced, ids_of, In}
 use Rattle.rc_model.proofs.Members.{In-left, In-right, In-append, In-map, map-In, In-filter}
 use Rattle.rc_step_laws.specs.Words.{NotOnHostOf, OnDifferentHosts}
 use Rattle.rc_step_laws.proofs.Tests.{any-here, find-one}
@@ -108,25 +109,12 @@ apart-order (id ∷ ids) p = apart-insert id (ids_in_order ids)
 
 apart-candidates : (seg : ℕ) (own : ServerId) (servers : ServerList) → OnDifferentHosts (up_rows servers.rows) →
     OnDifferentHosts (candidates seg own servers)
-apart-candidates seg own servers p =
-    let ids = of_other_hosts own.index (up servers) in
-    apart-counted ((seg - 1) % length ids) ids (apart-filter (λ id. not (nat_eq id.index own.index)) (up servers)
-    (apart-order (up_rows servers.rows) p))
+apart-candidates seg own servers p = search (arith, apart-counted, apart-filter, apart-order)
 
 -- those who are chosen are on different hosts
 pub apart-choose : (seg : ℕ) (own : ServerId) (factor : ℕ) (servers : ServerList) {ids : List ServerId} →
     OnDifferentHosts (up_rows servers.rows) → choose seg own factor servers ≡ Some ids → OnDifferentHosts ids
-apart-choose seg own factor servers {ids} p e =
-    either (λ found. found ≡ Some ids → OnDifferentHosts ids) (nat_lt (length (candidates seg own servers)) factor) None
-    (Some (take factor (candidates seg own servers))) (λ _ none. none_some none)
-    (λ _ some. subst OnDifferentHosts (inner some)
-    (apart-take factor (candidates seg own servers) (apart-candidates seg own servers p))) e
-  where
-    none_some : {P : Type 0} → ◌≡◌ {A = Option (List ServerId)} None (Some ids) → P
-    none_some e = cc
-
-    inner : Some (take factor (candidates seg own servers)) ≡ Some ids → take factor (candidates seg own servers) ≡ ids
-    inner e = cc
+apart-choose seg own factor servers {ids} p e = search (arith, nat_lt, apart-take, apart-candidates)
 
 -- Substitutes
 
@@ -150,18 +138,7 @@ record IsThen (first : Option ServerId) (others : ServerId → Option (List Serv
 then-parts : (first : Option ServerId) {others : ServerId → Option (List ServerId)} {ids : List ServerId} →
     option_and_then (λ id. option_map (λ rest. id ∷ rest) (others id)) first ≡ Some ids → IsThen first others ids
 then-parts None e = cc
-then-parts (Some id) {others} {ids} e = by (others id) refl e
-  where
-    by : (found : Option (List ServerId)) → others id ≡ found → option_map (λ rest. id ∷ rest) found ≡ Some ids →
-        IsThen (Some id) others ids
-    by None is e = cc
-    by (Some rest) is e = record {
-      id = id;
-      rest = rest;
-      first_is = refl;
-      rest_is = is;
-      ids_are = (let same : id ∷ rest ≡ ids = cc in sym same);
-    }
+then-parts (Some id) {others} {ids} e = search arith
 
 -- what each list of substitutes satisfies, by the members: none, a lost one first, or a staying one first
 substitutes-each : (P : List ServerId → List Member → List ServerId → Type 0) (ids : List ServerId)
@@ -182,10 +159,7 @@ substitutes-each P ids none lost stays taken (member ∷ members) {found} e =
         (substitutes ids taken members) ≡ Some found
         → ((other more : List ServerId) → substitutes ids other members ≡ Some more → P other members more) →
         P taken (member ∷ members) found
-    by true is e rec =
-        let p = then-parts (first_free ids taken) e in
-        subst (λ l. P taken (member ∷ members) l) (sym p.ids_are)
-        (lost taken member members p.id p.rest is p.first_is p.rest_is (rec (p.id ∷ taken) p.rest p.rest_is))
+    by true is e rec = search (arith, then-parts)
     by false is e rec = stays taken member members found is e (rec taken found e)
 
 -- a substitute is on no host of those that were taken
@@ -212,14 +186,10 @@ replaced-none [] = refl
 replaced-none (member ∷ members) = refl
 
 staying-lost : (member : Member) (members : List Member) → member.lost ≡ true → staying (member ∷ members) ≡ staying members
-staying-lost member members e =
-    ap (λ b. map (λ (one : Member). one.id) (cond (not b) (member ∷ filter (λ one. not one.lost) members)
-    (filter (λ one. not one.lost) members))) e
+staying-lost member members e = search arith
 
 staying-stays : (member : Member) (members : List Member) → member.lost ≡ false → staying (member ∷ members) ≡ member.id ∷ staying members
-staying-stays member members e =
-    ap (λ b. map (λ (one : Member). one.id) (cond (not b) (member ∷ filter (λ one. not one.lost) members)
-    (filter (λ one. not one.lost) members))) e
+staying-stays member members e = search arith
 
 replaced-lost : (member : Member) (members : List Member) {id : ServerId} (ids : List ServerId) → member.lost ≡ true →
     replaced (member ∷ members) (id ∷ ids) ≡ new_member id ∷ replaced members ids
@@ -246,21 +216,13 @@ replaced-only ids taken members e = substitutes-each OnlyThese ids (λ other y a
         ((y : ServerId) → In y (ids_of (replaced more rest)) → In y rest ⊎ In y (staying more))
         → (y : ServerId) → (y ≡ id) ⊎ In y (ids_of (replaced more rest)) → ((y ≡ id) ⊎ In y rest) ⊎ In y (staying (member ∷ more))
     lost_first member more id rest lost rec y (inl e) = inl (inl e)
-    lost_first member more id rest lost rec y (inr at) = further (rec y at)
-      where
-        further : In y rest ⊎ In y (staying more) → ((y ≡ id) ⊎ In y rest) ⊎ In y (staying (member ∷ more))
-        further (inl there) = inl (inr there)
-        further (inr there) = inr (subst (λ l. In y l) (sym (staying-lost member more lost)) there)
+    lost_first member more id rest lost rec y (inr at) = search (arith, staying-lost)
 
     stays_first : (member : Member) (more : List Member) (some : List ServerId) → member.lost ≡ false →
         ((y : ServerId) → In y (ids_of (replaced more some)) → In y some ⊎ In y (staying more))
         → (y : ServerId) → (y ≡ member.id) ⊎ In y (ids_of (replaced more some)) → In y some ⊎ In y (staying (member ∷ more))
     stays_first member more some stays rec y (inl e) = inr (subst (λ l. In y l) (sym (staying-stays member more stays)) (inl e))
-    stays_first member more some stays rec y (inr at) = further (rec y at)
-      where
-        further : In y some ⊎ In y (staying more) → In y some ⊎ In y (staying (member ∷ more))
-        further (inl there) = inl there
-        further (inr there) = inr (subst (λ l. In y l) (sym (staying-stays member more stays)) (inr there))
+    stays_first member more some stays rec y (inr at) = search (arith, staying-stays)
 
 -- those that stay are members
 staying-In : (y : ServerId) (members : List Member) → In y (staying members) → In y (ids_of members)
@@ -347,9 +309,7 @@ apart-first_rows (row ∷ rows) before p =
     (λ _. apart-first_rows rows before (skip p)) (λ _. apart-first_rows rows (before ++ row ∷ []) (subst OnDifferentHosts (sym moves) p))
   where
     skip : OnDifferentHosts (up_rows before ++ up_rows (row ∷ rows)) → OnDifferentHosts (up_rows before ++ up_rows rows)
-    skip = either (λ l. OnDifferentHosts (up_rows before ++ l) → OnDifferentHosts (up_rows before ++ up_rows rows))
-        row.1 (row.0 ∷ up_rows rows) (up_rows rows)
-        (λ _ q. apart-without (up_rows before) row.0 (up_rows rows) q) (λ _ q. q)
+    skip = search (arith, apart-without)
 
     moves : up_rows (before ++ row ∷ []) ++ up_rows rows ≡ up_rows before ++ up_rows (row ∷ rows)
     moves = ap (λ l. l ++ up_rows rows) (up-append before (row ∷ [])) ∙ append_assoc (up_rows before) (up_rows (row ∷ [])) (up_rows rows)

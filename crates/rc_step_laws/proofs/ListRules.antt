@@ -29,15 +29,7 @@ use Rattle.rc_model.proofs.Sending.{each-to_ids}
 pub place-whole : {sent : List Message} {m : ServerId} {log : Log} {x : ServerId} {s : ℕ} {closed : Bool} →
     IsOpened log s → (log.segments s).shut ≡ closed → (closed ≡ false → In x (ids_of (log.segments s).config.members))
     → IsPlace sent m log x s (log.segments s).config.epoch (log.segments s).digest (log_in log s) closed
-place-whole opened is member = record {
-  opened = opened;
-  epoch = omega arith;
-  digest_is = refl;
-  begins = begins-refl;
-  whole = λ e. (is ∙ e, refl);
-  member = λ e same open_now. member e;
-  told = λ e same shut. true_false (sym shut ∙ is ∙ e);
-}
+place-whole opened is member = search (arith, begins-refl)
 
 -- Marks of lost members
 
@@ -183,26 +175,11 @@ changed-log {sent} {m} {log} {s} servers {ids} good fine opened open_now found =
 
     placed_it : (x : ServerId) → In x members_now →
         In (between m x (Place s (old.config.epoch + 1) (log_now.segments s).digest (log_in log_now s) false)) messages
-    placed_it x at =
-        let here : In (between log.own x (place_of log_now s (log_now.segments s).shut)) messages =
-        map-In (λ (id : ServerId). between log.own id (place_of log_now s (log_now.segments s).shut)) x members_now
-        at in
-        subst (λ own. In (between own x (Place s (old.config.epoch + 1) (log_now.segments s).digest (log_in log_now s)
-        false)) messages) good.own
-        (subst (λ closed. In (between log.own x (Place s (old.config.epoch + 1) (log_now.segments s).digest
-        (log_in log_now s) closed)) messages) (ap (λ (segment : Segment). segment.shut) at_new ∙ open_now)
-        (subst (λ epoch. In (between log.own x (Place s epoch (log_now.segments s).digest (log_in log_now s)
-        (log_now.segments s).shut)) messages) (ap (λ (segment : Segment). segment.config.epoch) at_new) here))
+    placed_it x at = search (arith, log_now, messages, map-In, members_now, old, at_new)
 
     fresh : (x : ServerId) (t e : ℕ) → In x members_now × SamePlace x x t e false s (log_now.segments s).config.epoch
         (log_now.segments s).shut → IsFresh log log_now x t e
-    fresh x t e p = record {
-      unknown = inr (let is : e ≡ old.config.epoch + 1 = p.1.epoch_is ∙ ap (λ (segment : Segment). segment.config.epoch) at_new in
-          subst (λ n. (log.segments n).config.epoch < e) (sym p.1.seg_is) (omega arith));
-      member = subst (λ n. In x (ids_of (log_now.segments n).config.members)) (sym p.1.seg_is)
-          (subst (λ (segment : Segment). In x (ids_of segment.config.members)) (sym at_new) p.0);
-      opened = subst (λ n. (log_now.segments n).shut ≡ false) (sym p.1.seg_is) (ap (λ (segment : Segment). segment.shut) at_new ∙ open_now);
-    }
+    fresh x t e p = search (arith, old, at_new, log_now)
 
 -- One segment
 

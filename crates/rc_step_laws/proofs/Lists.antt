@@ -88,10 +88,7 @@ set-get (y ∷ xs) (suc j) {new} (suc k) {x} e = further (set-get xs j k e)
 -- a beginning is no longer, and has the same at its places
 pub begins-length : {X : Type 0} (xs ys : List X) → Begins xs ys → length xs ≤ length ys
 begins-length [] ys b = omega arith
-begins-length (x ∷ xs) [] b = elim (cons-nil b.1) [ ]
-  where
-    cons-nil : x ∷ (xs ++ b.0) ≡ [] → ⊥
-    cons-nil e = cc
+begins-length (x ∷ xs) [] b = search arith
 begins-length (x ∷ xs) (y ∷ ys) b =
     let e : x ∷ (xs ++ b.0) ≡ y ∷ ys = b.1 in
     let tail : xs ++ b.0 ≡ ys = cc in

@@ -153,16 +153,8 @@ moved-at {sent} {two_sent} {m} {one} {three} {first} {second} early late p q = r
 }
   where
     by : (message : Message) → In message first ⊎ In message second → MasterSays sent two_sent m one three message
-    by message (inl at) = (let old = p.says message at in
-        record {
-          from = old.from;
-          says = body_said-grown sent one message.to message.body late old.says;
-        })
-    by message (inr at) = (let new = q.says message at in
-        record {
-          from = new.from;
-          says = body_said-earlier two_sent three message.to message.body early new.says;
-        })
+    by message (inl at) = search (arith, body_said-grown)
+    by message (inr at) = search (arith, body_said-earlier)
 
 pub log_moved-then : {sent : List Message} {m : ServerId} {one two three : Log} {first second : List Message} → GoodLog sent m one
     → LogMoved sent m one two first → LogMoved (sent ++ first) m two three second → LogMoved sent m one three (first ++ second)
@@ -268,11 +260,7 @@ moved-log {sent} {m} {old} {new} {messages} good fine parts = record {
 
     -- the old view knows what was sent then
     not_both : (s e : ℕ) (x y : ServerId) → IsMember sent m s e x → IsFresh old new y s e → ⊥
-    not_both s e x y at fresh = by (fine.places x s e at.digest at.entries false at.placed) fresh.unknown
-      where
-        by : IsPlace sent m old x s e at.digest at.entries false → (old.head < s) ⊎ ((old.segments s).config.epoch < e) → ⊥
-        by p (inl over) = (let upto = p.opened.below in omega arith)
-        by p (inr over) = (let under = p.epoch in omega arith)
+    not_both s e x y at fresh = search arith
 
     one : (s e : ℕ) (x y : ServerId) → IsMember (sent ++ messages) m s e x → IsMember (sent ++ messages) m s e y → x.index ≡ y.index → x ≡ y
     one s e x y at_x at_y same = by (news_of s e x at_x) (news_of s e y at_y)

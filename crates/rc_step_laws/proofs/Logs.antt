@@ -24,15 +24,7 @@ member-more more p = record { digest = p.digest; entries = p.entries; placed = m
 
 pub placed_at-more : {sent sent_now : List Message} {m : ServerId} {s e index generation : ℕ} → More sent sent_now →
     IsPlacedAt sent m s e index generation → IsPlacedAt sent_now m s e index generation
-placed_at-more more p = record {
-  to = p.to;
-  digest = p.digest;
-  entries = p.entries;
-  closed = p.closed;
-  placed = more _ p.placed;
-  host = p.host;
-  since = p.since;
-}
+placed_at-more more p = search arith
 
 pub committed-more : (sent sent_now : List Message) (m : ServerId) (s : ℕ) {e : ℕ} → More sent sent_now →
     IsCommitted sent m s e → IsCommitted sent_now m s e
@@ -52,16 +44,7 @@ get-log sent m old new later s o entry at = get-begins (log_in old s) (grows-log
 -- Later is reflexive and transitive, and stays true as more is sent
 
 pub log_later-refl : {sent : List Message} {m : ServerId} {log : Log} → LogLater sent m log log
-log_later-refl = record {
-  head = omega arith;
-  grows = λ s. begins-refl;
-  final = λ s below. refl;
-  digest = λ s above upto. refl;
-  epoch = λ s upto. omega arith;
-  shut = λ s e. (e, refl);
-  joined = λ s x upto shut same at. at;
-  shuts = λ s x upto before shut same at. true_false (sym shut ∙ before);
-}
+log_later-refl = search (arith, begins-refl)
 
 -- a number between two equal ones
 between_same : {a b c : ℕ} → a ≤ b → b ≤ c → c ≡ a → b ≡ a
@@ -205,24 +188,12 @@ append-grown {sent_now} {m} {old} {new} {s} {offset} grown p = record {
 
 pub close-grown : {sent sent_now : List Message} {m : ServerId} {old new : Log} {s len : ℕ} →
     Grown sent sent_now m old new → IsClose old s len → IsClose new s len
-close-grown grown p = record {
-  above = p.above;
-  final = omega (arith, p.final, grown.later.head);
-  whole = p.whole ∙ ap length (sym (final-log grown.later p.final));
-}
+close-grown grown p = search (arith, final-log)
 
 pub write_ok-grown : {sent sent_now : List Message} {m : ServerId} {old new : Log} {s o term table key version : ℕ} →
     Grown sent sent_now m old new
     → IsWriteOk sent m old s o term table key version → IsWriteOk sent_now m new s o term table key version
-write_ok-grown {sent_now} {m} {old} {new} {s} {o} grown p = record {
-  safe = safe-grown grown p.safe;
-  entry = p.entry;
-  holds = get-log sent_now m old new grown.later s o p.entry p.holds;
-  term_is = p.term_is;
-  table_is = p.table_is;
-  key_is = p.key_is;
-  version_is = p.version_is;
-}
+write_ok-grown {sent_now} {m} {old} {new} {s} {o} grown p = search (arith, safe-grown, get-log)
 
 pub told-grown : {sent sent_now : List Message} {m : ServerId} {old new : Log} {x : ServerId} {s e len : ℕ}
     {closed : Bool} → Grown sent sent_now m old new

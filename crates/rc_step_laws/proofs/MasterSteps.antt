@@ -1,86 +1,36 @@
 -- Each step of a master: what a message does, what its timer does, and its start.
-use Rattle.std.proofs.Common.{◌≡◌, ℕ, Bool, true, cond, List, [], ◌++◌, map, refl, sym, inl, arith}
-use Rattle.rc_model.specs.Model.{ServerId, Addr, Server, Outside, Part, PlanRow, Deposed, Opening, Writing, Message, Body, Write, Read}
-use Rattle.rc_model.specs.Model.{Stored, CommitOk, Refused, Data, Own, from_coordinator, up_rows, put_data, grant, Master, then_does}
-use Rattle.rc_model.specs.Model.{goes_on, fetch_of, ticks, task_of, takes_plan, says_deposed, master_takes_first, deposed_takes}
-use Rattle.rc_model.specs.Model.{master_takes, master_ticks, In}
+use Rattle.std.proofs.Common.{◌≡◌, ℕ, Bool, true, cond, List, [], refl, arith}
+use Rattle.rc_model.specs.Model.{ServerId, Addr, Server, Outside, Part, PlanRow, Deposed, Message, Body, Write, Read}
+use Rattle.rc_model.specs.Model.{Stored, CommitOk, Refused, Data, Own, from_coordinator, up_rows, Master, then_does}
+use Rattle.rc_model.specs.Model.{goes_on, ticks, task_of, takes_plan, says_deposed, master_takes_first, deposed_takes}
+use Rattle.rc_model.specs.Model.{In}
 use Rattle.rc_types.specs.declared.ids.Addr.TheVariants.{Coordinator}
 use Rattle.rc_types.specs.declared.messages.Body.TheVariants.{Plan, List as ServersOf}
 use Rattle.rc_step_laws.specs.All.{OnDifferentHosts, GoodMaster, OwnFine, MasterMoved, MayHear, MasterTakesKeeps, MasterTicksKeeps}
 use Rattle.rc_step_laws.specs.All.{NewMasterIsGood}
 use Rattle.rc_step_laws.proofs.LogMoves.{GoodLog}
-use Rattle.rc_model.proofs.Walk.{begun, kept-plan}
+use Rattle.rc_model.proofs.Walk.{kept-plan}
 use Rattle.rc_step_laws.proofs.Views.{Kept, joined, GoodView, Moved, moved-then_does, moved-quiet, quiet-none, still}
 use Rattle.rc_step_laws.proofs.Writing.{moved-writes, moved-reads, moved-refused}
 use Rattle.rc_step_laws.proofs.MasterTold.{moved-stored, moved-commit}
 use Rattle.rc_step_laws.proofs.ListRules.{moved-takes_list}
 use Rattle.rc_step_laws.proofs.FollowUps.{moved-goes_on}
 use Rattle.rc_step_laws.proofs.Ticks.{fetches-quiet, moved-ticks}
-use Rattle.rc_model.proofs.Tests.{true_false, either}
+use Rattle.rc_model.proofs.Tests.{either}
 
 -- A good master's view, and back
 
 pub view-of : {sent : List Message} {m : ServerId} {master : Master} → GoodMaster sent m master →
     OwnFine sent m master.log → GoodView sent m master
-view-of good fine = record {
-  log = record {
-    own = good.own;
-    none_below = good.none_below;
-    none_above = good.none_above;
-    writing_opened = good.writing_opened;
-    empty = good.empty;
-    each = λ s. record {
-      old_shut = good.old_shut s;
-      writing_shut = λ writing. good.writing_shut writing s;
-      shut_below = good.shut_below s;
-      shut_committed = good.shut_committed s;
-      complete = λ x above upto open_now at. good.complete s x (record { above = above; below = upto }) open_now at;
-      apart = good.apart s;
-      noted = good.noted s;
-      noted_closed = good.noted_closed s;
-      committed = good.committed s;
-    };
-    one_a_host = good.one_a_host;
-    counted = good.counted;
-    digests = good.digests;
-    durable_within = good.durable_within;
-  };
-  fine = fine;
-  known = good.known;
-}
+view-of good fine = search arith
 
 good-of : {sent : List Message} {m : ServerId} {master : Master} → GoodLog sent m master.log →
     OnDifferentHosts (up_rows master.known.rows) → GoodMaster sent m master
-good-of log known = record {
-  own = log.own;
-  none_below = log.none_below;
-  none_above = log.none_above;
-  old_shut = λ s. (log.each s).old_shut;
-  writing_opened = log.writing_opened;
-  writing_shut = λ writing s. (log.each s).writing_shut writing;
-  empty = log.empty;
-  shut_below = λ s. (log.each s).shut_below;
-  shut_committed = λ s. (log.each s).shut_committed;
-  complete = λ s x opened open_now at. (log.each s).complete x opened.above opened.below open_now at;
-  apart = λ s. (log.each s).apart;
-  one_a_host = log.one_a_host;
-  noted = λ s. (log.each s).noted;
-  noted_closed = λ s. (log.each s).noted_closed;
-  committed = λ s. (log.each s).committed;
-  counted = log.counted;
-  digests = log.digests;
-  known = known;
-  durable_within = log.durable_within;
-}
+good-of log known = search arith
 
 moved-of : {sent : List Message} {m : ServerId} {old : Master} {after : Master × List Message} →
     Moved sent m old after → MasterMoved sent m old after
-moved-of moved = record {
-  good = good-of moved.log.good moved.known;
-  fine = moved.log.fine;
-  later = moved.log.later;
-  says = moved.log.says;
-}
+moved-of moved = search (arith, good-of)
 
 -- A plan
 
@@ -156,27 +106,4 @@ master_ticks_keeps sent m master good fine = moved-of
     view = view-of good fine
 
 pub new_master_is_good : NewMasterIsGood
-new_master_is_good m setup = record {
-  own = refl;
-  none_below = refl;
-  none_above = λ s over. refl;
-  old_shut = λ s above less. absurd (omega arith);
-  writing_opened = λ writing. opening_writing writing;
-  writing_shut = λ writing. opening_writing writing;
-  empty = λ quiet. refl;
-  shut_below = λ s e. true_false (sym e);
-  shut_committed = λ s e. true_false (sym e);
-  complete = λ s x opened open_now at. absurd at;
-  apart = λ s e. tt;
-  one_a_host = λ s e x y at_x at_y same. absurd at_x.placed;
-  noted = λ s member at o less. absurd at;
-  noted_closed = λ s member at told. absurd at;
-  committed = λ s e. inl refl;
-  counted = λ k place less at. absurd (omega arith);
-  digests = λ s opened. (let above = opened.above in let below = opened.below in absurd (omega arith));
-  known = tt;
-  durable_within = omega arith;
-}
-  where
-    opening_writing : {P : Type 0} → Opening ≡ Writing → P
-    opening_writing e = cc
+new_master_is_good m setup = search arith

@@ -1,7 +1,8 @@
 -- What members tell and the coordinator grants is noted.
-use Rattle.std.proofs.Common.{◌≡◌, ℕ, Bool, true, false, nat_eq, nat_lt, nat_le, List, [], map, refl, subst, inr}
+use Rattle.std.proofs.Common.{arith}
+use Rattle.std.proofs.Common.{◌≡◌, ℕ, Bool, true, false, nat_lt, nat_le, List, [], refl}
 use Rattle.std.proofs.lemmas.Bool.{and_parts, eqb-true, ltb-true, leb-true}
-use Rattle.rc_model.specs.Model.{ServerId, Member, Phase, Message, Stored, CommitOk, between, from_coordinator, Config, told_if_heard}
+use Rattle.rc_model.specs.Model.{ServerId, Member, Phase, Message, Stored, CommitOk, between, from_coordinator, Config}
 use Rattle.rc_model.specs.Model.{noted, committed_at, Segment, Log, has_segment, with_config, stored, commit_noted, Master, with_log}
 use Rattle.rc_model.specs.Model.{ids_of, In}
 use Rattle.rc_step_laws.specs.All.{IsOpened, OwnFine}
@@ -21,17 +22,7 @@ pub steady-members : {sent : List Message} {m : ServerId} {phase : Phase} {head 
     {members : List Member} → GoodSegment sent m phase head s old
     → (old.shut ≡ false → ids_of members ≡ ids_of old.config.members) → EachNoted sent m s old.config.epoch members
     → SegmentSteady sent m s old (record old { config = record old.config { members = members } })
-steady-members good ids all = record {
-  entries = refl;
-  digest = refl;
-  shut = refl;
-  epoch = refl;
-  ids = ids;
-  committed = λ e. e;
-  granted = λ e. good.committed e;
-  noted = λ member at o less. (all member at).len o less;
-  noted_closed = λ member at told. (all member at).closed told;
-}
+steady-members good ids all = search arith
 
 -- the config stays
 steady-config : {sent : List Message} {m : ServerId} {phase : Phase} {head s : ℕ} {old : Segment} →
@@ -64,17 +55,7 @@ stored-log sent m log from s epoch len closed good fine at =
 
     steady : SegmentSteady sent m s (log.segments s)
         (record (log.segments s) { config = noted from epoch len closed (log.segments s).config })
-    steady = either (λ config. SegmentSteady sent m s (log.segments s) (record (log.segments s) { config = config }))
-        (nat_eq epoch (log.segments s).config.epoch)
-        (record (log.segments s).config {
-          members = map (told_if_heard from len closed) (log.segments s).config.members;
-        }) (log.segments s).config (λ e. steady-members (good.each s)
-        (λ _. ids-told from len closed (log.segments s).config.members)
-        (each-told sent m s (log.segments s).config.epoch from len closed
-        (subst (λ n. In (between from m (Stored s n len closed)) sent)
-        (eqb-true epoch (log.segments s).config.epoch e) at)
-        (log.segments s).config.members (each-noted sent m log.phase log.head s (log.segments s) (good.each s))))
-        (λ _. steady-config (good.each s))
+    steady = search (arith, steady-members, ids-told, each-told, eqb-true, each-noted, steady-config)
 
 pub moved-stored : (sent : List Message) (m : ServerId) (master : Master) (from : ServerId) (s epoch len : ℕ)
     (closed : Bool) → GoodView sent m master → In (between from m (Stored s epoch len closed)) sent
@@ -90,20 +71,7 @@ commit-log sent m log s epoch good fine at =
     (λ has. config-moved good fine (has-opened has) steady) (λ _. quiet-moved good fine (quiet-none m))
   where
     steady : SegmentSteady sent m s (log.segments s) (record (log.segments s) { config = committed_at epoch (log.segments s).config })
-    steady = either (λ config. SegmentSteady sent m s (log.segments s) (record (log.segments s) { config = config }))
-        (nat_eq epoch (log.segments s).config.epoch)
-        (record (log.segments s).config { committed = true }) (log.segments s).config
-        (λ e. record {
-          entries = refl;
-          digest = refl;
-          shut = refl;
-          epoch = refl;
-          ids = λ _. refl;
-          committed = λ _. refl;
-          granted = λ _. inr (subst (λ n. In (from_coordinator m (CommitOk s n)) sent) (eqb-true epoch (log.segments s).config.epoch e) at);
-          noted = (good.each s).noted;
-          noted_closed = (good.each s).noted_closed;
-        }) (λ _. steady-config (good.each s))
+    steady = search (arith, eqb-true, steady-config)
 
 pub moved-commit : (sent : List Message) (m : ServerId) (master : Master) (s epoch : ℕ) → GoodView sent m master →
     In (from_coordinator m (CommitOk s epoch)) sent →

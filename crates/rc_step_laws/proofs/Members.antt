@@ -1,8 +1,8 @@
 -- Lists of members: what is noted of them, who they are, and whose place is given to another.
-use Rattle.std.proofs.Common.{◌≡◌, ◌⊎◌, ℕ, ◌<◌, max, Bool, true, false, not, ◌||◌, List, [], ◌∷◌, map, Option, Some}
-use Rattle.std.proofs.Common.{None, refl, sym, ap, ◌∙◌, subst, inl, inr, arith}
+use Rattle.std.proofs.Common.{◌≡◌, ◌⊎◌, ℕ, ◌<◌, Bool, true, not, List, [], ◌∷◌, map, Some}
+use Rattle.std.proofs.Common.{refl, sym, ap, ◌∙◌, subst, inl, inr, arith}
 use Rattle.std.proofs.lemmas.Bool.{and_parts}
-use Rattle.rc_model.specs.Model.{ServerId, Member, Told, Message, Stored, same_id, between, ServerList, has_crashed, new_member}
+use Rattle.rc_model.specs.Model.{ServerId, Member, Message, Stored, same_id, between, ServerList, has_crashed, new_member}
 use Rattle.rc_model.specs.Model.{told_with, is_heard, told_if_heard, told_len, told_closed, lost_if_crashed, replaced, ids_of, In}
 use Rattle.rc_model.proofs.Members.{In-map}
 use Rattle.rc_step_laws.specs.Words.{HasTold, HasToldClosed}
@@ -42,34 +42,7 @@ told-with : (sent : List Message) (m : ServerId) (s e : ℕ) (from : ServerId) (
     In (between from m (Stored s e len closed)) sent
     → (member : Member) → from ≡ member.id → NotedOf sent m s e member →
     NotedOf sent m s e (record member { told = Some (told_with member.told len closed) })
-told-with sent m s e from len closed at member same old = by member.told old.len old.closed
-  where
-    new_len : (o : ℕ) → o < len → HasTold sent member.id m s e o
-    new_len o less = subst (λ x. HasTold sent x m s e o) same (record { len = len; closed = closed; above = less; told = at })
-
-    new_closed : closed ≡ true → HasToldClosed sent member.id m s e
-    new_closed is = subst (λ x. HasToldClosed sent x m s e) same
-        (record { len = len; told = subst (λ c. In (between from m (Stored s e len c)) sent) is at })
-
-    of_max : (a o : ℕ) → o < max a len → (o < a) ⊎ (o < len)
-    of_max a o less = grind arith
-
-    of_two : (a o : ℕ) → (o < a → HasTold sent member.id m s e o) → (o < a) ⊎ (o < len) → HasTold sent member.id m s e o
-    of_two a o before (inl less) = before less
-    of_two a o before (inr less) = new_len o less
-
-    of_or : (b : Bool) → (b ≡ true → HasToldClosed sent member.id m s e) → (b || closed) ≡ true → HasToldClosed sent member.id m s e
-    of_or true before is = before refl
-    of_or false before is = new_closed is
-
-    by : (told : Option Told) → ((o : ℕ) → o < told_len told → HasTold sent member.id m s e o) →
-        (told_closed told ≡ true → HasToldClosed sent member.id m s e)
-        → NotedOf sent m s e (record member { told = Some (told_with told len closed) })
-    by None before before_closed = record { len = new_len; closed = new_closed }
-    by (Some told) before before_closed = record {
-      len = λ o less. of_two told.len o (before o) (of_max told.len o less);
-      closed = λ is. of_or told.closed before_closed is;
-    }
+told-with sent m s e from len closed at member same old = search arith
 
 pub each-told : (sent : List Message) (m : ServerId) (s e : ℕ) (from : ServerId) (len : ℕ) (closed : Bool) →
     In (between from m (Stored s e len closed)) sent
@@ -83,9 +56,7 @@ each-told sent m s e from len closed at members all = each-mapped sent m s e (to
 
 pub ids-told : (from : ServerId) (len : ℕ) (closed : Bool) (members : List Member) →
     ids_of (map (told_if_heard from len closed) members) ≡ ids_of members
-ids-told from len closed members = ids-mapped (told_if_heard from len closed)
-    (λ member. either (λ (one : Member). one.id ≡ member.id) (is_heard from member)
-    (record member { told = Some (told_with member.told len closed) }) member (λ _. refl) (λ _. refl)) members
+ids-told from len closed members = search (arith, ids-mapped)
 
 -- Members are marked lost
 
@@ -96,9 +67,7 @@ each-lost {sent} {m} {s} {e} servers members all = each-mapped sent m s e (lost_
     (λ _. record { len = old.len; closed = old.closed }) (λ _. old)) members all
 
 pub ids-lost : (servers : ServerList) (members : List Member) → ids_of (map (lost_if_crashed servers) members) ≡ ids_of members
-ids-lost servers members = ids-mapped (lost_if_crashed servers)
-    (λ member. either (λ (one : Member). one.id ≡ member.id) (has_crashed servers member.id)
-    (record member { lost = true }) member (λ _. refl) (λ _. refl)) members
+ids-lost servers members = search (arith, ids-mapped)
 
 -- Lost ones are replaced
 

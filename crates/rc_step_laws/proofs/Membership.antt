@@ -1,11 +1,10 @@
 -- The members of a segment, by the messages alone, are who was sent a Place of it.
-use Rattle.std.proofs.Common.{◌≡◌, ◌⊎◌, ◌&&◌, ℕ, Bool, true, false, not, nat_eq, List, [], ◌∷◌, refl, sym, ap, subst, inl, inr, arith}
+use Rattle.std.proofs.Common.{◌≡◌, ◌⊎◌, ℕ, Bool, true, false, List, [], ◌∷◌, sym, inl, inr, arith}
 use Rattle.std.proofs.lemmas.Bool.Decides.{nat_tests}
 use Rattle.rc_types.specs.declared.entries.Entry.{Entry}
 use Rattle.rc_model.specs.Model.{ServerId, Addr, Server, Message, Body, Place, is_server, between, In}
 use Rattle.rc_model.specs.Made.{placed_to, members_of}
-use Rattle.rc_model.proofs.Tests.{either}
-use Rattle.rc_model.proofs.Members.{In-gathered, In-gathered_rest, In-gathered_piece}
+use Rattle.rc_model.proofs.Members.{In-gathered, In-gathered_rest}
 use Rattle.rc_model.proofs.Said.{is_server-true, is_server-from}
 use Rattle.rc_step_laws.specs.All.{IsMember, MembersWerePlaced}
 
@@ -21,27 +20,13 @@ same-place : {seg s epoch e : ℕ} {digest : List ℕ} {entries : List Entry} {c
 same-place {digest} {entries} p q r j = Place (p j) (q j) digest entries (r j)
 
 placed-says : (to : Addr) (body : Body) (s e : ℕ) (x : ServerId) → In x (placed_to to body s e) → Places to body s e x
-placed-says (Server id) (Place seg epoch digest entries closed) s e x at =
-    either (λ (ids : List ServerId). In x ids → Places (Server id) (Place seg epoch digest entries closed) s e x)
-    (nat_eq seg s && (nat_eq epoch e && not closed)) (id ∷ []) [] here (λ is other. absurd other) at
-  where
-    here : (nat_eq seg s && (nat_eq epoch e && not closed)) ≡ true → In x (id ∷ []) →
-        Places (Server id) (Place seg epoch digest entries closed) s e x
-    here is (inl same) = record {
-      digest = digest;
-      entries = entries;
-      to_x = sym (ap Server same);
-      says = same-place (grind (arith, nat_tests)) (grind (arith, nat_tests)) (grind (arith, nat_tests));
-    }
-    here is (inr rest) = absurd rest
+placed-says (Server id) (Place seg epoch digest entries closed) s e x at = search (arith, same-place, nat_tests)
 placed-says (Server id) _ s e x at = absurd at
 placed-says _ _ s e x at = absurd at
 
 placed-said : (x : ServerId) (s e : ℕ) (digest : List ℕ) (entries : List Entry) →
     In x (placed_to (Server x) (Place s e digest entries false) s e)
-placed-said x s e digest entries =
-    either (λ (ids : List ServerId). In x ids) (nat_eq s s && (nat_eq e e && not false)) (x ∷ []) []
-    (λ is. inl refl) (λ is. grind (arith, nat_tests))
+placed-said x s e digest entries = search (arith, nat_tests)
 
 member-placed : (sent : List Message) (m x : ServerId) (s e : ℕ) → In x (members_of sent m s e) → IsMember sent m s e x
 member-placed [] m x s e at = absurd at
@@ -66,10 +51,7 @@ member-placed (first ∷ sent) m x s e at = by (member-placed sent m x s e)
 placed-member : (sent : List Message) (m x : ServerId) (s e : ℕ) (digest : List ℕ) (entries : List Entry) →
     In (between m x (Place s e digest entries false)) sent → In x (members_of sent m s e)
 placed-member [] m x s e digest entries at = absurd at
-placed-member (first ∷ sent) m x s e digest entries (inl same) =
-    subst (λ (message : Message). In x (members_of (message ∷ sent) m s e)) same
-    (In-gathered_piece x (is_server m (Server m)) (placed_to (Server x) (Place s e digest entries false) s e)
-    (members_of sent m s e) (is_server-from m (Server m) refl) (placed-said x s e digest entries))
+placed-member (first ∷ sent) m x s e digest entries (inl same) = search (arith, is_server-from, placed-said)
 placed-member (first ∷ sent) m x s e digest entries (inr rest) =
     In-gathered_rest x (is_server m first.from) (placed_to first.to first.body s e) (members_of sent m s e)
     (placed-member sent m x s e digest entries rest)

@@ -33,12 +33,7 @@ placed_on m log digest ids = to_ids m ids (Place (log.head + 1) 0 digest [] fals
 -- what the new head's members are sent
 placed_head : {m : ServerId} (log : Log) (digest : List ℕ) (ids : List ServerId) → log.own ≡ m →
     placed_on m log digest ids ≡ places_head (opens_head log digest ids)
-placed_head log digest ids own = sym (
-    ap (λ (segment : Segment). to_ids log.own (ids_of segment.config.members)
-    (Place (log.head + 1) segment.config.epoch segment.digest (map (λ (one : Entry × Bool). one.0) segment.entries)
-    false)) (put-same log.segments (log.head + 1) (new_segment (log.head + 1) digest ids))
-    ∙ ap (λ others. to_ids log.own others (Place (log.head + 1) 0 digest [] false)) (ids-new ids)
-    ∙ ap (λ id. to_ids id ids (Place (log.head + 1) 0 digest [] false)) own)
+placed_head log digest ids own = search (arith, put-same, ids-new)
 
 opened-moved : {sent : List Message} {m : ServerId} {log : Log} {digest : List ℕ} (ids : List ServerId) →
     GoodLog sent m log → OwnFine sent m log
@@ -171,13 +166,7 @@ opened-moved {sent} {m} {log} {digest} ids good fine all_shut apart fits = moved
 
     fresh : (x : ServerId) (s e : ℕ) → In x ids × Rattle.rc_step_laws.proofs.Views.SamePlace x x s e false h 0
         false → IsFresh log new x s e
-    fresh x s e p = record {
-      unknown = inl (let is = p.1.seg_is in omega arith);
-      member = subst (λ n. In x (ids_of (new.segments n).config.members)) (sym p.1.seg_is)
-          (subst (λ (segment : Segment). In x (ids_of segment.config.members)) (sym at_new)
-          (subst (λ others. In x others) (sym (ids-new ids)) p.0));
-      opened = subst (λ n. (new.segments n).shut ≡ false) (sym p.1.seg_is) (ap (λ (segment : Segment). segment.shut) at_new);
-    }
+    fresh x s e p = search (arith, new, at_new, ids-new)
 
     dead_or : (t : ℕ) → In t digest ⊎ IsDead sent m log t → In t digest ⊎ IsDead sent_now m new t
     dead_or t (inl there) = inl there

@@ -21,13 +21,7 @@ pub record IsIn (seg offset k : ℕ) (entries : List (Entry × Bool)) (place : L
 places_in-are : {seg : ℕ} (offset : ℕ) (entries : List (Entry × Bool)) (k : ℕ) {place : LogPlace} →
     slice_get (places_in seg offset entries) k ≡ Some place → IsIn seg offset k entries place
 places_in-are offset [] k e = cc
-places_in-are {seg} offset (one ∷ entries) zero {place} e =
-    let same : ◌≡◌ {A = LogPlace} (record { seg = seg; offset = offset; entry = one.0; client = one.1 }) place = cc in
-    record {
-      seg_is = sym (ap (λ (p : LogPlace). p.seg) same);
-      offset_is = sym (ap (λ (p : LogPlace). p.offset) same) ∙ omega arith;
-      holds = ap (λ (p : LogPlace). Some (p.entry, p.client)) same;
-    }
+places_in-are {seg} offset (one ∷ entries) zero {place} e = search arith
 places_in-are offset (one ∷ entries) (suc k) e =
     let rest = places_in-are (offset + 1) entries k e in
     record { seg_is = rest.seg_is; offset_is = rest.offset_is ∙ omega arith; holds = rest.holds }
@@ -40,13 +34,7 @@ pub record IsOf (segments : ℕ → Segment) (head : ℕ) (place : LogPlace) : T
 
 place_here : {segments : ℕ → Segment} {n j : ℕ} {place : LogPlace} → IsIn (suc n) 0 j (segments (suc n)).entries place →
     IsOf segments (suc n) place
-place_here {segments} {n} {j} {place} p = record {
-  above = (let e = p.seg_is in omega arith);
-  upto = (let e = p.seg_is in omega arith);
-  holds = (let e : place.offset ≡ j = p.offset_is ∙ omega arith in
-      subst (λ s. slice_get (segments s).entries place.offset ≡ Some (place.entry, place.client)) (sym p.seg_is)
-      (subst (λ k. slice_get (segments (suc n)).entries k ≡ Some (place.entry, place.client)) (sym e) p.holds));
-}
+place_here {segments} {n} {j} {place} p = search arith
 
 pub places_to-are : {segments : ℕ → Segment} (n k : ℕ) {place : LogPlace} →
     slice_get (places_to segments n) k ≡ Some place → IsOf segments n place
@@ -170,19 +158,13 @@ passes-more {xs} x p e = record {
     sum a b c d f g p q r = omega arith
 
 stops-open : {xs : List Segment} (x : Segment) → Passes xs → x.shut ≡ false → Stops (xs ++ x ∷ [])
-stops-open {xs} x p e ys =
-    ap durable_among (append_assoc xs (x ∷ []) ys) ∙ p.adds (x ∷ ys) ∙ ap (λ n. durable_among xs + n)
-    (open_counts x e ys ∙ sym (open_counts x e [])) ∙ sym (p.adds (x ∷ []))
+stops-open {xs} x p e ys = search (arith, append_assoc, open_counts)
 
 stops-more : (xs : List Segment) (x : Segment) → Stops xs → Stops (xs ++ x ∷ [])
 stops-more xs x p ys = ap durable_among (append_assoc xs (x ∷ []) ys) ∙ p (x ∷ ys) ∙ sym (p (x ∷ []))
 
 counts : {segments : ℕ → Segment} (n : ℕ) → Counts segments n
-counts zero = record {
-  covered = λ k place less at. absurd (omega arith);
-  within = omega arith;
-  state = inl (record { all = λ x at. absurd at; adds = λ ys. omega arith }, refl);
-}
+counts zero = search arith
 counts {segments} (suc n) = by (counts n) (counts n).state (segments (suc n)).shut refl
   where
     splits : map segments (numbers_to n ++ suc n ∷ []) ≡ map segments (numbers_to n) ++ segments (suc n) ∷ []
@@ -213,13 +195,7 @@ counts {segments} (suc n) = by (counts n) (counts n).state (segments (suc n)).sh
         → ((j : ℕ) → k ≡ length (places_to segments n) + j →
         slice_get (places_in (suc n) 0 (segments (suc n)).entries) j ≡ Some place → IsCovered segments place)
         → slice_get (places_to segments (suc n)) k ≡ Some place → IsCovered segments place
-    cover k place old new at = which (get-append (places_to segments n) (places_in (suc n) 0 (segments (suc n)).entries) k at)
-      where
-        which : (slice_get (places_to segments n) k ≡ Some place) ⊎
-            ((j : ℕ) × (k ≡ length (places_to segments n) + j) ×
-            (slice_get (places_in (suc n) 0 (segments (suc n)).entries) j ≡ Some place)) → IsCovered segments place
-        which (inl there) = old (get-within (places_to segments n) k there) there
-        which (inr (j, e, there)) = new j e there
+    cover k place old new at = search (arith, get-append, get-within)
 
     by : Counts segments n → (Passes (map segments (numbers_to n)) ×
         (counted_to segments n ≡ length (places_to segments n))) ⊎ Stops (map segments (numbers_to n))

@@ -137,10 +137,7 @@ replica_of-filter test s {replica} (one ∷ others) up e = by_test (test one) re
     skipped : (b : Bool) → nat_eq s one.0 ≡ b → replica_of s (filter test others) ≡ Some replica →
         replica_of s others ≡ Some replica → cond b (Some one.1) (replica_of s others) ≡ Some replica
     skipped false differs at found = found
-    skipped true same at found =
-        let e : s ≡ one.0 = eqb-true s one.0 same in
-        let none : replica_of s others ≡ None = replica_of-above others (omega arith) up.0 in
-        absurd (none_some replica (sym none ∙ found))
+    skipped true same at found = search (arith, eqb-true, replica_of-above, none_some)
 
     kept : (b : Bool) → nat_eq s one.0 ≡ b →
         (replica_of s (filter test others) ≡ Some replica → replica_of s others ≡ Some replica) →

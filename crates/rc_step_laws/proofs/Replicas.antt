@@ -1,6 +1,6 @@
 -- What a Place, an Append and a Close make of one replica.
-use Rattle.std.proofs.Common.{◌≡◌, ◌⊎◌, ℕ, suc, ◌+◌, ◌-◌, ◌<◌, ◌≤◌, Bool, true, false, cond, ◌&&◌, List, [], ◌∷◌, ◌++◌, length, drop}
-use Rattle.std.proofs.Common.{slice_get, nat_le, Option, Some, None, refl, sym, ap, ◌∙◌, subst, inl, inr, arith}
+use Rattle.std.proofs.Common.{◌≡◌, ◌⊎◌, ℕ, suc, ◌+◌, ◌-◌, ◌<◌, ◌≤◌, Bool, true, false, List, [], ◌∷◌, ◌++◌, length, drop}
+use Rattle.std.proofs.Common.{slice_get, Option, Some, None, refl, sym, ap, ◌∙◌, subst, inl, inr, arith}
 use Rattle.std.proofs.lemmas.Bool.{eq-eqb, le-leb}
 use Rattle.std.proofs.lemmas.List.{length-append, append-nil}
 use Rattle.rc_model.specs.Model.{ServerId, Entry, Message, Place, Append, Stored, between, Replica, grown, Log, Master, In, HasMade}
@@ -29,25 +29,13 @@ begins-whole {xs} {ys} b same = by b.0 b.1
   where
     by : (rest : List Entry) → xs ++ rest ≡ ys → xs ≡ ys
     by [] e = sym (append-nil xs) ∙ e
-    by (r ∷ rest) e =
-        let longer : length (xs ++ r ∷ rest) ≡ length ys = ap length e in
-        let sum : length (xs ++ r ∷ rest) ≡ length xs + length (r ∷ rest) = length-append xs (r ∷ rest) in
-        absurd (omega (arith, longer, sum, same))
+    by (r ∷ rest) e = search (arith, length-append)
 
 -- of a list that is grown, what was there stays, and what is new stands at its place
 pub grown-places : (log entries : List Entry) (offset : ℕ) (more : List Entry) → offset ≤ length entries →
     Begins entries log → Stands more offset log →
     (k : ℕ) (x : Entry) → slice_get (grown entries offset more) k ≡ Some x → slice_get log k ≡ Some x
-grown-places log entries offset more no_gap begins stands k x at = by (get-append entries (drop (length entries - offset) more) k at)
-  where
-    by : (slice_get entries k ≡ Some x) ⊎
-        ((j : ℕ) × (k ≡ length entries + j) × (slice_get (drop (length entries - offset) more) j ≡ Some x)) →
-        slice_get log k ≡ Some x
-    by (inl there) = get-begins entries begins k there
-    by (inr (j, e, there)) =
-        let place : offset + (length entries - offset + j) ≡ k = omega arith in
-        subst (λ n. slice_get log n ≡ Some x) place
-        (stands (length entries - offset + j) x (sym (get-drop (length entries - offset) more j) ∙ there))
+grown-places log entries offset more no_gap begins stands k x at = search (arith, get-append, get-begins, get-drop)
 
 -- the same for what was sent
 pub grown-made : (sent : List Message) (m : ServerId) (s : ℕ) (entries : List Entry) (offset : ℕ) (more : List Entry) →
@@ -72,28 +60,13 @@ grown-longer entries offset more = omega (arith, length-append entries (drop (le
 pub place-made : (sent : List Message) (m x : ServerId) (s e : ℕ) (digest : List ℕ) (entries : List Entry)
     (closed : Bool) → In (between m x (Place s e digest entries closed)) sent →
     (j : ℕ) (entry : Entry) → slice_get entries j ≡ Some entry → HasMade sent m s (0 + j) entry
-place-made sent m x s e digest entries closed at j entry there = record {
-  message = between m x (Place s e digest entries closed);
-  among = at;
-  from = refl;
-  holds = (let n : 0 + j ≡ j = omega arith in ap (λ b. cond b (slice_get entries (0 + j)) None) (eq-eqb s s refl) ∙
-      (ap (slice_get entries) n ∙ there));
-}
+place-made sent m x s e digest entries closed at j entry there = search (arith, eq-eqb)
 
 -- an Append that was sent holds its entries from its offset on
 pub append-made : (sent : List Message) (m x : ServerId) (s offset : ℕ) (entries : List Entry) →
     In (between m x (Append s offset entries)) sent →
     (j : ℕ) (entry : Entry) → slice_get entries j ≡ Some entry → HasMade sent m s (offset + j) entry
-append-made sent m x s offset entries at j entry there = record {
-  message = between m x (Append s offset entries);
-  among = at;
-  from = refl;
-  holds = (let n : offset + j - offset ≡ j = omega arith in
-      let less : offset ≤ offset + j = omega arith in
-      ap (λ b. cond (b && nat_le offset (offset + j)) (slice_get entries (offset + j - offset)) None) (eq-eqb s s refl)
-      ∙ (ap (λ b. cond b (slice_get entries (offset + j - offset)) None) (le-leb offset (offset + j) less) ∙
-      (ap (slice_get entries) n ∙ there)));
-}
+append-made sent m x s offset entries at j entry there = search (arith, eq-eqb, le-leb)
 
 -- Changes of a replica
 
@@ -113,12 +86,7 @@ pub changed-some : {sent : List Message} {m : ServerId} {log : Log} {index gener
     GoodReplica sent m log index generation s new →
     old.epoch ≤ new.epoch → length old.entries ≤ length new.entries → (old.closed ≡ true → new.closed ≡ true) →
     Changed sent m log index generation s (Some old) new
-changed-some {new} good up longer closed = record {
-  good = good;
-  epoch = λ other e. subst (λ (r : Replica). r.epoch ≤ new.epoch) (some-same e) up;
-  longer = λ other e. subst (λ (r : Replica). length r.entries ≤ length new.entries) (some-same e) longer;
-  closed = λ other e. subst (λ (r : Replica). r.closed ≡ true → new.closed ≡ true) (some-same e) closed;
-}
+changed-some {new} good up longer closed = search (arith, some-same)
 
 pub changed-none : {sent : List Message} {m : ServerId} {log : Log} {index generation s : ℕ} {old : Replica} →
     GoodReplica sent m log index generation s old → Changed sent m log index generation s (Some old) old
@@ -145,13 +113,7 @@ pub record AboveTold (sent : List Message) (m : ServerId) (index s e : ℕ) (clo
 -- a whole closed copy is
 pub above-whole : {sent : List Message} {m : ServerId} {log : Log} {index s e len : ℕ} → OwnFine sent m log →
     len ≡ length (log_in log s) → AboveTold sent m index s e true len
-above-whole {log} {s} {e} {len} fine whole = record {
-  above = λ x o on member told. (
-      let within : told.len ≤ length (log_in log s) = (fine.told x s e told.len told.closed told.told).within in
-      let less : o < told.len = told.above in
-      omega arith);
-  closed_too = λ x on member told. refl;
-}
+above-whole {log} {s} {e} {len} fine whole = search arith
 
 -- under a proper Place to the running server: only it can have told, and what it told stands
 pub above-proper : (sent : List Message) (m : ServerId) (master : Master) (z : ServerId) (s e : ℕ) (digest : List ℕ)
@@ -169,20 +131,10 @@ above-proper sent m master z s e digest entries before len closed good at stood 
     same x on member = good.one_a_host s e x z member (record { digest = digest; entries = entries; placed = at }) on
 
     above : (x : ServerId) (o : ℕ) → HasTold sent x m s e o → x ≡ z → o < len
-    above x o told is =
-        let there : Stood before e told.len told.closed = stood e told.len told.closed
-        (subst (λ (y : ServerId). In (between y m (Stored s e told.len told.closed)) sent) is told.told) in
-        let enough : told.len ≤ length there.replica.entries = there.enough in
-        let long : length there.replica.entries ≤ len = longer there.replica there.is in
-        let less : o < told.len = told.above in
-        omega arith
+    above x o told is = search arith
 
     closed_too : (x : ServerId) → HasToldClosed sent x m s e → x ≡ z → closed ≡ true
-    closed_too x told is =
-        let there : Stood before e told.len true =
-        stood e told.len true (subst (λ (y : ServerId). In (between y m (Stored s e told.len true)) sent) is
-        told.told) in
-        kept there.replica there.is (there.closed_too refl)
+    closed_too x told is = search arith
 
 -- the copy that a Place leaves, of these entries
 pub placed-copy : (sent : List Message) (m : ServerId) (master : Master) (z : ServerId) (s e : ℕ) (digest : List ℕ)

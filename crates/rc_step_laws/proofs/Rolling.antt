@@ -4,7 +4,7 @@ use Rattle.std.proofs.Common.{filter, Some, refl, sym, ap, ◌∙◌, subst, inl
 use Rattle.std.proofs.lemmas.Bool.{and_parts, eqb-true, eq-eqb, ltb-true, or_left}
 use Rattle.std.specs.List.{list_any}
 use Rattle.rc_model.specs.Model.{ServerId, Entry, Phase, Opening, Closing, Writing, Message}
-use Rattle.rc_model.specs.Model.{LogPlace, head_of, places_of, entries_of, is_writing, next_digest}
+use Rattle.rc_model.specs.Model.{head_of, places_of, entries_of, is_writing, next_digest}
 use Rattle.rc_model.specs.Model.{is_of, is_outdated, is_dead, Master, durable_entries, is_dead_segment, dead_segments}
 use Rattle.rc_model.specs.Model.{In}
 use Rattle.rc_model.proofs.Members.{In-get, In-left, In-right, In-append, In-filter, filter-In}
@@ -20,15 +20,7 @@ use Rattle.rc_model.proofs.Tests.{true_false}
 
 of-parts : {term table key version : ℕ} (other : Entry) → (is_of term table key other && nat_lt version other.version) ≡ true
     → (other.term ≡ term) × (other.table ≡ table) × (other.key ≡ key) × (version < other.version)
-of-parts {term} {table} {key} {version} other e =
-    let both = and_parts (is_of term table key other) (nat_lt version other.version) e in
-    let first = and_parts (nat_eq other.term term) (nat_eq other.table table && nat_eq other.key key) both.0 in
-    let second = and_parts (nat_eq other.table table) (nat_eq other.key key) first.1 in (
-      eqb-true other.term term first.0,
-      eqb-true other.table table second.0,
-      eqb-true other.key key second.1,
-      ltb-true version other.version both.1,
-    )
+of-parts {term} {table} {key} {version} other e = search (arith, and_parts, nat_lt, eqb-true, ltb-true)
 
 outdated-is : {sent : List Message} {m : ServerId} (master : Master) {entry : Entry} → GoodLog sent m master.log →
     is_outdated (durable_entries master) entry ≡ true → IsOutdated sent m master.log entry
@@ -101,10 +93,7 @@ next-digest {sent} {m} master good above = record {
     by_upto t (inr (inr none)) = absurd none
 
     last_or : (t : ℕ) → t < h → (t ≡ master.log.head) ⊎ (t < master.log.head)
-    last_or t less = cut t master.log.head (omega arith)
-      where
-        cut : (a b : ℕ) → a ≤ b → (a ≡ b) ⊎ (a < b)
-        cut a b less = grind arith
+    last_or t less = search arith
 
     or_not : (a b : Bool) → b ≡ false → (a || not b) ≡ true
     or_not true b e = refl

@@ -1,8 +1,8 @@
 -- What counts as durable at a moment is safe.
-use Rattle.std.proofs.Common.{◌≡◌, ◌⊎◌, ℕ, ◌<◌, min, true, false, not, ◌&&◌, List, [], ◌∷◌, length, slice_get, Some}
+use Rattle.std.proofs.Common.{◌≡◌, ◌⊎◌, ℕ, ◌<◌, min, true, false, List, [], ◌∷◌, length, slice_get, Some}
 use Rattle.std.proofs.Common.{refl, sym, ◌∙◌, subst, inl, inr, arith}
 use Rattle.std.proofs.lemmas.Bool.{and_parts}
-use Rattle.rc_model.specs.Model.{ServerId, Member, Message, Config, told_len, any_lost, least_told, durable_len, Segment, durable_in, Log}
+use Rattle.rc_model.specs.Model.{ServerId, Member, Message, Config, told_len, least_told, durable_len, Segment, durable_in, Log}
 use Rattle.rc_model.specs.Model.{LogPlace, places_of, durable_now, In}
 use Rattle.rc_model.proofs.Members.{In-map}
 use Rattle.rc_step_laws.specs.All.{log_in, HasTold, IsMember, IsSafe, OwnFine}
@@ -10,7 +10,7 @@ use Rattle.rc_step_laws.proofs.Lists.{get-within}
 use Rattle.rc_step_laws.proofs.Copies.{split}
 use Rattle.rc_step_laws.proofs.LogMoves.{GoodLog}
 use Rattle.rc_step_laws.proofs.Places.{IsOf, IsCovered, places_to-are, place-logged, durable-covered}
-use Rattle.rc_model.proofs.Tests.{true_false, either}
+use Rattle.rc_model.proofs.Tests.{true_false}
 
 -- the least that was told is told by each
 least_of-left : {o a : ℕ} (b : ℕ) → o < min a b → o < a
@@ -31,22 +31,13 @@ least_told-below o (one ∷ other ∷ members) member less (inr rest) =
 -- below the durable length the epoch is committed, and each member has told more
 pub durable_len-tells : {o : ℕ} (config : Config) → o < durable_len config →
     (config.committed ≡ true) × ((member : Member) → In member config.members → o < told_len member.told)
-durable_len-tells {o} config less =
-    either (λ len. o < len → (config.committed ≡ true) × ((member : Member) → In member config.members → o < told_len member.told))
-    (config.committed && not (any_lost config.members)) (least_told config.members) 0 (λ e below. (
-      (and_parts config.committed (not (any_lost config.members)) e).0,
-      λ member at. least_told-below o config.members member below at,
-    )) (λ _ below. absurd (omega arith)) less
+durable_len-tells {o} config less = search (arith, and_parts, least_told-below)
 
 -- a member under the present epoch of a shut segment has told the whole
 shut-told : (sent : List Message) (m : ServerId) (log : Log) (s o : ℕ) (x : ServerId) → OwnFine sent m log →
     (log.segments s).shut ≡ true → o < length (log_in log s)
     → IsMember sent m s (log.segments s).config.epoch x → HasTold sent x m s (log.segments s).config.epoch o
-shut-told sent m log s o x fine shut below at =
-    let placed = fine.places x s (log.segments s).config.epoch at.digest at.entries false at.placed in
-    let closed = placed.told refl refl shut in
-    let whole = (fine.told x s (log.segments s).config.epoch closed.len true closed.told).whole refl in
-    record { len = closed.len; closed = true; above = omega (arith, whole.1, below); told = closed.told }
+shut-told sent m log s o x fine shut below at = search arith
 
 -- and of an open one what is noted of it
 open-told : (sent : List Message) (m : ServerId) (log : Log) (s o : ℕ) (x : ServerId) → GoodLog sent m log →

@@ -1,7 +1,7 @@
 -- A move that changes one segment of the log.
 use Rattle.std.proofs.Common.{◌≡◌, ◌⊎◌, ℕ, ◌<◌, ◌≤◌, Bool, true, false, List, ◌++◌, length, map, slice_get, Some, refl}
 use Rattle.std.proofs.Common.{sym, ap, ◌∙◌, subst, arith}
-use Rattle.rc_model.specs.Model.{ServerId, Entry, Member, Phase, Writing, Message, Place, between, Config, told_len, told_closed, Segment}
+use Rattle.rc_model.specs.Model.{ServerId, Entry, Member, Phase, Writing, Message, Place, between, told_len, told_closed, Segment}
 use Rattle.rc_model.specs.Model.{no_segment, Log, LogPlace, places_of, with_segment, ids_of, In}
 use Rattle.rc_step_laws.specs.All.{Begins, log_in, IsOpened, HasTold, HasToldClosed, IsMember, IsCommitted, OnDifferentHosts, IsSafe}
 use Rattle.rc_step_laws.specs.All.{LogLater, OwnFine, MasterSays}
@@ -28,15 +28,7 @@ pub record SegmentLater (sent : List Message) (m : ServerId) (head s : ℕ) (old
 
 -- a segment that stays
 pub later-refl : {sent : List Message} {m : ServerId} {head s : ℕ} {segment : Segment} → SegmentLater sent m head s segment segment
-later-refl = record {
-  grows = begins-refl;
-  final = λ below. refl;
-  digest = λ upto. refl;
-  epoch = λ upto. omega arith;
-  shut = λ e. (e, refl);
-  joined = λ x upto shut same at. at;
-  shuts = λ x upto before shut same at. true_false (sym shut ∙ before);
-}
+later-refl = search (arith, begins-refl)
 
 -- where each segment is later, the log is
 pub log-later : {sent : List Message} {m : ServerId} {old new : Log} → old.head ≤ new.head →
@@ -174,20 +166,7 @@ pub record SegmentMarked (old new : Segment) : Type 0 where
 
 pub marked-steady : {sent : List Message} {m : ServerId} {phase : Phase} {head s : ℕ} {old new : Segment} →
     GoodSegment sent m phase head s old → SegmentMarked old new → SegmentSteady sent m s old new
-marked-steady {sent} {m} {s} good p = record {
-  entries = p.entries;
-  digest = p.digest;
-  shut = p.shut;
-  epoch = ap (λ (c : Config). c.epoch) p.config;
-  ids = λ _. ap (λ (c : Config). ids_of c.members) p.config;
-  committed = λ e. ap (λ (c : Config). c.committed) p.config ∙ e;
-  granted = λ e. subst (λ (c : Config). IsCommitted sent m s c.epoch) (sym p.config)
-      (good.committed (sym (ap (λ (c : Config). c.committed) p.config) ∙ e));
-  noted = subst (λ (c : Config). (member : Member) → In member c.members → (o : ℕ) → o < told_len member.told →
-      HasTold sent member.id m s c.epoch o) (sym p.config) good.noted;
-  noted_closed = subst (λ (c : Config). (member : Member) → In member c.members → told_closed member.told ≡ true →
-      HasToldClosed sent member.id m s c.epoch) (sym p.config) good.noted_closed;
-}
+marked-steady {sent} {m} {s} good p = search arith
 
 -- a mark, with messages among which is no proper Place
 pub marked-moved : {sent : List Message} {m : ServerId} {log : Log} {s : ℕ} {new : Segment} {messages : List Message} →

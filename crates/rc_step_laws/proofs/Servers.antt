@@ -1,10 +1,11 @@
 -- Server lists: crashed is for good, and of each host at most one id is up.
-use Rattle.std.proofs.Common.{◌≡◌, ℕ, ◌+◌, Bool, true, false, cond, nat_eq, ◌&&◌, ◌||◌, List, [], ◌∷◌, ◌++◌, refl, sym, ap, ◌∙◌}
+use Rattle.std.proofs.Common.{arith}
+use Rattle.std.proofs.Common.{◌≡◌, ℕ, Bool, true, false, cond, nat_eq, ◌&&◌, ◌||◌, List, [], ◌∷◌, ◌++◌, refl, sym, ap, ◌∙◌}
 use Rattle.std.proofs.lemmas.Bool.{eq-eqb}
 use Rattle.rc_model.specs.Model.{ServerId, same_id, ServerList, knows, marked_up, is_up, has_crashed, up_rows, index_crashed, enlisted}
 use Rattle.rc_model.specs.Model.{id_crashed, crashed}
 use Rattle.rc_step_laws.specs.Words.{NotOnHostOf, OnDifferentHosts}
-use Rattle.rc_model.proofs.Tests.{true_false, either}
+use Rattle.rc_model.proofs.Tests.{true_false}
 
 -- Crashed is for good
 
@@ -39,12 +40,8 @@ marked-id_crashed id m (row ∷ rows) e = by (same_id m row.0) (same_id id row.0
 
 pub crashed-stays-crashed : (id m : ServerId) (servers : ServerList) → has_crashed servers m ≡ true →
     has_crashed (crashed id servers) m ≡ true
-crashed-stays-crashed id m servers e = either (λ (now : ServerList). has_crashed now m ≡ true) (is_up servers id)
-    (record { version = servers.version + 1; rows = id_crashed id servers.rows }) servers
-    (λ _. (let parts : (knows servers.rows m ≡ true) × (marked_up servers.rows m ≡ false) = crashed-parts
-    (knows servers.rows m) (marked_up servers.rows m) e in
-    crashed-join (knows-id_crashed id m servers.rows ∙ parts.0) (marked-id_crashed id m servers.rows parts.1)))
-    (λ _. e)
+crashed-stays-crashed id m servers e =
+    search (arith, crashed-parts, crashed-join, knows-id_crashed, marked-id_crashed)
 
 knows-index_crashed : (index : ℕ) (m : ServerId) (rows : List (ServerId × Bool)) → knows (index_crashed index rows) m ≡ knows rows m
 knows-index_crashed index m [] = refl
@@ -85,11 +82,15 @@ marked-longer m (row ∷ rows) more e = by (same_id m row.0) (marked-longer m ro
 pub crashed-stays-enlisted : (id m : ServerId) (servers : ServerList) → has_crashed servers m ≡ true →
     has_crashed (enlisted id servers) m ≡ true
 crashed-stays-enlisted id m servers e =
-    let parts : (knows servers.rows m ≡ true) × (marked_up servers.rows m ≡ false) =
-    crashed-parts (knows servers.rows m) (marked_up servers.rows m) e in
-    let known : knows (index_crashed id.index servers.rows) m ≡ true = knows-index_crashed id.index m servers.rows ∙ parts.0 in
-    crashed-join (knows-longer m (index_crashed id.index servers.rows) ((id, true) ∷ []) known)
-    (marked-longer m (index_crashed id.index servers.rows) ((id, true) ∷ []) known ∙ marked-index_crashed id.index m servers.rows parts.1)
+    search (
+      arith,
+      crashed-parts,
+      knows-index_crashed,
+      crashed-join,
+      knows-longer,
+      marked-longer,
+      marked-index_crashed,
+    )
 
 -- Of each host at most one id is up
 
@@ -121,9 +122,7 @@ apart-id_crashed id (row ∷ rows) p = by row.1 (same_id id row.0) (apart-id_cra
 
 pub apart-crashed : (id : ServerId) (servers : ServerList) → OnDifferentHosts (up_rows servers.rows) →
     OnDifferentHosts (up_rows (crashed id servers).rows)
-apart-crashed id servers p = either (λ (now : ServerList). OnDifferentHosts (up_rows now.rows)) (is_up servers id)
-    (record { version = servers.version + 1; rows = id_crashed id servers.rows }) servers
-    (λ _. apart-id_crashed id servers.rows p) (λ _. p)
+apart-crashed id servers p = search (arith, apart-id_crashed)
 
 -- a new id, with all others of its host crashed
 not-on-enlisted : (id x : ServerId) (rows : List (ServerId × Bool)) → (x.index ≡ id.index → ⊥) →

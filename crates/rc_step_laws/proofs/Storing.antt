@@ -21,18 +21,7 @@ differs-id {a} no_match same = true_false (sym (subst (λ (c : ServerId). same_i
 
 -- nothing changes
 pub held_later-refl : {held : Held} → HeldLater held held
-held_later-refl = record {
-  replicas = λ s replica at.
-      inl (record {
-        replica = replica;
-        kept = at;
-        epoch = omega arith;
-        enough = omega arith;
-        closed_too = λ same. same;
-      });
-  freed = λ s same. same;
-  fenced = λ same. same;
-}
+held_later-refl = search arith
 
 -- a Stored is no Place
 stored-no-place : {m x : ServerId} {s e : ℕ} {digest : List ℕ} {entries : List Entry} {closed : Bool} {y n : ServerId}
@@ -75,31 +64,14 @@ moved-kept {sent} {masters} {hosts} {c} {host} {m} {seg} {after} own good unfenc
     more message at = In-left message sent (between host.backup.own m (Stored seg after.epoch (length after.entries) after.closed) ∷ []) at
 
     back : NoNewPlaces sent (sent ++ between host.backup.own m (Stored seg after.epoch (length after.entries) after.closed) ∷ [])
-    back n x s e digest entries closed at = by (one-more (between n x (Place s e digest entries closed)) sent
-        (between host.backup.own m (Stored seg after.epoch (length after.entries) after.closed)) at)
-      where
-        by : In (between n x (Place s e digest entries closed)) sent ⊎
-            (between n x (Place s e digest entries closed) ≡ between host.backup.own m
-            (Stored seg after.epoch (length after.entries) after.closed)) →
-            In (between n x (Place s e digest entries closed)) sent
-        by (inl there) = there
-        by (inr same) = absurd (stored-no-place same)
+    back n x s e digest entries closed at = search (arith, one-more, stored-no-place)
 
     -- what is newly told is told of this replica
     newly : (n x : ServerId) (s e len : ℕ) (closed : Bool) → In (between x n (Stored s e len closed))
         (sent ++ between host.backup.own m (Stored seg after.epoch (length after.entries) after.closed) ∷ []) →
         In (between x n (Stored s e len closed)) sent ⊎ SameStored x host.backup.own n m s seg e after.epoch len
         (length after.entries) closed after.closed
-    newly n x s e len closed at = by (one-more (between x n (Stored s e len closed)) sent
-        (between host.backup.own m (Stored seg after.epoch (length after.entries) after.closed)) at)
-      where
-        by : In (between x n (Stored s e len closed)) sent ⊎
-            (between x n (Stored s e len closed) ≡ between host.backup.own m
-            (Stored seg after.epoch (length after.entries) after.closed)) →
-            In (between x n (Stored s e len closed)) sent ⊎ SameStored x host.backup.own n m s seg e after.epoch len
-            (length after.entries) closed after.closed
-        by (inl there) = inl there
-        by (inr same) = inr (same-stored same)
+    newly n x s e len closed at = search (arith, one-more, same-stored)
 
     -- the replicas of another master
     of_other : (n : ServerId) → (m ≡ n → ⊥) →
@@ -130,10 +102,7 @@ moved-kept {sent} {masters} {hosts} {c} {host} {m} {seg} {after} own good unfenc
             after.closed →
             In (between x m (Stored seg after.epoch len mark)) sent ⊎ ((len ≤ length after.entries) × (mark ≡ true → after.closed ≡ true))
         by x len mark (inl there) = inl there
-        by x len mark (inr same) = inr (
-          (let e : len ≡ length after.entries = same.length_is in omega arith),
-          λ marked. sym same.closed_is ∙ marked,
-        )
+        by x len mark (inr same) = search arith
 
         upto : NewlyToldUpTo sent
             (sent ++ between host.backup.own m (Stored seg after.epoch (length after.entries) after.closed) ∷ []) m
@@ -191,40 +160,11 @@ moved-kept {sent} {masters} {hosts} {c} {host} {m} {seg} {after} own good unfenc
         GoodHeld (sent ++ between host.backup.own m (Stored seg after.epoch (length after.entries) after.closed) ∷ []) n
         (masters n).log host.index host.generation
         (record (host.backup.held m) { replicas = put_replica seg after (host.backup.held m).replicas })
-    of_same n same = subst (λ (k : ServerId).
-        GoodHeld (sent ++ between host.backup.own m (Stored seg after.epoch (length after.entries) after.closed) ∷ []) k
-        (masters k).log host.index host.generation
-        (record (host.backup.held m) { replicas = put_replica seg after (host.backup.held m).replicas })) same of_m
+    of_same n same = search (arith, of_m)
 
     later_m : HeldLater (host.backup.held m)
         (record (host.backup.held m) { replicas = put_replica seg after (host.backup.held m).replicas })
-    later_m = record {
-      replicas = λ s replica at. inl (by s replica at (cases_eq s seg));
-      freed = λ s same. same;
-      fenced = λ same. same;
-    }
-      where
-        by : (s : ℕ) (replica : Replica) → replica_of s (host.backup.held m).replicas ≡ Some replica → (s ≡ seg) ⊎ (s ≡ seg → ⊥) →
-            StillStands (record (host.backup.held m) { replicas = put_replica seg after (host.backup.held m).replicas })
-            s replica.epoch (length replica.entries) replica.closed
-        by s replica at (inl same) =
-            let there : replica_of seg (host.backup.held m).replicas ≡ Some replica =
-            subst (λ t. replica_of t (host.backup.held m).replicas ≡ Some replica) same at in
-            record {
-              replica = after;
-              kept = ap (λ t. replica_of t (put_replica seg after (host.backup.held m).replicas)) same ∙
-                  replica_of-put seg (host.backup.held m).replicas;
-              epoch = changed.epoch replica there;
-              enough = changed.longer replica there;
-              closed_too = changed.closed replica there;
-            }
-        by s replica at (inr differs) = record {
-          replica = replica;
-          kept = replica_of-other after (host.backup.held m).replicas differs ∙ at;
-          epoch = omega arith;
-          enough = omega arith;
-          closed_too = λ same. same;
-        }
+    later_m = search (arith, cases_eq, replica_of-put, replica_of-other)
 
     later_same : (n : ServerId) → m ≡ n → HeldLater (host.backup.held n)
         (record (host.backup.held m) { replicas = put_replica seg after (host.backup.held m).replicas })
@@ -239,32 +179,15 @@ moved-kept {sent} {masters} {hosts} {c} {host} {m} {seg} {after} own good unfenc
 
     is_told : IsTold (sent ++ between host.backup.own m (Stored seg after.epoch (length after.entries) after.closed) ∷
         []) m (masters m).log (server_of host) seg after.epoch (length after.entries) after.closed
-    is_told = record {
-      opened = changed.good.copy.opened;
-      within = changed.good.copy.within;
-      whole = changed.good.copy.whole;
-      placed = placed-more more (omega arith) changed.good.copy.placed;
-    }
+    is_told = search (arith, placed-more, more)
 
     stands : StillStands (put_id host.backup.held m
         (record (host.backup.held m) { replicas = put_replica seg after (host.backup.held m).replicas }) m) seg
         after.epoch (length after.entries) after.closed
-    stands = subst (λ (held : Held). StillStands held seg after.epoch (length after.entries) after.closed)
-        (sym (put_id-same host.backup.held m
-        (record (host.backup.held m) { replicas = put_replica seg after (host.backup.held m).replicas })))
-        (record {
-          replica = after;
-          kept = replica_of-put seg (host.backup.held m).replicas;
-          epoch = omega arith;
-          enough = omega arith;
-          closed_too = λ same. same;
-        })
+    stands = search (arith, put_id-same, replica_of-put)
 
     says : (message : Message) → In message (between host.backup.own m (Stored seg after.epoch (length after.entries) after.closed) ∷ []) →
         backup_body_said (sent ++ between host.backup.own m (Stored seg after.epoch (length after.entries) after.closed)
         ∷ []) masters hosts c host (keeps host.backup m seg (Some after)).0 message.to message.body
-    says message (inl same) = subst (λ (one : Message).
-        backup_body_said (sent ++ between host.backup.own m (Stored seg after.epoch (length after.entries) after.closed)
-        ∷ []) masters hosts c host (keeps host.backup m seg (Some after)).0 one.to one.body) (sym same)
-        (is_told, (stands, unfenced))
+    says message (inl same) = search (arith, is_told, stands)
     says message (inr never) = absurd never

@@ -1,9 +1,9 @@
 -- A master's timer: what it says again was right before and is now.
-use Rattle.std.proofs.Common.{◌≡◌, ℕ, ◌+◌, Bool, true, false, List, [], ◌∷◌, ◌++◌, length, drop, map, Some, refl, sym, ap, ◌∙◌, subst}
+use Rattle.std.proofs.Common.{◌≡◌, ℕ, ◌+◌, Bool, true, false, List, [], ◌∷◌, ◌++◌, length, drop, map, refl, ap, subst}
 use Rattle.std.proofs.Common.{arith}
 use Rattle.std.proofs.lemmas.List.{length-map}
 use Rattle.rc_types.specs.declared.ids.Addr.TheVariants.{Coordinator}
-use Rattle.rc_model.specs.Model.{ServerId, Addr, Server, Entry, PlanRow, Member, Message, Body, Place, Append, Close, Enlist, between}
+use Rattle.rc_model.specs.Model.{ServerId, Server, Entry, PlanRow, Member, Message, Body, Place, Append, Close, Enlist, between}
 use Rattle.rc_model.specs.Model.{to_coordinator, is_up, Log, numbers_to, Master, Task, ids_of, place_of, then_does, obeys_list, fetch_of}
 use Rattle.rc_model.specs.Model.{reminds, ticks, In}
 use Rattle.rc_model.proofs.Members.{map-In}
@@ -39,13 +39,7 @@ record BodyAgain (sent sent_now : List Message) (m : ServerId) (log : Log) (x : 
 
 again-to : {sent sent_now : List Message} {m : ServerId} {log : Log} {x : ServerId} {body : Body} → log.own ≡ m →
     BodyAgain sent sent_now m log x body → Again sent sent_now m log (between log.own x body)
-again-to {sent} {m} {x} {body} own p = record {
-  says = record { from = ap Server own; says = p.says };
-  news = λ y s e digest entries same. (
-      let addressee : ◌≡◌ {A = Addr} (Server x) (Server y) = ap (λ (message : Message). message.to) same in
-      let is : x ≡ y = cc in
-      subst (λ z. IsMember sent m s e z) is (p.news s e digest entries (ap (λ (message : Message). message.body) same)));
-}
+again-to {sent} {m} {x} {body} own p = search arith
 
 -- an open segment whole, to a member
 again-place : (sent sent_now : List Message) (m : ServerId) (log : Log) (x : ServerId) (s : ℕ) → GoodLog sent m log →
@@ -79,34 +73,15 @@ again-closed opened shut = record {
 -- what the member lacks
 stands-lacking : (entries : List (Entry × Bool)) (n : ℕ) →
     Stands (map (λ (one : Entry × Bool). one.0) (drop n entries)) n (map (λ (one : Entry × Bool). one.0) entries)
-stands-lacking entries n k entry at =
-    let found = get-map (drop n entries) k at in
-    map-get (λ (one : Entry × Bool). one.0) entries (n + k) (sym (get-drop n entries k) ∙ found.1) ∙ ap Some found.2
+stands-lacking entries n k entry at = search (arith, get-map, map-get, get-drop)
 
 again-append : {sent sent_now : List Message} {m : ServerId} {log : Log} {x : ServerId} {s n : ℕ} → IsOpened log s
     → BodyAgain sent sent_now m log x (Append s n (map (λ (one : Entry × Bool). one.0) (drop n (log.segments s).entries)))
-again-append {log} {s} {n} opened = record {
-  says = record { opened = opened; stands = stands-lacking (log.segments s).entries n };
-  news = λ t e digest entries same. absurd (differ same);
-}
-  where
-    differ : {t e : ℕ} {digest : List ℕ} {entries others : List Entry} →
-        ◌≡◌ {A = Body} (Append s n others) (Place t e digest entries false) → ⊥
-    differ same = cc
+again-append {log} {s} {n} opened = search (arith, stands-lacking)
 
 again-close : {sent sent_now : List Message} {m : ServerId} {log : Log} {x : ServerId} {s : ℕ} → IsOpened log s →
     s + 1 ≡ log.head → BodyAgain sent sent_now m log x (Close s (length (log.segments s).entries))
-again-close {log} {s} opened old = record {
-  says = record {
-    above = opened.above;
-    final = omega arith;
-    whole = sym (length-map (log.segments s).entries (λ (one : Entry × Bool). one.0));
-  };
-  news = λ t e digest entries same. absurd (differ same);
-}
-  where
-    differ : {t e len : ℕ} {digest : List ℕ} {entries : List Entry} → ◌≡◌ {A = Body} (Close s len) (Place t e digest entries false) → ⊥
-    differ same = cc
+again-close {log} {s} opened old = search (arith, length-map)
 
 again-copied : {sent sent_now : List Message} {m : ServerId} {log : Log} → GoodLog sent m log → Copied (Again sent sent_now m log) log
 again-copied {sent} {sent_now} {m} {log} good = record {
@@ -143,13 +118,7 @@ moved-reminds {sent} {m} before {master} view = record {
     quiet {message} is = again-quiet is
 
     again : Each (Again sent (sent ++ (reminds before master).1) m master.log) (reminds before master).1
-    again = each-reminds (Again sent (sent ++ (reminds before master).1) m master.log) before master
-        (again-copied view.log)
-        (λ seg awaits. quiet (record { from = ap Server view.log.own; quiet = λ _ _ _ _ _ _. tt })) (record {
-          fetch = λ task row given among. quiet (record { from = ap Server view.log.own; quiet = λ _ _ _ _ _ _. tt });
-          recovered = λ state among awaits. quiet (record { from = ap Server view.log.own; quiet = λ _ _ _ _ _ _. tt });
-          ready = quiet (record { from = ap Server view.log.own; quiet = λ _ _ _ _ _ _. tt });
-        })
+    again = search (arith, each-reminds, again-copied, quiet)
 
 pub moved-ticks : {sent : List Message} {m : ServerId} {master : Master} → GoodView sent m master → Moved sent m master (ticks master)
 moved-ticks {sent} {m} {master} view = either (λ after. Moved sent m master after) (is_up master.known master.log.own)

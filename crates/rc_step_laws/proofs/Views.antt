@@ -1,5 +1,5 @@
 -- A master's view and its moves; messages that claim nothing.
-use Rattle.std.proofs.Common.{◌≡◌, ℕ, Bool, false, List, [], ◌∷◌, ◌++◌, refl, sym, ap, subst, inl, inr, arith}
+use Rattle.std.proofs.Common.{◌≡◌, ℕ, Bool, false, List, [], ◌∷◌, ◌++◌, refl, sym, subst, inl, inr, arith}
 use Rattle.rc_types.specs.declared.ids.Addr.TheVariants.{Coordinator}
 use Rattle.rc_model.specs.Model.{ServerId, Addr, Server, Entry, Message, Body, Place, between, up_rows, Log, Master, to_ids, then_does, In}
 use Rattle.rc_model.proofs.Members.{In-map}
@@ -27,10 +27,7 @@ view-after moved = record { log = moved.log.good; fine = moved.log.fine; known =
 pub moved-then : {sent : List Message} {m : ServerId} {one : Master} {done after : Master × List Message} →
     GoodView sent m one → Moved sent m one done → Moved (sent ++ done.1) m done.0 after
     → Moved sent m one (after.0, done.1 ++ after.1)
-moved-then view p q = record {
-  log = log_moved-then view.log p.log q.log;
-  known = q.known;
-}
+moved-then view p q = search (arith, log_moved-then)
 
 pub moved-then_does : {sent : List Message} {m : ServerId} {one : Master} {done : Master × List Message}
     (rule : Master → Master × List Message) → GoodView sent m one → Moved sent m one done
@@ -133,11 +130,7 @@ pub record SamePlace (x id : ServerId) (s e : ℕ) (closed : Bool) (t f : ℕ) (
 -- a Place among these is theirs
 same-place : {m own x id : ServerId} {s e t f : ℕ} {digest other : List ℕ} {entries others : List Entry} {closed ends : Bool}
     → between m x (Place s e digest entries closed) ≡ between own id (Place t f other others ends) → SamePlace x id s e closed t f ends
-same-place {x} {id} {s} {e} {t} {f} {digest} {other} {entries} {others} {closed} {ends} same =
-    let addressee : ◌≡◌ {A = Addr} (Server x) (Server id) = ap (λ (message : Message). message.to) same in
-    let body : ◌≡◌ {A = Body} (Place s e digest entries closed) (Place t f other others ends) =
-    ap (λ (message : Message). message.body) same in
-    record { to_is = cc; seg_is = cc; epoch_is = cc; closed_is = cc }
+same-place {x} {id} {s} {e} {t} {f} {digest} {other} {entries} {others} {closed} {ends} same = search arith
 
 pub place-to_ids : (m own : ServerId) (ids : List ServerId) (x : ServerId) (s e t f : ℕ) (digest other : List ℕ)
     (entries others : List Entry) (closed ends : Bool)

@@ -2,9 +2,9 @@
 use Rattle.std.proofs.Common.{◌≡◌, ℕ, zero, suc, ◌+◌, Bool, true, false, List, [], ◌∷◌, ◌++◌, length, map}
 use Rattle.std.proofs.Common.{slice_get, Option, Some, refl, sym, ap, ◌∙◌, subst, arith}
 use Rattle.std.proofs.lemmas.List.{map-append, length-map}
-use Rattle.rc_model.specs.Model.{ServerId, Server, Entry, Fault, Phase, Writing, Message, Body, Place, Append, ReadOk, between}
-use Rattle.rc_model.specs.Model.{to_outside, refuses, Segment, with_entry, Log, head_of, appends, opens_head, next_digest, term_of, Found}
-use Rattle.rc_model.specs.Model.{read_of, Master, with_log, durable_entries, to_ids, ids_of, not_lost, places_head, appends_entry}
+use Rattle.rc_model.specs.Model.{ServerId, Server, Entry, Fault, Phase, Writing, Message, Body, Place, Append, between}
+use Rattle.rc_model.specs.Model.{Segment, with_entry, Log, head_of, appends, opens_head, next_digest, term_of, Found}
+use Rattle.rc_model.specs.Model.{read_of, Master, with_log, durable_entries, to_ids, places_head, appends_entry}
 use Rattle.rc_model.specs.Model.{dead_segments, refused, written, writes, reads, In}
 use Rattle.rc_model.proofs.Members.{In-map}
 use Rattle.rc_step_laws.specs.All.{Stands, OwnFine, MasterSays}
@@ -46,17 +46,7 @@ append-no_place m own ids x s e t offset digest entries others closed at =
 entry-good : {sent : List Message} {m : ServerId} {phase : Phase} {head s : ℕ} {segment : Segment} (entry : Entry)
     (client : Bool) → GoodSegment sent m phase head s segment
     → GoodSegment sent m phase head s (with_entry entry client segment)
-entry-good entry client p = record {
-  old_shut = p.old_shut;
-  writing_shut = p.writing_shut;
-  shut_below = p.shut_below;
-  shut_committed = p.shut_committed;
-  complete = p.complete;
-  apart = p.apart;
-  noted = p.noted;
-  noted_closed = p.noted_closed;
-  committed = p.committed;
-}
+entry-good entry client p = search arith
 
 appends-log : {sent : List Message} {m : ServerId} {log : Log} (entry : Entry) (client : Bool) (ids : List ServerId) →
     GoodLog sent m log → OwnFine sent m log → log.phase ≡ Writing
@@ -99,10 +89,7 @@ appends-log {sent} {m} {log} entry client ids good fine writing = put-moved good
 
 pub moved-appends : {sent : List Message} {m : ServerId} {master : Master} (entry : Entry) (client : Bool) →
     GoodView sent m master → master.log.phase ≡ Writing → Moved sent m master (appends_entry master entry client)
-moved-appends {master} entry client view writing = record {
-  log = appends-log entry client (ids_of (not_lost (head_of master.log).config.members)) view.log view.fine writing;
-  known = view.known;
-}
+moved-appends {master} entry client view writing = search (arith, appends-log)
 
 -- Refusals and answers
 

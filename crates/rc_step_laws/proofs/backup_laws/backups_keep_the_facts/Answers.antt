@@ -1,4 +1,3 @@
-use Rattle.std.proofs.Common.{[]}
 use Rattle.rc_step_laws.proofs.Backups.{moved-backup, moved-restart, quiet-none}
 use Rattle.rc_step_laws.proofs.backup_laws.backups_keep_the_facts.Goals as goal
 
