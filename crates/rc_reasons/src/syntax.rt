@@ -21,35 +21,26 @@ const ESCAPE: &str = "JSON has no such escape; a backslash itself is written \\\
 
 /// Why the bytes are no JSON text.
 pub(crate) fn tell_text_fault(alloc: Global, dialect: Dialect, text: &[u8], pen: &mut Pen) {
+    let words = dialect.words();
     if text.len() > MOST_BYTES {
-        tell_too_long(dialect, pen);
+        pen.say_all(
+            "% has more than % bytes",
+            &[Told::Words(words.whole), Told::Size(MOST_BYTES)],
+        );
     } else if Piece::all(text).of(text).is_empty() {
         pen.say_all(
             "the input is empty; expected an object, as %",
-            &[Told::Words(dialect.example())],
+            &[Told::Words(words.example)],
         );
     } else {
-        tell_bytes_fault(alloc, text, pen);
-    }
-}
-
-/// Why bytes are no JSON text.
-fn tell_bytes_fault(alloc: Global, text: &[u8], pen: &mut Pen) {
-    match std::str::from_utf8(text) {
-        Ok(characters) => tell_json_fault(alloc, text, characters, pen),
-        Err(error) => {
-            tell_place(pen, text, error.valid_up_to());
-            pen.say("the bytes are not UTF-8 from here on");
+        match std::str::from_utf8(text) {
+            Ok(characters) => tell_json_fault(alloc, text, characters, pen),
+            Err(error) => {
+                tell_place(pen, text, error.valid_up_to());
+                pen.say("the bytes are not UTF-8 from here on");
+            }
         }
     }
-}
-
-/// The text has too many bytes.
-fn tell_too_long(dialect: Dialect, pen: &mut Pen) {
-    pen.say_all(
-        "% has more than % bytes",
-        &[Told::Words(dialect.whole()), Told::Size(MOST_BYTES)],
-    );
 }
 
 /// Why characters are no JSON text.
@@ -86,10 +77,7 @@ fn fault_in_text(text: &[u8], start: usize) -> Option<(usize, &'static str)> {
         return None;
     }
     let mut escaped = false;
-    for (at, byte) in text.iter().enumerate() {
-        if at <= start {
-            continue;
-        }
+    for (at, byte) in text.iter().enumerate().skip(start.saturating_add(1)) {
         match byte {
             0..=31 => return Some((at, CONTROL)),
             _ if escaped && !b"\"\\/bfnrtu".contains(byte) => return Some((at, ESCAPE)),
