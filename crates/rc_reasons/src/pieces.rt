@@ -81,14 +81,16 @@ pub struct Member {
 
 /// Where a walk along a text stands.
 #[derive(Clone, Copy)]
-struct Walk {
-    depth: usize,
-    is_quoted: bool,
+pub(crate) struct Walk {
+    /// How many lists and objects stand open.
+    pub depth: usize,
+    pub is_quoted: bool,
     is_escaped: bool,
 }
 
 impl Walk {
-    fn new() -> Walk {
+    /// At the beginning.
+    pub(crate) fn new() -> Walk {
         Walk {
             depth: 0,
             is_quoted: false,
@@ -97,28 +99,17 @@ impl Walk {
     }
 
     /// The walk goes on past this byte.
-    fn past(self, byte: u8) -> Walk {
+    pub(crate) fn past(&mut self, byte: u8) {
         if self.is_quoted {
-            return Walk {
-                is_quoted: self.is_escaped || byte != b'"',
-                is_escaped: !self.is_escaped && byte == b'\\',
-                ..self
-            };
+            self.is_quoted = self.is_escaped || byte != b'"';
+            self.is_escaped = !self.is_escaped && byte == b'\\';
+            return;
         }
         match byte {
-            b'"' => Walk {
-                is_quoted: true,
-                ..self
-            },
-            b'[' | b'{' => Walk {
-                depth: self.depth.saturating_add(1),
-                ..self
-            },
-            b']' | b'}' => Walk {
-                depth: self.depth.saturating_sub(1),
-                ..self
-            },
-            _ => self,
+            b'"' => self.is_quoted = true,
+            b'[' | b'{' => self.depth = self.depth.saturating_add(1),
+            b']' | b'}' => self.depth = self.depth.saturating_sub(1),
+            _ => {}
         }
     }
 
@@ -155,7 +146,7 @@ impl ItemWalk {
         } else {
             None
         };
-        self.walk = self.walk.past(byte);
+        self.walk.past(byte);
         self.at = self.at.saturating_add(1);
         ended
     }
@@ -258,7 +249,7 @@ pub(crate) fn member_in(text: &[u8], item: Piece) -> Member {
         if *byte == b':' && !walk.is_quoted {
             break;
         }
-        walk = walk.past(*byte);
+        walk.past(*byte);
         colon = colon.saturating_add(1);
     }
     let name = Piece {

@@ -1,7 +1,7 @@
 //! What may be wrong where a text is no JSON.
 
 use crate::dialects::Dialect;
-use crate::pieces::Piece;
+use crate::pieces::{Piece, Walk};
 use crate::showing::tell_place;
 use rc_pen::{Pen, Piece as Told};
 use rc_reading::limits::MOST_BYTES;
@@ -90,20 +90,13 @@ fn fault_in_text(text: &[u8], start: usize) -> Option<(usize, &'static str)> {
 
 /// The first bracket, outside of quotes, with which more than 127 lists and objects stand open.
 fn first_too_deep(text: &[u8]) -> Option<usize> {
-    let (mut depth, mut quoted, mut escaped) = (0usize, false, false);
+    let mut walk = Walk::new();
     for (at, byte) in text.iter().enumerate() {
-        if quoted {
-            quoted = escaped || *byte != b'"';
-            escaped = !escaped && *byte == b'\\';
-            continue;
+        let opens = !walk.is_quoted && matches!(byte, b'[' | b'{');
+        if opens && walk.depth >= MAX_DEPTH {
+            return Some(at);
         }
-        match byte {
-            b'"' => quoted = true,
-            b'[' | b'{' if depth >= MAX_DEPTH => return Some(at),
-            b'[' | b'{' => depth = depth.saturating_add(1),
-            b']' | b'}' => depth = depth.saturating_sub(1),
-            _ => {}
-        }
+        walk.past(*byte);
     }
     None
 }
