@@ -58,7 +58,8 @@ pub sent-starts : (w : World) (events : List Event) → StartsWith (replay_from 
 sent-starts w [] = starts-same {xs = w.sent}
 sent-starts w (event ∷ events) =
     let more = sent_more-step w event in
-    starts-through {xs = (replay_from (step w event) events).sent} {ys = (step w event).sent} {zs = w.sent} (sent-starts (step w event) events)
+    starts-through {xs = (replay_from (step w event) events).sent} {ys = (step w event).sent} {zs = w.sent}
+        (sent-starts (step w event) events)
     (record { rest = more.0; same = more.1 })
 
 pub longer-sent : (setup : Setup) (longer shorter : List Event) → StartsWith longer shorter →

@@ -170,7 +170,8 @@ module _ (setup : Setup) (past rest : List Event) where
         there : IsCovered m (new.masters m).log plan.rows ack.seg ack.offset w.entry
         there = covered new.sent new.masters new.hosts new.coordinator all_new.good m plan.rows
             (subst (λ (k : ServerId). PlanIs new.sent new.masters new.coordinator k plan.rows) of_m
-            (accepted-is {sent = new.sent} {masters = new.masters} {hosts = new.hosts} {c = new.coordinator} all_new.good {plan = plan} accepted))
+            (accepted-is {sent = new.sent} {masters = new.masters} {hosts = new.hosts} {c = new.coordinator}
+                all_new.good {plan = plan} accepted))
             ack.seg ack.offset w.entry w.safe w.holds
 
         stood : (one : Entry) × (slice_get (log_in (old.masters m).log there.seg) there.offset ≡ Some one)
@@ -182,14 +183,16 @@ module _ (setup : Setup) (past rest : List Event) where
             (held-sent_to {plan = plan} was {s = there.seg} {o = there.offset} there.held)
 
         before : (there.seg < ack.seg) ⊎ ((there.seg ≡ ack.seg) × (there.offset < ack.offset))
-        before = behind {s = there.seg} {o = there.offset} {t = ack.seg} {k = ack.offset} {one = stood.0} {other = w.entry} stood.1 sent w.holds unsent
+        before = behind {s = there.seg} {o = there.offset} {t = ack.seg} {k = ack.offset} {one = stood.0}
+            {other = w.entry} stood.1 sent w.holds unsent
 
         by : ((there.seg ≡ ack.seg) × (there.offset ≡ ack.offset)) ⊎ (w.entry.version < there.other.version) → ⊥
         by (inl (segs, offsets)) = unsent (subst (λ o. HasSentFor old.sent m ack.seg o) offsets
             (subst (λ n. HasSentFor old.sent m n there.offset) segs (sent there.offset (omega arith))))
         by (inr more) =
             let less : there.other.version < w.entry.version =
-            logs-rise new.sent new.masters new.hosts new.coordinator all_new m {term = w.entry.term} ack.seg ack.offset there.seg there.offset
+            logs-rise new.sent new.masters new.hosts new.coordinator all_new m {term = w.entry.term} ack.seg ack.offset
+                there.seg there.offset
             w.entry there.other w.holds there.holds before
             (record { term_one = there.term; term_other = refl; table = there.table; key = there.key }) in
             absurd (omega (arith, less, more))

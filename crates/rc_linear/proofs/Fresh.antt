@@ -44,7 +44,8 @@ in-segment seg offset (suc o) (first ∷ entries) {one} e =
     inr (subst (λ n. In (record { seg = seg; offset = n; entry = one.0; client = one.1 }) (places_in seg (offset + 1) entries))
     (let plus : (offset + 1) + o ≡ offset + suc o = omega arith in plus) (in-segment seg (offset + 1) o entries e))
 
-pub place-at : (segments : ℕ → Segment) (n : ℕ) {s : ℕ} (o : ℕ) {one : Entry × Bool} → 0 < s → s ≤ n → slice_get (segments s).entries o ≡ Some one →
+pub place-at : (segments : ℕ → Segment) (n : ℕ) {s : ℕ} (o : ℕ) {one : Entry × Bool} → 0 < s → s ≤ n
+    → slice_get (segments s).entries o ≡ Some one →
     In (record { seg = s; offset = o; entry = one.0; client = one.1 }) (places_to segments n)
 place-at segments zero o above upto e = absurd (omega (arith, above, upto))
 place-at segments (suc n) {s} o {one} above upto e = by (last-or s n upto) (λ less. place-at segments n o above less e)

@@ -137,14 +137,16 @@ module _ (setup : Setup) (early gap rest : List Event) (m x : ServerId) (some_x 
         at : (grant : Grant) × (In grant new.coordinator.grants) × (f.one ≡ granted_of grant)
             × (in_range grant.range one.table one.key ≡ true)
         at = at-point new.sent new.masters new.hosts new.coordinator (all_new setup early gap) MayFree
-            (covers-anyhow new.sent new.masters new.hosts new.coordinator (all_new setup early gap)) one.table one.key f.index {one = f.one} f.at
+            (covers-anyhow new.sent new.masters new.hosts new.coordinator (all_new setup early gap)) one.table one.key
+                f.index {one = f.one} f.at
 
         h_holds : in_range h.grant.range one.table one.key ≡ true
         h_holds = subst (λ k. in_range h.grant.range one.table k ≡ true) keys
             (subst (λ t. in_range h.grant.range t entry.key ≡ true) tables h.holds)
 
         is : at.0 ≡ h.grant
-        is = one-after new.sent new.masters new.hosts new.coordinator (all_new setup early gap) one.table one.key {one = at.0} {other = h.grant} at.1 h.among
+        is = one-after new.sent new.masters new.hosts new.coordinator (all_new setup early gap) one.table one.key
+            {one = at.0} {other = h.grant} at.1 h.among
             at.3 h_holds (sym (ap (λ (g : Granted). g.previous) at.2) ∙ f.previous_is ∙ sym h.previous)
 
         above_zero : 0 < o.place.entry.term
@@ -199,7 +201,8 @@ module _ (setup : Setup) (early gap rest : List Event) (m x : ServerId) (some_x 
                 (replay setup early).coordinator (all_old setup early gap) then.0.owner st.task st.task_among).accepted
 
             same_plan : h.plan ≡ record { attempt = st.task.attempt; master = st.task.master; rows = st.task.rows }
-            same_plan = one-plan {sent = new.sent} {masters = new.masters} {hosts = new.hosts} {c = new.coordinator} (all_new setup early gap).good {one = h.plan}
+            same_plan = one-plan {sent = new.sent} {masters = new.masters} {hosts = new.hosts} {c = new.coordinator}
+                (all_new setup early gap).good {one = h.plan}
                 {other = (record { attempt = st.task.attempt; master = st.task.master; rows = st.task.rows })} h.accepted
                 (record {
                   message = accepted.message;

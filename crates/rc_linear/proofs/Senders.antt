@@ -133,4 +133,5 @@ end-more {setup} {past} (one ∷ events) p =
 
 pub requests-end : {setup : Setup} {events : List Event} (n : ℕ) (message : Message) →
     slice_get (replay setup events).sent n ≡ Some message → message.from ≡ Outside → IsEnd setup events n
-requests-end {setup} {events} = end-more {setup = setup} {past = []} events (λ n message e from. (let never : slice_get [] n ≡ Some message = e in cc))
+requests-end {setup} {events} = end-more {setup = setup} {past = []} events
+    (λ n message e from. (let never : slice_get [] n ≡ Some message = e in cc))

@@ -236,7 +236,8 @@ module _ (setup : Setup) (past rest early since : List Event) (whole : early ++ 
       by (inr (inr way)) = later (subst (λ n. IsEarlier world.sent table key n one.term) (second.stood.owned.term_is ∙ second.term_is)
           (subst (λ n. IsEarlier world.sent table key second.stood.owned.grant.term n) (first.stood.owned.term_is ∙ first.term_is) way))
 
-pub reads-alike : {setup : Setup} {past : List Event} (rest : List Event) {early : List Event} (since : List Event) → early ++ since ≡ past ++ rest → {m x : ServerId} →
+pub reads-alike : {setup : Setup} {past : List Event} (rest : List Event) {early : List Event} (since : List Event)
+    → early ++ since ≡ past ++ rest → {m x : ServerId} →
     {table key version : ℕ} → factor_of setup m.index ≢ 0 → factor_of setup x.index ≢ 0 → {value other : Option (List ℕ)} →
     Finds setup early m table key version value → Finds setup past x table key version other → (version ≡ 0 → ⊥) → value ≡ other
 reads-alike {setup} {past} rest {early} since whole {m} {x} {table} {key} {version} some_m some_x {value} {other} one two above =

@@ -352,7 +352,8 @@ goes-at : {setup : Setup} {all : Processes} (happenings : List Happening) (n : �
     Goes setup (after_all setup all (take n happenings)) × MayAll setup (after_all setup all (take n happenings)) (drop n happenings)
 goes-at happenings zero goes may = (goes, may)
 goes-at [] (suc n) goes may = (goes, may)
-goes-at {setup} {all} (one ∷ more) (suc n) goes may = goes-at {setup = setup} {all = (after setup all one)} more n (goes-after {setup = setup} {all = all} one goes may.0) may.1
+goes-at {setup} {all} (one ∷ more) (suc n) goes may = goes-at {setup = setup} {all = (after setup all one)} more n
+    (goes-after {setup = setup} {all = all} one goes may.0) may.1
 
 -- so what has left by a moment is among what was sent before it, and lasts
 pub left-was-sent : (setup : Setup) (happenings : List Happening) (n : ℕ) (message : Message) →

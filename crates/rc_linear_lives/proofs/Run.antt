@@ -82,7 +82,8 @@ not-done {all} {happenings} {number} {name} {work} takes forgotten deed done =
 pub it-forgets : ItForgets
 it-forgets = record {
   taken = refl;
-  forgotten = not-done {all = setup} {happenings = run} {number = (first_of brings_append run)} {name = (TheHost 1)} {work = (Deliver append_b)} refl refl;
+  forgotten = not-done {all = setup} {happenings = run} {number = (first_of brings_append run)} {name = (TheHost 1)}
+      {work = (Deliver append_b)} refl refl;
 }
 
 -- The write and the read
@@ -108,7 +109,8 @@ it-is-a-write = record {
   term = 1;
   request = asked
       (deed_of TheOutside ((at_moment setup run (first_of is_ask run)).at TheOutside).life (Ask (id 0 1) (Write 7 5 (Some (codes "a")))))
-      (done-at {all = setup} {happenings = run} {number = (first_of is_ask run)} {name = TheOutside} {work = (Ask (id 0 1) (Write 7 5 (Some (codes "a"))))} refl refl)
+      (done-at {all = setup} {happenings = run} {number = (first_of is_ask run)} {name = TheOutside}
+          {work = (Ask (id 0 1) (Write 7 5 (Some (codes "a"))))} refl refl)
       (inl refl);
   response = refl;
   first = not-left-before;
@@ -166,7 +168,8 @@ held-is-a-read = record {
   kind = refl;
   moment = first_of brings_read held_run;
   deed = deed_of (TheHost 0) ((at_moment setup held_run (first_of brings_read held_run)).at (TheHost 0)).life early_read;
-  done = done-at {all = setup} {happenings = held_run} {number = (first_of brings_read held_run)} {name = (TheHost 0)} {work = early_read} refl refl;
+  done = done-at {all = setup} {happenings = held_run} {number = (first_of brings_read held_run)} {name = (TheHost 0)}
+      {work = early_read} refl refl;
   answers = inl refl;
   response = refl;
   asked_before = leb-true (first_of brings_read held_run) (first_of brings_read held_run) refl;

@@ -20,7 +20,8 @@ use Rattle.rc_model.proofs.Tables.{put-same, put_each}
 use Rattle.rc_model.proofs.Ids.{server-same}
 
 -- the coordinator stays good where more is sent
-pub coordinator-still : {sent : List Message} (messages : List Message) {c : Coordinator} → GoodCoordinator sent c → GoodCoordinator (sent ++ messages) c
+pub coordinator-still : {sent : List Message} (messages : List Message) {c : Coordinator} → GoodCoordinator sent c
+    → GoodCoordinator (sent ++ messages) c
 coordinator-still messages good = record {
   attempts = λ number attempt numbered. attempt-kept messages (kept-refl) (good.attempts number attempt numbered);
   servers = good.servers;

@@ -141,7 +141,8 @@ module _ (world : World) (one : Event) (good : GoodWorld world) where
   -- the view of the running master
   view-of : {i : ℕ} {master : Master} {m : ServerId} → (world.hosts i).master ≡ Some master →
       Server (server_of (world.hosts i)) ≡ Server m → world.masters m ≡ master
-  view-of {i} {master} {m} e same = ap world.masters (sym (server-same (server_of (world.hosts i)) m same)) ∙ (good.hosts_are i).runs master e
+  view-of {i} {master} {m} e same = ap world.masters (sym (server-same (server_of (world.hosts i)) m same))
+      ∙ (good.hosts_are i).runs master e
 
   said-takes : (i : ℕ) (master : Master) (given message : Message) → (world.hosts i).master ≡ Some master → In given world.sent →
       given.to ≡ Server (server_of (world.hosts i)) → (at : In message (master_takes master given.from given.body).1) →
@@ -190,7 +191,8 @@ module _ (world : World) (one : Event) (good : GoodWorld world) where
           (each-told (λ (message : Message). is_others message.body ≡ true) (world.hosts i).backup (λ x s e len closed. refl)
           (λ attempt rows. refl) (λ x attempt seg term entries. refl) given.from given.body message at);
       starts = λ after i from. soft (world.masters m).log (after.masters m).log Enlist refl;
-      takes = λ after i master given message e among to view at. by_view after message e (takes-from i master given message e among to at) view
+      takes = λ after i master given message e among to view at. by_view after message e
+          (takes-from i master given message e among to at) view
           (takes master given.from given.body message at);
       ticks = λ after i master message e view at. by_view after message e
           (ticks-from i master message e at) view (ticks master message at);

@@ -66,7 +66,8 @@ host-still {sent} {masters} {hosts} {c} {sent_now} {masters_now} {hosts_now} {c_
   own = was.own;
   runs = λ master e. at_server ∙ was.runs master e;
   unstarted = λ g above. same g ∙ was.unstarted g above;
-  held = λ m. held-later sent masters hosts c sent_now masters_now hosts_now c_now good w (λ x s e len closed on at. inl (nothing m x s e len closed on at)) (was.held m);
+  held = λ m. held-later sent masters hosts c sent_now masters_now hosts_now c_now good w
+      (λ x s e len closed on at. inl (nothing m x s e len closed on at)) (was.held m);
 }
   where
     was : GoodHost sent masters i (hosts i)

@@ -22,7 +22,8 @@ versions-more {n} {m} more entries all = All-weaker (λ (entry : Entry). entry.v
     (λ (entry : Entry). entry.version ≤ m) (λ entry p. omega (arith, p, more)) entries all
 
 -- the greatest version of a key is one of the entries'
-pub greatest-within : {n : ℕ} (term table key : ℕ) (entries : List Entry) → VersionsUpTo n entries → greatest_version term table key entries ≤ n
+pub greatest-within : {n : ℕ} (term table key : ℕ) (entries : List Entry) → VersionsUpTo n entries
+    → greatest_version term table key entries ≤ n
 greatest-within term table key [] all = omega arith
 greatest-within {n} term table key (entry ∷ entries) all =
     let first : entry.version ≤ n = All-head (λ (one : Entry). one.version ≤ n) entry entries all in

@@ -46,7 +46,8 @@ fine-others v to (body.Fetch attempt master seg len part) e = true_false (sym e)
 fine-others v to _ e = tt
 
 -- its parts are later, and it says more of them
-its-later : {sent : List Message} (messages : List Message) {m : ServerId} {old new : Master} → Its sent m old → GoodParts sent m (part_view new) →
+its-later : {sent : List Message} (messages : List Message) {m : ServerId} {old new : Master} → Its sent m old
+    → GoodParts sent m (part_view new) →
     PartsLater (part_view old) (part_view new) →
     ((message : Message) → In message messages → message.from ≡ Server m → part_said (part_view new) message.to message.body) →
     Its (sent ++ messages) m new

@@ -171,7 +171,8 @@ apart-inserted new (tablet ∷ tablets) none apart =
     later table key e = search (arith, split, some-none, first-holds, first-lacks)
 
 -- a point of a whole table is one of that table
-whole-table : {table other : ℕ} (key : ℕ) (owner : ServerId) (term : ℕ) → holds (whole_table table owner term) other key ≡ true → table ≡ other
+whole-table : {table other : ℕ} (key : ℕ) (owner : ServerId) (term : ℕ)
+    → holds (whole_table table owner term) other key ≡ true → table ≡ other
 whole-table key owner term e = grind (arith, nat_tests)
 
 pub owner_at-new : (table : ℕ) {term : ℕ} (other key : ℕ) {owner : ServerId} (tablets : List Tablet) →

@@ -32,7 +32,8 @@ pub record StandsSecond {X : Type 0} (xs ys before : List X) (x : X) (after : Li
   pub before_is : before ≡ xs ++ between
   pub whole : ys ≡ between ++ x ∷ after
 
-pub stands-where : {X : Type 0} (xs : List X) {ys : List X} (before : List X) {x : X} {after : List X} → xs ++ ys ≡ before ++ x ∷ after → StandsFirst xs before x
+pub stands-where : {X : Type 0} (xs : List X) {ys : List X} (before : List X) {x : X} {after : List X}
+    → xs ++ ys ≡ before ++ x ∷ after → StandsFirst xs before x
     ⊎ StandsSecond xs ys before x after
 stands-where [] before e = inr (record { between = before; before_is = refl; whole = e })
 stands-where {X} (z ∷ xs) [] {x} {after} e = inl (record { after = xs; whole = ap (λ (one : X). one ∷ xs) heads })

@@ -182,7 +182,8 @@ pub moved-changed : {sent : List Message} {old new : Coordinator} {messages : Li
     OnDifferentHosts (up_rows new.servers.rows) →
     now.master ≡ was.master → was.decided ≡ None → GoodAttempt (sent ++ messages) new number now → Each (Says new) messages →
     CoordinatorMoved sent old (new, messages)
-moved-changed {sent} {old} {new} {messages} {number} {was} {now} good is_was same current kept apart master undecided good_now say = record {
+moved-changed {sent} {old} {new} {messages} {number} {was} {now} good is_was same current kept apart master undecided
+    good_now say = record {
   good = record {
     attempts = λ other one numbered. good_of other one (subst (λ attempts. IsNumbered attempts other one) same numbered);
     servers = apart;

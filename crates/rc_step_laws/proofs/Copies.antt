@@ -92,7 +92,8 @@ above-later : {sent sent_now : List Message} {m : ServerId} {old new : Log} {ind
     CopyLives sent sent_now m old new index generation → IsCopy sent m old index generation s e closed len digest →
     {x : ServerId} {told_len o : ℕ} (told_mark : Bool) → x.index ≡ index → IsMember sent_now m s e x → o < told_len →
     In (between x m (Stored s e told_len told_mark)) sent_now → o < len
-above-later {sent} {sent_now} {m} {old} {new} {index} {generation} {s} {e} {closed} {len} {digest} w c {x} {told_len} {o} told_mark on p above told =
+above-later {sent} {sent_now} {m} {old} {new} {index} {generation} {s} {e} {closed} {len} {digest} w c {x} {told_len}
+    {o} told_mark on p above told =
     by (w.none x s e told_len told_mark on told)
   where
     new_told : IsTold sent_now m new x s e told_len told_mark
@@ -119,7 +120,8 @@ closed-later : {sent sent_now : List Message} {m : ServerId} {old new : Log} {in
     {len : ℕ} {digest : List ℕ} →
     CopyLives sent sent_now m old new index generation → IsCopy sent m old index generation s e closed len digest →
     {x : ServerId} → x.index ≡ index → IsMember sent_now m s e x → HasToldClosed sent_now x m s e → closed ≡ true
-closed-later {sent} {sent_now} {m} {index} {generation} {s} {e} {closed} {len} {digest} w c {x} on p t = by (w.none x s e t.len true on t.told)
+closed-later {sent} {sent_now} {m} {index} {generation} {s} {e} {closed} {len} {digest} w c {x} on p t = by
+    (w.none x s e t.len true on t.told)
   where
     if_open : (x.generation ≤ generation → ⊥) → closed ≡ false → closed ≡ true
     if_open not_upto open_so =

@@ -95,7 +95,8 @@ begins-length (x ∷ xs) (y ∷ ys) b =
     let rest : length xs ≤ length ys = begins-length xs ys (b.0, tail) in
     omega arith
 
-pub get-begins : {X : Type 0} (xs : List X) {ys : List X} → Begins xs ys → (k : ℕ) {x : X} → slice_get xs k ≡ Some x → slice_get ys k ≡ Some x
+pub get-begins : {X : Type 0} (xs : List X) {ys : List X} → Begins xs ys → (k : ℕ) {x : X} → slice_get xs k ≡ Some x
+    → slice_get ys k ≡ Some x
 get-begins {X} xs b k {x} e = subst (λ (zs : List X). slice_get zs k ≡ Some x) b.1 (get-left xs b.0 k e)
 
 pub begins-refl : {X : Type 0} {xs : List X} → Begins xs xs

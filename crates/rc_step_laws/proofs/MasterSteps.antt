@@ -72,8 +72,10 @@ moved-first from (Write table key value) view may = moved-writes table key value
 moved-first from (Read table key) view may = moved-reads table key view
 moved-first {sent} {m} from (ServersOf version rows) view may =
     moved-takes_list version rows view (list-heard sent m from version rows may)
-moved-first {sent} {m} {master} (Server from) (Stored s epoch len closed) view may = moved-stored sent m master from s epoch len closed view may
-moved-first {sent} {m} {master} from (CommitOk s epoch) view may = moved-commit sent m master s epoch view (commit-heard sent m from s epoch may)
+moved-first {sent} {m} {master} (Server from) (Stored s epoch len closed) view may = moved-stored sent m master from s
+    epoch len closed view may
+moved-first {sent} {m} {master} from (CommitOk s epoch) view may = moved-commit sent m master s epoch view
+    (commit-heard sent m from s epoch may)
 moved-first Coordinator (Refused reason) view may = moved-deposes (says_deposed reason) view
 moved-first from (Plan head attempt crashed rows parts) view may = moved-takes_plan attempt crashed rows parts view
 moved-first (Server from) (Data attempt seg term entries) view may = quietly view refl refl

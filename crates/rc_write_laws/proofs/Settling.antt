@@ -151,7 +151,8 @@ In-oks own (first ∷ places) place (inr rest) client =
 
 -- A step leaves nothing uncounted
 
-or-none : (one : Option (Master × List Message)) {other : Option (Master × List Message)} → option_or one other ≡ None → (one ≡ None) × (other ≡ None)
+or-none : (one : Option (Master × List Message)) {other : Option (Master × List Message)} → option_or one other ≡ None
+    → (one ≡ None) × (other ≡ None)
 or-none None e = (refl, e)
 or-none (Some done) e = cc
 

@@ -303,7 +303,8 @@ all-opening some = record {
   counted = λ k place less. absurd (omega (arith, less));
 }
 
-all-from : {setup : Setup} {past : List Event} (events : List Event) {m : ServerId} → AllWereStored setup past m → AllWereStored setup (past ++ events) m
+all-from : {setup : Setup} {past : List Event} (events : List Event) {m : ServerId} → AllWereStored setup past m
+    → AllWereStored setup (past ++ events) m
 all-from {setup} {past} [] {m} p = subst (λ (all : List Event). AllWereStored setup all m) (sym (append-nil past)) p
 all-from {setup} {past} (one ∷ events) {m} p =
     subst (λ (all : List Event). AllWereStored setup all m) (append_assoc past (one ∷ []) events)
@@ -316,7 +317,8 @@ all-world {events} some = all-from events (all-opening some)
 
 pub once-durable : {setup : Setup} {events : List Event} {m : ServerId} {s o : ℕ} → factor_of setup m.index ≢ 0 →
     WasStoredOnce setup events m s o → IsDurable setup events m s o
-once-durable {setup} {events} {m} {s} {o} some was = record { moment = was.moment; happened = was.happened; stored = was.stored; earlier = earlier }
+once-durable {setup} {events} {m} {s} {o} some was = record
+    { moment = was.moment; happened = was.happened; stored = was.stored; earlier = earlier }
   where
     past : List Event
     past = take was.moment events
