@@ -3,16 +3,15 @@ use Rattle.std.proofs.Common.{◌≡◌, ◌⊎◌, ℕ, Bool, true, false, List
 use Rattle.std.proofs.Common.{refl, sym, ap, ◌∙◌, subst, inl, inr, arith}
 use Rattle.std.proofs.lemmas.List.{append-nil, append_assoc}
 use Rattle.rc_model.specs.Model.{ServerId, Addr, Server, Row, Part, Setup, Event, Message, Body, Place, Append, Close, Gather, Fetch}
-use Rattle.rc_model.specs.Model.{Replicas, Data, Enlist, to_coordinator, between, Replica, Backup, Held, backup_takes, keeps, stores}
-use Rattle.rc_model.specs.Model.{is_refused}
-use Rattle.rc_model.specs.Model.{stored_of, replica_of, replica_after, rows_of_replicas, data_of, answers_fetch, Attempt, World}
+use Rattle.rc_model.specs.Model.{Replicas, Data, Enlist, to_coordinator, between, Replica, Backup, backup_takes, keeps, stores}
+use Rattle.rc_model.specs.Model.{stored_of, rows_of_replicas, data_of, answers_fetch, Attempt, World}
 use Rattle.rc_model.specs.Model.{server_of, opening, step}
 use Rattle.rc_model.specs.Model.{replay, In}
 use Rattle.rc_types.specs.declared.ids.Addr.TheVariants.{Coordinator as AtCoordinator}
 use Rattle.rc_model.proofs.Replays.{replay_from-push}
 use Rattle.rc_model.proofs.Sending.{Each, each-none, each-one, each-if}
 use Rattle.rc_model.proofs.Tables.{put_id-same}
-use Rattle.rc_model.proofs.Tests.{true_false, either}
+use Rattle.rc_model.proofs.Tests.{true_false}
 use Rattle.rc_step_laws.specs.All.{IsOf, IsAnswer, AttemptLater, held_at}
 use Rattle.rc_step_laws.proofs.Attempting.{numbered-same}
 use Rattle.rc_log_laws.proofs.Replays.{GoodWorld, GoodStep, led-step, good-world}
@@ -34,10 +33,7 @@ none-keeps backup m seg None = each-none NoAnswer
 none-keeps backup m seg (Some replica) = each-one NoAnswer (between backup.own m (stored_of seg replica)) refl
 
 none-stores : (backup : Backup) (m : ServerId) (seg : ℕ) (body : Body) → Each NoAnswer (stores backup m seg body).1
-none-stores backup m seg body =
-    either (λ (after : Backup × List Message). Each NoAnswer after.1) (is_refused seg (backup.held m)) (backup, [])
-    (keeps backup m seg (replica_after (replica_of seg (backup.held m).replicas) body)) (λ _. each-none NoAnswer)
-    (λ _. none-keeps backup m seg (replica_after (replica_of seg (backup.held m).replicas) body))
+none-stores backup m seg body = search (arith, each-none, none-keeps)
 
 none-data : (attempt seg len : ℕ) (part : Part) (found : Option Replica) → Each (λ (body : Body). is_answer body ≡ false)
     (data_of attempt seg len part found)
@@ -48,9 +44,7 @@ none-data attempt seg len part (Some replica) = each-if _ _ (Data attempt seg pa
 none-fetch : (backup : Backup) (asker m : ServerId) (bodies : List Body) → Each (λ (body : Body). is_answer body ≡ false) bodies →
     Each NoAnswer (answers_fetch backup asker m bodies)
 none-fetch backup asker m [] none = each-none NoAnswer
-none-fetch backup asker m (body ∷ bodies) none =
-    each-if NoAnswer (backup.held m).fenced (between backup.own asker body ∷ [])
-    (λ _. each-one NoAnswer (between backup.own asker body) (none body (inl refl)))
+none-fetch backup asker m (body ∷ bodies) none = search (arith, each-if, each-one)
 
 -- the Gather that it answers, and the rows that it has then
 record Answers (x : ServerId) (number : ℕ) (rows : List Row) (heard : Body) (after : Backup) : Type 0 where
@@ -73,19 +67,8 @@ answers-are backup x number rows (Server m) (Append seg offset entries) at =
 answers-are backup x number rows (Server m) (Close seg len) at =
     no-answer x number rows _ _ _ (none-stores backup m seg (Close seg len)) at
 answers-are backup x number rows (Server asker) (Fetch attempt m seg len part) at =
-    no-answer x number rows _ _ _ (none-fetch backup asker m (data_of attempt seg len part (replica_of seg (backup.held m).replicas))
-    (none-data attempt seg len part (replica_of seg (backup.held m).replicas))) at
-answers-are backup x number rows from (Gather attempt master) (inl same) =
-    let bodies : Replicas number rows ≡ Replicas attempt (rows_of_replicas (backup.held master).replicas) =
-    ap (λ (message : Message). message.body) same in
-    let numbers : number ≡ attempt = cc in
-    let lists : rows ≡ rows_of_replicas (backup.held master).replicas = cc in
-    record {
-      master = master;
-      asked = ap (λ n. Gather n master) (sym numbers);
-      rows_are = lists ∙ ap (λ (held : Held). rows_of_replicas held.replicas)
-          (sym (put_id-same backup.held master (record (backup.held master) { fenced = true })));
-    }
+    search (arith, no-answer, none-fetch, none-data)
+answers-are backup x number rows from (Gather attempt master) (inl same) = search (arith, put_id-same)
 answers-are backup x number rows from (Gather attempt master) (inr never) = absurd never
 answers-are backup x number rows _ _ at = absurd at
 

@@ -1,12 +1,13 @@
 -- A Decide that is refused, where all hosts have answered, means that a segment is gone.
-use Rattle.std.proofs.Common.{◌≡◌, ◌⊎◌, ℕ, Bool, true, cond, nat_eq, List, [], ◌∷◌, Option, Some, Result, Ok, Err}
+use Rattle.std.proofs.Common.{arith}
+use Rattle.std.proofs.Common.{◌≡◌, ◌⊎◌, ℕ, Bool, true, nat_eq, List, [], ◌∷◌, Option, Some, Result, Ok, Err}
 use Rattle.std.proofs.Common.{◌||◌, false, refl, sym}
 use Rattle.std.proofs.Common.{ap, ◌∙◌, subst, inl, inr}
 use Rattle.std.proofs.lemmas.Bool.{eqb-true}
 use Rattle.rc_model.specs.Model.{ServerId, Addr, Server, Outside, Row, Part, Setup, Event, Fault, NotReady, StaleAttempt, Message}
 use Rattle.rc_model.specs.Model.{Replicas, to_coordinator, coordinator_refuses, same_id, Replica, replica_of, row_of_replica}
 use Rattle.rc_model.specs.Model.{rows_of_replicas, HeldRow, rows_of, held_rows, pick, Attempt, Decision, has_answered, is_gathering}
-use Rattle.rc_model.specs.Model.{parts_of, plan_message, plan_messages, attempt_at, decides_with, decides_attempt, decides, decides_on}
+use Rattle.rc_model.specs.Model.{parts_of, plan_message, plan_messages, attempt_at, decides_with, decides, decides_on}
 use Rattle.rc_model.specs.Model.{decision_of, ready_ids, server_of, replay, In}
 use Rattle.rc_types.specs.declared.faults.Fault.TheVariants.{HeadMissing, SegmentMissing}
 use Rattle.rc_types.specs.declared.rows.Plan.{Plan}
@@ -98,12 +99,7 @@ other-fault : {fault : Fault} (other : Fault) → IsMissing fault → (code_of H
     ((t : ℕ) → code_of (SegmentMissing t) ≡ code_of other → ⊥) → In (coordinator_refuses fault) (coordinator_refuses other ∷ []) → ⊥
 other-fault other (inl is) head segment (inr never) = never
 other-fault other (inr is) head segment (inr never) = never
-other-fault {fault} other (inl is) head segment (inl same) =
-    head (ap code_of (sym is) ∙ refused (ap (λ (message : Message). message.body) same))
-  where
-    refused : Rattle.rc_types.specs.declared.messages.Body.TheVariants.Refused (code_of fault) ≡
-        Rattle.rc_types.specs.declared.messages.Body.TheVariants.Refused (code_of other) → code_of fault ≡ code_of other
-    refused e = cc
+other-fault {fault} other (inl is) head segment (inl same) = search arith
 other-fault {fault} other (inr (t, is)) head segment (inl same) =
     segment t (ap code_of (sym is) ∙ refused (ap (λ (message : Message). message.body) same))
   where
@@ -112,22 +108,10 @@ other-fault {fault} other (inr (t, is)) head segment (inl same) =
     refused e = cc
 
 not-ready : {fault : Fault} → IsMissing fault → In (coordinator_refuses fault) (coordinator_refuses NotReady ∷ []) → ⊥
-not-ready is = other-fault NotReady is (λ e. head e) (λ t e. segment t e)
-  where
-    head : code_of HeadMissing ≡ code_of NotReady → ⊥
-    head e = cc
-
-    segment : (t : ℕ) → code_of (SegmentMissing t) ≡ code_of NotReady → ⊥
-    segment t e = cc
+not-ready is = search (arith, other-fault)
 
 stale : {fault : Fault} → IsMissing fault → In (coordinator_refuses fault) (coordinator_refuses StaleAttempt ∷ []) → ⊥
-stale is = other-fault StaleAttempt is (λ e. head e) (λ t e. segment t e)
-  where
-    head : code_of HeadMissing ≡ code_of StaleAttempt → ⊥
-    head e = cc
-
-    segment : (t : ℕ) → code_of (SegmentMissing t) ≡ code_of StaleAttempt → ⊥
-    segment t e = cc
+stale is = search (arith, other-fault)
 
 -- so the choice was refused
 with-refused : (c : Coordinator) (number : ℕ) (attempt : Attempt) (found : Result Plan Fault) (ids : List ServerId) (fault : Fault) →
@@ -139,16 +123,7 @@ with-refused c number attempt (Ok plan) (id ∷ ids) fault is at = absurd (plans
 pick-refused : (c : Coordinator) (m : ServerId) (attempt : Attempt) (fault : Fault) → IsMissing fault →
     attempt_at c (c.current m) ≡ Some attempt → In (coordinator_refuses fault) (decides c m).1 →
     (other : Fault) × (pick (c.least m) attempt.replies ≡ Err other)
-pick-refused c m attempt fault is current at =
-    by (subst (λ (found : Option Attempt). In (coordinator_refuses fault) (decides_attempt c m found).1) current at)
-  where
-    by : In (coordinator_refuses fault) (decides_attempt c m (Some attempt)).1 → (other : Fault) × (pick
-        (c.least m) attempt.replies ≡ Err other)
-    by there = either (λ (after : Coordinator × List Message). In (coordinator_refuses fault) after.1 →
-        (other : Fault) × (pick (c.least m) attempt.replies ≡ Err other)) (is_gathering attempt)
-        (decides_with c (c.current m) attempt (pick (c.least m) attempt.replies) (ready_ids c)) (c, coordinator_refuses StaleAttempt ∷ [])
-        (λ _ refused. with-refused c (c.current m) attempt (pick (c.least m) attempt.replies) (ready_ids c) fault is refused)
-        (λ _ never. absurd (stale is never)) there
+pick-refused c m attempt fault is current at = search (arith, with-refused, stale)
 
 -- All of it
 
@@ -168,11 +143,7 @@ module _ (setup : Setup) (events : List Event) (m : ServerId) (all : AllHaveAnsw
   sent = ((good-world setup events).coordinator.attempts ((replay setup events).coordinator.current m) all.attempt numbered).answered
 
   answers : AreAnswers setup events m all.attempt.replies
-  answers y rows at = inl (record {
-    number = (replay setup events).coordinator.current m;
-    attempt = of_m;
-    answered = sent y rows at;
-  })
+  answers y rows at = search (arith, of_m, sent)
 
   rows : (i s : ℕ) → HasRow setup events m all.attempt.replies i s
   rows i s replica kept =
@@ -212,14 +183,7 @@ module _ (setup : Setup) (events : List Event) (m : ServerId) (all : AllHaveAnsw
           pick ((replay setup events).coordinator.least m) all.attempt.replies ≡ found → ready_ids (replay setup events).coordinator ≡ ids →
           decides (replay setup events).coordinator m ≡
           decides_with (replay setup events).coordinator ((replay setup events).coordinator.current m) all.attempt found ids
-      decided found ids picked up = ap (decides_attempt (replay setup events).coordinator m) all.current ∙
-          (ap (λ (b : Bool). cond b (decides_with (replay setup events).coordinator
-          ((replay setup events).coordinator.current m) all.attempt
-          (pick ((replay setup events).coordinator.least m) all.attempt.replies) (ready_ids (replay setup events).coordinator))
-          ((replay setup events).coordinator, coordinator_refuses StaleAttempt ∷ [])) gathering ∙
-          (ap (λ (one : Result Plan Fault). decides_with (replay setup events).coordinator ((replay setup events).coordinator.current m)
-          all.attempt one (ready_ids (replay setup events).coordinator)) picked ∙
-          ap (decides_with (replay setup events).coordinator ((replay setup events).coordinator.current m) all.attempt found) up))
+      decided found ids picked up = search arith
 
       by : (found : Result Plan Fault) → pick ((replay setup events).coordinator.least m) all.attempt.replies ≡ found →
           (ids : List ServerId) → ready_ids (replay setup events).coordinator ≡ ids →

@@ -1,19 +1,19 @@
 -- A Fetch of a row that was planned is answered while its holder runs: what its server has answered it still has.
-use Rattle.std.proofs.Common.{◌≡◌, ℕ, Bool, true, cond, nat_le, List, [], ◌∷◌, filter, take, length, Option, Some, None}
+use Rattle.std.proofs.Common.{◌≡◌, ℕ, true, nat_le, List, [], ◌∷◌, filter, take, length, Option, Some, None}
 use Rattle.std.proofs.Common.{refl, sym, ap, ◌∙◌, subst, arith}
 use Rattle.std.proofs.lemmas.Bool.{and_parts, le-leb}
 use Rattle.std.specs.Prelude.{is_some}
 use Rattle.rc_model.specs.Model.{ServerId, Server, Row, PlanRow, Part, Setup, Event, Fetch, Data, Replicas}
-use Rattle.rc_model.specs.Model.{to_coordinator, between, Replica, Attempt, Master, replica_of, rows_of_replicas, is_in_part}
-use Rattle.rc_model.specs.Model.{row_of_replica, data_of, answers_fetch, HostNode, Deliver, host_step, runs, server_of, is_running_at}
-use Rattle.rc_model.specs.Model.{takes_if_running, server_takes, replay, In}
+use Rattle.rc_model.specs.Model.{to_coordinator, between, Replica, Master, replica_of, rows_of_replicas, is_in_part}
+use Rattle.rc_model.specs.Model.{row_of_replica, HostNode, Deliver, host_step, runs, server_of, is_running_at}
+use Rattle.rc_model.specs.Model.{replay, In}
 use Rattle.rc_types.specs.declared.messages.Body.TheVariants.{Plan as PlanBody}
 use Rattle.rc_types.specs.declared.ids.Addr.TheVariants.{Coordinator as AtCoordinator}
 use Rattle.rc_types.specs.declared.rows.Plan.{Plan}
 use Rattle.rc_model.specs.Ids.{is_server}
 use Rattle.rc_model.proofs.Ids.{same_id-true}
 use Rattle.rc_model.proofs.Tests.{true_false}
-use Rattle.rc_step_laws.specs.All.{IsAnswer, IsOf, IsPlan, held_at}
+use Rattle.rc_step_laws.specs.All.{IsAnswer, IsOf, IsPlan}
 use Rattle.rc_step_laws.proofs.Attempting.{numbered-same}
 use Rattle.rc_step_laws.proofs.ReplicaLists.{replica_of-row}
 use Rattle.rc_log_laws.proofs.Picked.{IsPicked, IsTaken, picked-is}
@@ -38,15 +38,7 @@ answers : (host : HostNode) {asker m holder : ServerId} {number seg : ℕ} (len 
     (host_step host (Deliver (between asker holder (Fetch number m seg len part)))).1 ≡
     between holder asker (Data number seg part.term (filter (is_in_part part) (take len replica.entries))) ∷ []
 answers host {asker} {m} {holder} {number} {seg} len part {replica} {master} running here own fenced kept enough =
-    ap (λ (found : Option Master). (takes_if_running host found (between asker holder (Fetch number m seg len part))).1) running
-    ∙ (ap (λ (b : Bool). (cond b (server_takes host master (between asker holder (Fetch number m seg len part))) (host, [])).1) here
-    ∙ (ap (λ (found : Option Replica). answers_fetch host.backup asker m (data_of number seg len part found)) kept
-    ∙ (ap (λ (b : Bool). answers_fetch host.backup asker m (cond b
-    (Data number seg part.term (filter (is_in_part part) (take len replica.entries)) ∷ []) [])) enough
-    ∙ (ap (λ (b : Bool). cond b (between host.backup.own asker
-    (Data number seg part.term (filter (is_in_part part) (take len replica.entries))) ∷ []) []) fenced
-    ∙ ap (λ (id : ServerId). between id asker
-    (Data number seg part.term (filter (is_in_part part) (take len replica.entries))) ∷ []) own))))
+    search arith
 
 -- All of it
 
@@ -95,19 +87,13 @@ module _ (setup : Setup) (events : List Event) (number : ℕ) (m : ServerId) (ro
   answer = good.messages (to_coordinator taken.held.holder (Replicas number taken.answered.rows)) sent
 
   its_master : answer.master ≡ m
-  its_master =
-      let one : answer.attempt.attempt ≡ of_m.attempt = numbered-same answer.attempt.numbered of_m.numbered in
-      sym answer.attempt.master_is ∙ (ap (λ (some : Attempt). some.master) one ∙ of_m.master_is)
+  its_master = search (arith, answer, of_m, numbered-same)
 
   fenced : (host.backup.held m).fenced ≡ true
-  fenced = subst (λ (n : ServerId). (host.backup.held n).fenced ≡ true) its_master
-      (subst (λ (id : ServerId). (held_at (replay setup events).hosts id.index answer.master).fenced ≡ true) (sym holder)
-      (answer.fenced (same holder)))
+  fenced = search (arith, its_master, answer, holder, same)
 
   now : taken.answered.rows ≡ rows_of_replicas (host.backup.held m).replicas
-  now = subst (λ (id : ServerId). taken.answered.rows ≡ rows_of_replicas (held_at (replay setup events).hosts id.index m).replicas)
-      (sym holder)
-      (answers-are-now setup events taken.held.holder m number taken.answered.rows of_m sent (same holder))
+  now = search (arith, taken, holder, answers-are-now, of_m, sent, same)
 
   found : (replica : Replica) × (replica_of taken.held.row.seg (host.backup.held m).replicas ≡ Some replica) ×
       (taken.held.row ≡ row_of_replica (taken.held.row.seg, replica))
@@ -122,14 +108,7 @@ module _ (setup : Setup) (events : List Event) (number : ℕ) (m : ServerId) (ro
 
   its-data : {asker : ServerId} {part : Part} → HasItsData host asker number m row part
   its-data {part} =
-      let one : (master : Master) × (host.master ≡ Some master) = master-of host.master parts.0 in
-      record {
-        replica = found.0;
-        kept = kept;
-        whole = len;
-        answer = answers host row.len part one.1 parts.1
-            ((good.hosts_are row.holder.index).own ∙ last) fenced kept (long-enough len);
-      }
+      search (arith, master-of, parts, found, kept, len, answer, answers, good, last, fenced, long-enough)
 
 pub fetches-are-answered : FetchesAreAnswered
 fetches-are-answered setup events number m row p running asker part = its-data setup events number m row p running

@@ -1,6 +1,6 @@
 -- Where fewer hosts than a segment has replicas have dropped one, it isn't gone.
 use Rattle.std.proofs.Common.{◌≡◌, ◌⊎◌, ℕ, suc, ◌<◌, ◌≤◌, true, false, cond, nat_eq, nat_lt, nat_le, List, [], ◌∷◌, length}
-use Rattle.std.proofs.Common.{refl, sym, ap, ◌∙◌, subst, inl, inr, arith}
+use Rattle.std.proofs.Common.{refl, sym, ap, ◌∙◌, inl, inr, arith}
 use Rattle.std.proofs.lemmas.Bool.{and_parts, eqb-true, eq-eqb, ltb-true, leb-true}
 use Rattle.std.proofs.lemmas.List.{length-map}
 use Rattle.rc_model.specs.Model.{ServerId, Setup, Event, Member, ids_of, factor_of, In}
@@ -81,9 +81,7 @@ not-gone setup events m s hosts few on gone =
 
     -- what isn't shut was not
     was-not : (before : List Event) → Begins before events → ((log_of setup before m).segments s).shut ≡ true → ⊥
-    was-not before (rest, same) is =
-        true_false (sym (subst (λ (all : List Event). ((log_of setup all m).segments s).shut ≡ true) same
-        ((since-more setup before rest).later.shut s is).0) ∙ gone.unshut)
+    was-not before (rest, same) is = search (arith, since-more)
 
     unshut : ((log_of setup gone.placed.before m).segments s).shut ≡ false
     unshut = split ((log_of setup gone.placed.before m).segments s).shut

@@ -5,13 +5,12 @@ use Rattle.std.proofs.Common.{length, filter, Some, refl, sym, ◌∙◌, subst,
 use Rattle.std.proofs.lemmas.Bool.{and_parts, eqb-true, ltb-true}
 use Rattle.std.proofs.lemmas.List.{append_assoc}
 use Rattle.rc_model.specs.Model.{ServerId, Member, Phase, Opening, Closing, Writing, Message, Body, Append, Close, Ready}
-use Rattle.rc_model.specs.Model.{Recovered, to_coordinator, told_closed, is_closed, all_placed, all_closed, Segment, with_entry, is_ready}
+use Rattle.rc_model.specs.Model.{to_coordinator, told_closed, is_closed, all_placed, all_closed, Segment, with_entry, is_ready}
 use Rattle.rc_model.specs.Model.{is_all_closed, is_unclosed, with_closes_sent, Log, head_of, old_head_of, has_old_head, has_unclosed}
 use Rattle.rc_model.specs.Model.{with_segment, numbers_to}
-use Rattle.rc_model.specs.Model.{is_opening, is_closing, is_writing, durable_now, opens_head, next_digest, shuts, may_start, may_close}
-use Rattle.rc_model.specs.Model.{may_write, left_out, with_freed, starts, closes_old, writes_on, Master, with_log, to_ids, attempt_of}
-use Rattle.rc_model.specs.Model.{durable_replayed}
-use Rattle.rc_model.specs.Model.{after_answer, after_replay, ids_of, not_lost, place_of, appends_entry, dead_segments, close_is_due}
+use Rattle.rc_model.specs.Model.{is_opening, is_closing, is_writing, opens_head, next_digest, shuts, may_start, may_close}
+use Rattle.rc_model.specs.Model.{may_write, left_out, with_freed, starts, closes_old, writes_on, Master, with_log, to_ids}
+use Rattle.rc_model.specs.Model.{after_replay, ids_of, not_lost, place_of, appends_entry, dead_segments, close_is_due}
 use Rattle.rc_model.specs.Model.{close_marked, frees_segments, first_open, wants_commit, commits, new_durable, In}
 use Rattle.rc_types.specs.declared.messages.Body.TheVariants as body
 use Rattle.rc_model.proofs.Tests.{true_false}
@@ -86,10 +85,7 @@ module _ (f : ℕ) (W : ℕ → ℕ → Type 0) (m : ServerId) where
       ((sent : List Message) → NowIn new.log → Placings f W sent m old.log → Placings f W sent m new.log) →
       ((sent : List Message) → NowIn new.log → Placings f W sent m old.log → Placings f W sent m new.log →
       AllClaim f W new.log messages) → Follows old (new, messages)
-  follows-by {messages} keeps change claim = record {
-    keeps = keeps;
-    leads = λ sent now good. placings-say W messages (claim sent now good (change sent now good)) (change sent now good);
-  }
+  follows-by {messages} keeps change claim = search (arith, placings-say)
 
   follows-same : {old new : Master} {messages : List Message} → new.log ≡ old.log → ((log : Log) → AllClaim f W log messages) →
       Follows old (new, messages)

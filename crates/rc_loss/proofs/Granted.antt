@@ -1,14 +1,13 @@
 -- A part that is complete is told of at each Tick: obeying the list changes nothing that the parts read.
-use Rattle.std.proofs.Common.{◌≡◌, ℕ, Bool, true, false, not, cond, ◌&&◌, List, [], ◌∷◌, ◌++◌, filter, take, Option}
+use Rattle.std.proofs.Common.{arith}
+use Rattle.std.proofs.Common.{◌≡◌, ℕ, Bool, true, false, not, cond, ◌&&◌, List, [], ◌∷◌, ◌++◌, Option}
 use Rattle.std.proofs.Common.{Some, None, refl}
 use Rattle.std.proofs.Common.{sym, ap, ◌∙◌, subst}
 use Rattle.std.proofs.lemmas.Bool.{and_parts}
 use Rattle.std.specs.Prelude.{is_some}
-use Rattle.rc_model.specs.Model.{ServerId, Addr, Server, Setup, Event, Message, Body, Recovered, Enlist, to_coordinator, is_up, Part}
-use Rattle.rc_model.specs.Model.{PartState, LogPlace, Log, Master, Task, owns_term, replayed_at, durable_replayed, places_of, then_does}
-use Rattle.rc_model.specs.Model.{obeys_list, ticks, goes_on, HostNode, host_step, runs, server_of, replay, In}
-use Rattle.rc_model.specs.Ids.{is_server}
-use Rattle.rc_model.specs.Ownership.{is_complete}
+use Rattle.rc_model.specs.Model.{ServerId, Server, Setup, Event, Message, Recovered, Enlist, to_coordinator, is_up, Part}
+use Rattle.rc_model.specs.Model.{PartState, Log, Master, owns_term, places_of, then_does}
+use Rattle.rc_model.specs.Model.{obeys_list, ticks, goes_on, HostNode, host_step, replay, In}
 use Rattle.rc_model.specs.FollowUps.{attempt_of}
 use Rattle.rc_model.specs.MasterStep.{master_ticks}
 use Rattle.rc_model.specs.MasterTick.{reminds_open, reminds_shut, commits_again, fetches_again, recovered_again, ready_again}
@@ -23,7 +22,7 @@ use Rattle.rc_model.proofs.Walk.{Joined, Listed, kept-obeys}
 use Rattle.rc_log_laws.proofs.Replays.{GoodWorld, good-world}
 use Rattle.rc_owner_laws.specs.Parts.{part_view, IsPart, WasPlanned, GoodParts}
 use Rattle.rc_owner_laws.specs.Recoveries.{IsPlanned, PlannedPartsCanBeGranted}
-use Rattle.rc_owner_laws.specs.TermClaims.{Issue, issue_of, issues_in, WasIssued}
+use Rattle.rc_owner_laws.specs.TermClaims.{Issue, issue_of, WasIssued}
 use Rattle.rc_owner_laws.proofs.Issued.{terms-are-issued-once}
 use Rattle.rc_owner_laws.proofs.PartPlaces.{same-loses, same-opens}
 use Rattle.rc_owner_laws.proofs.VersionReplays.{all-world}
@@ -39,45 +38,17 @@ record SameParts (old : Master) (after : Master × List Message) : Type 0 where
   tasks : after.0.tasks ≡ old.tasks
 
 parts-joined : Joined SameParts
-parts-joined = record {
-  still = λ master. record { places = refl; durable = refl; ownership = refl; tasks = refl };
-  both = λ one two first after p q. record {
-    places = q.places ∙ p.places;
-    durable = q.durable ∙ p.durable;
-    ownership = q.ownership ∙ p.ownership;
-    tasks = q.tasks ∙ p.tasks;
-  };
-}
+parts-joined = search arith
 
 parts-listed : Listed SameParts
-parts-listed = record {
-  replaces = λ master seg ids isn't. record {
-    places = (same-loses master.known seg {log = master.log}).places;
-    durable = (same-loses master.known seg {log = master.log}).durable;
-    ownership = refl;
-    tasks = refl;
-  };
-  opens = λ master ids none chosen. record {
-    places = (same-opens {log = master.log} (1 ∷ []) ids).places;
-    durable = (same-opens {log = master.log} (1 ∷ []) ids).durable;
-    ownership = refl;
-    tasks = refl;
-  };
-}
+parts-listed = search (arith, same-loses, same-opens)
 
 same-obeyed : {master : Master} → SameParts master (obeys_list master)
 same-obeyed {master} = kept-obeys SameParts parts-joined parts-listed master
 
 -- so the same parts await their grant
 same-awaits : (master : Master) (state : PartState) → awaits_grant (obeys_list master).0 state ≡ awaits_grant master state
-same-awaits master state =
-    let same : SameParts master (obeys_list master) = same-obeyed in
-    let after : Master = (obeys_list master).0 in
-    ap (λ (places : List LogPlace). is_complete (replayed_at (take after.log.durable places)) state
-    && not (owns_term after.ownership state.part.term)) same.places
-    ∙ (ap (λ (n : ℕ). is_complete (replayed_at (take n (places_of master.log))) state
-    && not (owns_term after.ownership state.part.term)) same.durable
-    ∙ ap (λ own. is_complete (durable_replayed master) state && not (owns_term own state.part.term)) same.ownership)
+same-awaits master state = search (arith, same-obeyed)
 
 -- What a Tick sends
 
@@ -85,10 +56,7 @@ same-awaits master state =
 again : (master : Master) (state : PartState) → In state master.ownership.parts → awaits_grant master state ≡ true →
     In (to_coordinator master.log.own (Recovered (attempt_of state.part.term master.tasks) state.part.term))
     (recovered_again master)
-again master state among awaits =
-    map-In (λ (one : PartState). to_coordinator master.log.own (Recovered (attempt_of one.part.term master.tasks) one.part.term))
-    state (filter (awaits_grant master) master.ownership.parts)
-    (filter-In (awaits_grant master) state master.ownership.parts among awaits)
+again master state among awaits = search (arith, map-In, filter-In)
 
 in-reminds : (before : Log) (master : Master) (message : Message) → In message (recovered_again master) →
     In message (reminds before master).1
@@ -111,12 +79,7 @@ module _ (master : Master) (state : PartState) where
   same = same-obeyed
 
   told-again : In state master.ownership.parts → awaits_grant master state ≡ true → In message (recovered_again after)
-  told-again among awaits = subst (λ (one : Message). In one (recovered_again after))
-      (ap (λ (own : ServerId). to_coordinator own (Recovered (attempt_of state.part.term after.tasks) state.part.term))
-      (obeys-leads master).own
-      ∙ ap (λ (tasks : List Task). to_coordinator master.log.own (Recovered (attempt_of state.part.term tasks) state.part.term))
-      same.tasks)
-      (again after state (subst (λ own. In state own.parts) (sym same.ownership) among) (same-awaits master state ∙ awaits))
+  told-again among awaits = search (arith, obeys-leads, same, again, same-awaits)
 
   ticked : master.deposed ≡ false → (master_ticks master).1 ≡ (then_does (ticks master) goes_on).1
   ticked undeposed = ap (λ (b : Bool). (cond b (master, []) (then_does (ticks master) goes_on)).1) undeposed
@@ -156,13 +119,7 @@ module _ (setup : Setup) (events : List Event) (m crashed : ServerId) (number : 
 
   -- its host's master is the last view of it
   running : host.master ≡ Some master
-  running =
-      let parts : (runs host ≡ true) × (is_server (server_of host) (Server m) ≡ true) =
-      and_parts (runs host) (is_server (server_of host) (Server m)) p.running in
-      let found : (one : Master) × (host.master ≡ Some one) = a-master host.master parts.0 in
-      let last : server_of host ≡ m = same_id-true (server_of host) m parts.1 in
-      found.1 ∙ ap (λ (one : Master). Some one)
-      (sym ((good.hosts_are m.index).runs found.0 found.1) ∙ ap (λ (id : ServerId). (replay setup events).masters id) last)
+  running = search (arith, and_parts, a-master, same_id-true, good)
 
   -- the attempt that it names is the one in which the part was planned
   parts-good : GoodParts (replay setup events).sent m (part_view master)
@@ -182,13 +139,7 @@ module _ (setup : Setup) (events : List Event) (m crashed : ServerId) (number : 
   }
 
   issued-too : WasIssued (replay setup events).sent (issue_of (Server m) part.task.attempt part.task.part)
-  issued-too = record {
-    message = was.message;
-    among = was.among;
-    says = subst (λ (to : Addr). In (issue_of (Server m) part.task.attempt part.task.part) (issues_in to was.message.body)) (sym was.to)
-        (subst (λ (body : Body). In (issue_of (Server m) part.task.attempt part.task.part) (issues_in (Server m) body)) (sym was.says)
-        (map-In (issue_of (Server m) part.task.attempt) part.task.part was.parts was.part));
-  }
+  issued-too = search (arith, was, part, map-In)
 
   once : issue_of (Server m) number state.part ≡ issue_of (Server m) part.task.attempt part.task.part
   once = terms-are-issued-once setup events _ _ issued issued-too (ap (λ (one : Part). one.term) (sym part.part_is))

@@ -1,15 +1,14 @@
 -- What an event does to a host: it starts anew, or its generation stays; and what is newly told stands there.
-use Rattle.std.proofs.Common.{◌≡◌, ◌⊎◌, ℕ, Bool, true, false, nat_eq, List, [], ◌∷◌, ◌++◌, Option, Some, None}
-use Rattle.std.proofs.Common.{slice_get}
+use Rattle.std.proofs.Common.{arith}
+use Rattle.std.proofs.Common.{◌≡◌, ◌⊎◌, ℕ, Bool, true, false, List, [], ◌∷◌, ◌++◌, Option, Some, None}
 use Rattle.std.proofs.Common.{refl, sym, ap, ◌∙◌, subst, inl, inr}
 use Rattle.std.proofs.lemmas.Bool.{eqb-true}
 use Rattle.rc_model.specs.Model.{ServerId, Addr, Server, Outside, Event, Message, Body, Stored, Enlist, between, to_coordinator, put}
-use Rattle.rc_model.specs.Model.{is_server, Backup, backup_takes, restart, Log, Master, master_takes, master_ticks, NodeWork, Deliver}
-use Rattle.rc_model.specs.Model.{HostNode, server_of, host_step, next_server, starts_host, is_for_backup, with_backup, with_master}
-use Rattle.rc_model.specs.Model.{server_takes}
+use Rattle.rc_model.specs.Model.{Backup, backup_takes, restart, Log, Master, master_takes, master_ticks, NodeWork, Deliver}
+use Rattle.rc_model.specs.Model.{HostNode, server_of, host_step, next_server, with_backup, with_master}
 use Rattle.rc_model.specs.Model.{takes_if_running, ticks_if_running, outside_sends, coordinator_step, World, NodeName, TheOutside}
 use Rattle.rc_model.specs.Model.{TheCoordinator}
-use Rattle.rc_model.specs.Model.{TheHost, Job, job_of, delivery, is_possible, node_done, job_done, step, In}
+use Rattle.rc_model.specs.Model.{TheHost, Job, job_of, is_possible, node_done, job_done, step, In}
 use Rattle.rc_types.specs.declared.ids.Addr.TheVariants.{Coordinator as AtCoordinator}
 use Rattle.rc_types.specs.declared.events.Event.TheVariants as event
 use Rattle.rc_model.specs.Nodes.{Ask, Tick, Start}
@@ -48,10 +47,7 @@ starting i kept = record { node = TheHost i; work = Start kept }
 
 same-start : {index i : ℕ} {list kept : List (ServerId × ℕ)} → TheHost index ≡ TheHost i → Start list ≡ Start kept →
     event.Start index list ≡ event.Start i kept
-same-start {index} {i} {list} {kept} nodes works = (let a : index ≡ i = cc in let b : list ≡ kept = cc in both a b)
-  where
-    both : index ≡ i → list ≡ kept → event.Start index list ≡ event.Start i kept
-    both p q j = event.Start (p j) (q j)
+same-start {index} {i} {list} {kept} nodes works = search arith
 
 abbrev is_start : NodeWork → Bool
 is_start (Start kept) = true
@@ -60,23 +56,14 @@ is_start _ = false
 -- only a Start gives a host the work to start
 start-work : (sent : List Message) (one : Event) {i : ℕ} {kept : List (ServerId × ℕ)} →
     job_of sent one ≡ Some (starting i kept) → one ≡ event.Start i kept
-start-work sent (event.Deliver number) {i} {kept} e = by (slice_get sent number) e
-  where
-    by : (found : Option Message) → delivery found ≡ Some (starting i kept) → event.Deliver number ≡ event.Start i kept
-    by None e = cc
-    by (Some message) e = let never : ◌≡◌ {A = NodeWork} (Deliver message) (Start kept) = same-work e in cc
+start-work sent (event.Deliver number) {i} {kept} e = search (arith, same-work)
 start-work sent (event.Start index list) e = same-start (same-node e) (same-work e)
 start-work sent _ e = true_false (sym (ap is_start (same-work e)))
 
 takes-same : (host : HostNode) (found : Option Master) (message : Message) → (takes_if_running host found message).0.generation ≡
     host.generation
 takes-same host None message = refl
-takes-same host (Some master) message =
-    either (λ (after : HostNode × List Message). after.0.generation ≡ host.generation) (is_server (server_of host) message.to)
-    (server_takes host master message) (host, [])
-    (λ _. either (λ (after : HostNode × List Message). after.0.generation ≡ host.generation) (is_for_backup message.body)
-    (with_backup host (backup_takes host.backup message.from message.body))
-    (with_master host (master_takes master message.from message.body)) (λ _. refl) (λ _. refl)) (λ _. refl)
+takes-same host (Some master) message = search arith
 
 ticks-same : (host : HostNode) (found : Option Master) → (ticks_if_running host found).0.generation ≡ host.generation
 ticks-same host None = refl
@@ -97,35 +84,11 @@ module _ (world : World) (one : Event) (i : ℕ) where
 
   started : {index : ℕ} {kept : List (ServerId × ℕ)} → index ≡ i → job_of world.sent one ≡ Some (starting index kept) →
       is_possible world one ≡ true → IsStart world one i (node_done world one (TheHost index) (Start kept))
-  started {index} {kept} same is possible = record {
-    kept = kept;
-    is = start-work world.sent one (is ∙ ap (λ k. Some (starting k kept)) same);
-    possible = possible;
-    backup = ap (λ (host : HostNode). host.backup) (ap (put world.hosts index new) (sym same) ∙ put-same world.hosts index new) ∙
-        ap (λ k. restart (next_server (world.hosts k)) kept (world.hosts k).backup) same;
-    says = ap (λ k. world.sent ++ to_coordinator (next_server (world.hosts k)) Enlist ∷ []) same;
-  }
-    where
-      new : HostNode
-      new = (starts_host (world.hosts index) (next_server (world.hosts index)) kept).0
+  started {index} {kept} same is possible = search (arith, start-work, put-same)
 
   same-host : {index : ℕ} {work : NodeWork} → job_of world.sent one ≡ Some (record { node = TheHost index; work = work }) →
       is_possible world one ≡ true → Same (node_done world one (TheHost index) work)
-  same-host {index} {work} is possible =
-      split (nat_eq index i) (λ e. here (eqb-true index i e) (host-work (world.hosts index) work))
-      (λ e. inl (ap (λ (host : HostNode). host.generation) (put-other world.hosts index (host_step (world.hosts index) work).0 i e)))
-    where
-      new : HostNode
-      new = (host_step (world.hosts index) work).0
-
-      here : index ≡ i → (new.generation ≡ (world.hosts index).generation) ⊎ ((kept : List (ServerId × ℕ)) × (work ≡ Start kept)) →
-          Same (node_done world one (TheHost index) work)
-      here same (inl stays) =
-          inl (ap (λ (host : HostNode). host.generation) (ap (put world.hosts index new) (sym same) ∙ put-same world.hosts index new)
-          ∙ (stays ∙ ap (λ k. (world.hosts k).generation) same))
-      here same (inr (kept, starts)) =
-          inr (subst (λ (w : NodeWork). IsStart world one i (node_done world one (TheHost index) w)) (sym starts)
-          (started same (is ∙ ap (λ (w : NodeWork). Some (record { node = TheHost index; work = w })) starts) possible))
+  same-host {index} {work} is possible = search (arith, split, eqb-true, host-work, put-other, put-same, started)
 
   same-node_done : (node : NodeName) {work : NodeWork} → job_of world.sent one ≡ Some (record { node = node; work = work }) →
       is_possible world one ≡ true → Same (node_done world one node work)
@@ -205,10 +168,7 @@ module _ (world : World) (one : Event) (good : GoodWorld world) (x : ServerId) (
       where
         there : x ≡ server_of (world.hosts i) → P (host_step (world.hosts i) work).0.backup →
             P (put world.hosts i (host_step (world.hosts i) work).0 x.index).backup
-        there same p = subst (λ (host : HostNode). P host.backup)
-            (sym (ap (put world.hosts i (host_step (world.hosts i) work).0) (ap (λ (id : ServerId). id.index) same ∙
-            (good.hosts_are i).index) ∙
-            put-same world.hosts i (host_step (world.hosts i) work).0)) p
+        there same p = search (arith, put-same)
 
   no-outside : (work : NodeWork) → In message_said (outside_sends work) → ⊥
   no-outside (Ask addressee asked) (inl same) =

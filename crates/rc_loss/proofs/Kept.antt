@@ -1,13 +1,13 @@
 -- What backups keep: a closed replica's master has told it to close, and a segment that is marked freed was freed.
-use Rattle.std.proofs.Common.{◌≡◌, ◌⊎◌, ℕ, Bool, true, false, cond, not, nat_eq, nat_lt, List, [], ◌∷◌, Option}
+use Rattle.std.proofs.Common.{arith}
+use Rattle.std.proofs.Common.{◌≡◌, ◌⊎◌, ℕ, Bool, true, false, cond, nat_eq, nat_lt, List, [], ◌∷◌, Option}
 use Rattle.std.proofs.Common.{Some, None, refl, sym, ap, ◌∙◌, subst, inl, inr}
 use Rattle.std.specs.List.{list_any}
 use Rattle.std.proofs.lemmas.Bool.{cases_eq, eqb-true, or_cases, or_left, or_right}
 use Rattle.rc_model.specs.Model.{ServerId, Addr, Server, Message, Body, Place, Append, Close, Free, Gather}
-use Rattle.rc_model.specs.Model.{Replica, Backup, Held, replica_of, replica_after, put_replica, without_replica, with_held, is_freed}
-use Rattle.rc_model.specs.Model.{is_refused}
-use Rattle.rc_model.specs.Model.{keeps, stores, insert_once, frees, backup_takes, restarted, stays, closing_length, In}
-use Rattle.rc_model.proofs.Tests.{true_false, either}
+use Rattle.rc_model.specs.Model.{Replica, Backup, Held, replica_of, replica_after, put_replica, is_freed}
+use Rattle.rc_model.specs.Model.{keeps, stores, insert_once, frees, backup_takes, restarted, closing_length, In}
+use Rattle.rc_model.proofs.Tests.{either}
 use Rattle.rc_model.proofs.Tables.{put_id_each}
 use Rattle.rc_model.proofs.Storing.{closes-whole}
 use Rattle.rc_step_laws.specs.All.{Ascending}
@@ -32,25 +32,15 @@ freed-more more c = record { message = c.message; among = more _ c.among; from =
 
 pub kept-more : {sent sent_now : List Message} {m : ServerId} {held : Held} → More sent sent_now → GoodKept sent m held →
     GoodKept sent_now m held
-kept-more more p = record {
-  closed = λ s replica at is. closed-more more (p.closed s replica at is);
-  freed = λ s is. freed-more more (p.freed s is);
-}
+kept-more more p = search (arith, closed-more, freed-more)
 
 -- the same replicas, and the same marks
 kept-same : {sent : List Message} {m : ServerId} {old new : Held} → new.replicas ≡ old.replicas → new.freed ≡ old.freed →
     GoodKept sent m old → GoodKept sent m new
-kept-same replicas freed p = record {
-  closed = λ s replica at is. p.closed s replica (ap (replica_of s) (sym replicas) ∙ at) is;
-  freed = λ s is. p.freed s (ap (list_any (nat_eq s)) (sym freed) ∙ is);
-}
+kept-same replicas freed p = search arith
 
 any-insert-from : {s n : ℕ} (ns : List ℕ) → list_any (nat_eq s) (insert_once n ns) ≡ true → (s ≡ n) ⊎ (list_any (nat_eq s) ns ≡ true)
-any-insert-from {s} {n} [] e = by (or_cases (nat_eq s n) false e)
-  where
-    by : (nat_eq s n ≡ true) ⊎ (false ≡ true) → (s ≡ n) ⊎ (false ≡ true)
-    by (inl same) = inl (eqb-true s n same)
-    by (inr never) = inr never
+any-insert-from {s} {n} [] e = search (arith, or_cases, eqb-true)
 any-insert-from {s} {n} (k ∷ ns) e =
     either (λ (all : List ℕ). list_any (nat_eq s) all ≡ true → (s ≡ n) ⊎ (list_any (nat_eq s) (k ∷ ns) ≡ true)) (nat_lt n k) (n ∷ k ∷ ns)
     (cond (nat_eq n k) (k ∷ ns) (k ∷ insert_once n ns))
@@ -111,39 +101,17 @@ kept-keeps {sent} backup {m} {seg} says closing all (Some after) is =
 
 kept-stores : {sent : List Message} (backup : Backup) {m : ServerId} {seg : ℕ} (says : Body) → Closing sent m seg says →
     AllKept sent backup → AllKept sent (stores backup m seg says).0
-kept-stores {sent} backup {m} {seg} says closing all =
-    either (λ (after : Backup × List Message). AllKept sent after.0) (is_refused seg (backup.held m)) (backup, [])
-    (keeps backup m seg (replica_after (replica_of seg (backup.held m).replicas) says))
-    (λ _. all) (λ _. kept-keeps backup says closing all _ refl)
+kept-stores {sent} backup {m} {seg} says closing all = search (arith, kept-keeps)
 
 kept-frees : {sent : List Message} (backup : Backup) {m : ServerId} {seg : ℕ} → HasFreed sent m seg →
     Ascending (backup.held m).replicas → AllKept sent backup → AllKept sent (frees backup m seg)
-kept-frees {sent} backup {m} {seg} freed up all =
-    either (AllKept sent) (backup.held m).fenced backup (with_held m held backup) (λ _. all)
-    (λ _. put_id_each (λ other one. GoodKept sent other one) backup.held m held (record {
-      closed = λ s replica at closed. (all m).closed s replica
-          (replica_of-filter (λ one. not (nat_eq seg one.0)) s (backup.held m).replicas up at) closed;
-      freed = λ s is. by s (any-insert-from (backup.held m).freed is);
-    }) all)
-  where
-    held : Held
-    held = record {
-      fenced = false;
-      replicas = without_replica seg (backup.held m).replicas;
-      freed = insert_once seg (backup.held m).freed;
-    }
-
-    by : (s : ℕ) → (s ≡ seg) ⊎ (list_any (nat_eq s) (backup.held m).freed ≡ true) → HasFreed sent m s
-    by s (inl same) = subst (HasFreed sent m) (sym same) freed
-    by s (inr old) = (all m).freed s old
+kept-frees {sent} backup {m} {seg} freed up all = search (arith, put_id_each, replica_of-filter, any-insert-from)
 
 -- a step on a message that was sent
 pub kept-backup : (sent : List Message) (backup : Backup) (from to : Addr) (says : Body) →
     ((m : ServerId) → Ascending (backup.held m).replicas) → AllKept sent backup →
     In (record { from = from; to = to; body = says }) sent → AllKept sent (backup_takes backup from says).0
-kept-backup sent backup (Server m) to (Place seg epoch digest entries true) up all at =
-    kept-stores backup (Place seg epoch digest entries true)
-    (λ n e. record { message = _; among = at; from = refl; says = refl }) all
+kept-backup sent backup (Server m) to (Place seg epoch digest entries true) up all at = search (arith, kept-stores)
 kept-backup sent backup (Server m) to (Place seg epoch digest entries false) up all at =
     kept-stores backup (Place seg epoch digest entries false) (λ n e. cc) all
 kept-backup sent backup (Server m) to (Append seg offset entries) up all at =
@@ -152,15 +120,10 @@ kept-backup sent backup (Server m) to (Close seg len) up all at =
     kept-stores backup (Close seg len) (λ n e. record { message = _; among = at; from = refl; says = refl }) all
 kept-backup sent backup (Server m) to (Free seg) up all at =
     kept-frees backup (record { message = _; among = at; from = refl; says = refl }) (up m) all
-kept-backup sent backup from to (Gather attempt master) up all at =
-    put_id_each (λ other one. GoodKept sent other one) backup.held master (record (backup.held master) { fenced = true })
-    (kept-same refl refl (all master)) all
+kept-backup sent backup from to (Gather attempt master) up all at = search (arith, put_id_each, kept-same)
 kept-backup sent backup from to _ up all at = all
 
 -- a restart
 pub kept-restarted : {sent : List Message} {m : ServerId} (list : List (ServerId × ℕ)) {held : Held} → Ascending held.replicas →
     GoodKept sent m held → GoodKept sent m (restarted list m held)
-kept-restarted {m} list {held} up p = record {
-  closed = λ s replica at closed. p.closed s replica (replica_of-filter (stays list m) s held.replicas up at) closed;
-  freed = λ s never. true_false (sym never);
-}
+kept-restarted {m} list {held} up p = search (arith, replica_of-filter)

@@ -1,14 +1,13 @@
 -- Members of a segment: how many there are, and what is noted of them, when some are lost or replaced or tell.
-use Rattle.std.proofs.Common.{◌≡◌, ◌⊎◌, ℕ, suc, Bool, true, false, not, ◌||◌, List, [], ◌∷◌, length, map}
-use Rattle.std.proofs.Common.{Option, Some, None, refl, sym, ap, subst, inl, inr}
+use Rattle.std.proofs.Common.{arith}
+use Rattle.std.proofs.Common.{◌≡◌, ◌⊎◌, ℕ, suc, Bool, true, not, List, [], ◌∷◌, length, map}
+use Rattle.std.proofs.Common.{Some, refl, sym, ap, subst, inl, inr}
 use Rattle.std.proofs.lemmas.Bool.{and_parts}
-use Rattle.rc_model.specs.Model.{ServerId, Member, Told, Message, Stored, same_id, between, ServerList, has_crashed}
-use Rattle.rc_model.specs.Model.{new_member, told_with, is_heard, told_if_heard, told_closed, lost_if_crashed, replaced, In}
+use Rattle.rc_model.specs.Model.{ServerId, Member, Message, Stored, same_id, between, ServerList, has_crashed}
+use Rattle.rc_model.specs.Model.{new_member, told_with, is_heard, told_if_heard, lost_if_crashed, replaced, In}
 use Rattle.rc_model.proofs.Ids.{same_id-true}
 use Rattle.rc_model.proofs.Members.{In-map}
 use Rattle.rc_model.proofs.Tests.{either}
-use Rattle.rc_step_laws.specs.All.{HasToldClosed}
-use Rattle.rc_loss.specs.Loss.{HasStored}
 use Rattle.rc_loss.proofs.Placings.{IsKnown, AllKnown, HasClosed}
 
 -- How many
@@ -74,29 +73,7 @@ known-with : (sent : List Message) (m : ServerId) (s e : ℕ) (from : ServerId) 
     In (between from m (Stored s e len closed)) sent → (closed ≡ true → HasClosed sent m s) →
     (member : Member) → from ≡ member.id → IsKnown sent m s e member →
     IsKnown sent m s e (record member { told = Some (told_with member.told len closed) })
-known-with sent m s e from len closed at shuts member same old = record {
-  told = λ _. subst (λ x. HasStored sent x m s e) same (record { len = len; closed = closed; told = at });
-  shut = λ is. shut member.told old.shut is;
-  closed = λ is. was member.told old.closed is;
-}
-  where
-    new_closed : closed ≡ true → HasToldClosed sent member.id m s e
-    new_closed is = subst (λ x. HasToldClosed sent x m s e) same
-        (record { len = len; told = subst (λ c. In (between from m (Stored s e len c)) sent) is at })
-
-    of_or : {P : Type 0} (b : Bool) → (b ≡ true → P) → (closed ≡ true → P) → (b || closed) ≡ true → P
-    of_or true before new is = before refl
-    of_or false before new is = new is
-
-    shut : (told : Option Told) → (told_closed told ≡ true → HasToldClosed sent member.id m s e) →
-        (told_with told len closed).closed ≡ true → HasToldClosed sent member.id m s e
-    shut None before is = new_closed is
-    shut (Some told) before is = of_or told.closed before new_closed is
-
-    was : (told : Option Told) → (told_closed told ≡ true → HasClosed sent m s) → (told_with told len closed).closed ≡ true →
-        HasClosed sent m s
-    was None before is = shuts is
-    was (Some told) before is = of_or told.closed before shuts is
+known-with sent m s e from len closed at shuts member same old = search arith
 
 pub known-told : (sent : List Message) (m : ServerId) (s e : ℕ) (from : ServerId) (len : ℕ) (closed : Bool) →
     In (between from m (Stored s e len closed)) sent → (closed ≡ true → HasClosed sent m s) → (members : List Member) →

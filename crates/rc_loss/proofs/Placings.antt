@@ -1,8 +1,9 @@
 -- What holds of a master's log and of what the master has said: which segments were placed on all their members.
+use Rattle.std.proofs.Common.{arith}
 use Rattle.std.proofs.Common.{◌≡◌, ◌⊎◌, ℕ, ◌+◌, ◌<◌, ◌≤◌, true, List, ◌++◌, length, Option, Some, None}
-use Rattle.std.proofs.Common.{is_some, refl, sym, ap, ◌∙◌, subst, inl, inr}
+use Rattle.std.proofs.Common.{is_some, ◌∙◌, inl, inr}
 use Rattle.rc_model.specs.Model.{ServerId, Server, Member, Phase, Opening, Message, Body, Place, Close, Ready, Commit}
-use Rattle.rc_model.specs.Model.{Config, told_closed, all_placed, Segment, Log, with_segment, In}
+use Rattle.rc_model.specs.Model.{told_closed, all_placed, Segment, Log, with_segment, In}
 use Rattle.rc_model.proofs.Members.{In-append, In-left}
 use Rattle.rc_model.proofs.Tables.{put_each}
 use Rattle.rc_step_laws.specs.All.{IsOpened, HasToldClosed}
@@ -92,11 +93,7 @@ claims-map n r p _ c = tt
 
 pub known-more : {sent sent_now : List Message} {m : ServerId} {s e : ℕ} {member : Member} → More sent sent_now →
     IsKnown sent m s e member → IsKnown sent_now m s e member
-known-more more p = record {
-  told = λ is. (let t = p.told is in record { len = t.len; closed = t.closed; told = more _ t.told });
-  shut = λ is. (let t = p.shut is in record { len = t.len; told = more _ t.told });
-  closed = λ is. (let t = p.closed is in record { message = t.message; among = more _ t.among; from = t.from; says = t.says });
-}
+known-more more p = search arith
 
 pub shut-more : {sent sent_now : List Message} {m : ServerId} {s e : ℕ} → More sent sent_now → WasShut sent m s e → WasShut sent_now m s e
 shut-more more p =
@@ -182,9 +179,7 @@ placings-moved W own factor next lower head_placed each p = record {
 pub placings-put : {f : ℕ} (W : ℕ → ℕ → Type 0) {sent : List Message} {m : ServerId} {log : Log} {seg : ℕ} {segment : Segment} →
     Placings f W sent m log → GoodPlacing f W sent m log.head log.phase seg segment →
     Placings f W sent m (with_segment seg segment log)
-placings-put {f} W {sent} {m} {log} {seg} {segment} p good =
-    placings-moved W refl refl (λ s is. is) p.lower p.head_placed
-    (put_each (λ k (one : Segment). GoodPlacing f W sent m log.head log.phase k one) log.segments seg segment good p.each) p
+placings-put {f} W {sent} {m} {log} {seg} {segment} p good = search (arith, placings-moved, put_each)
 
 -- another config, with as many members of which what is noted is known, under an epoch under which no commit is
 -- marked that wasn't
@@ -194,22 +189,10 @@ pub good-config : {f : ℕ} (W : ℕ → ℕ → Type 0) {sent : List Message} {
     AllKnown sent m s new.config.epoch new.config.members →
     (new.commit_sent ≡ true → (old.commit_sent ≡ true) × (new.config.epoch ≡ old.config.epoch)) →
     GoodPlacing f W sent m head phase s old → GoodPlacing f W sent m head phase s new
-good-config W {sent} {m} {s} many same still known asked p = record {
-  many = λ above below. many ∙ p.many above below;
-  known = known;
-  next = λ is. p.next (sym same ∙ is);
-  shut = λ some is. subst (WasShut sent m s) (sym (still (sym same ∙ is))) (p.shut some (sym same ∙ is));
-  asked = λ is. (let a = asked is in subst (W s) (sym a.1) (p.asked a.0));
-}
+good-config W {sent} {m} {s} many same still known asked p = search arith
 
 -- the same config
 pub good-alike : {f : ℕ} (W : ℕ → ℕ → Type 0) {sent : List Message} {m : ServerId} {head : ℕ} {phase : Phase} {s : ℕ}
     {old new : Segment} → new.config ≡ old.config → new.shut ≡ old.shut → new.commit_sent ≡ old.commit_sent →
     GoodPlacing f W sent m head phase s old → GoodPlacing f W sent m head phase s new
-good-alike W {sent} {m} {s} config same marked p = record {
-  many = λ above below. ap (λ (c : Config). length c.members) config ∙ p.many above below;
-  known = subst (λ (c : Config). AllKnown sent m s c.epoch c.members) (sym config) p.known;
-  next = λ is. p.next (sym same ∙ is);
-  shut = λ some is. subst (λ (c : Config). WasShut sent m s c.epoch) (sym config) (p.shut some (sym same ∙ is));
-  asked = λ is. subst (λ (c : Config). W s c.epoch) (sym config) (p.asked (sym marked ∙ is));
-}
+good-alike W {sent} {m} {s} config same marked p = search arith

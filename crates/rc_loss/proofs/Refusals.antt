@@ -44,11 +44,7 @@ all-or-one A B (x ∷ xs) each = by (each x (inl refl)) (all-or-one A B xs (λ y
   where
     by : A x ⊎ B x → ((y : _) → In y xs → A y) ⊎ ((y : _) × (In y xs) × B y) →
         ((y : _) → (y ≡ x) ⊎ In y xs → A y) ⊎ ((y : _) × ((y ≡ x) ⊎ In y xs) × B y)
-    by (inl a) (inl all) = inl each_one
-      where
-        each_one : (y : _) → (y ≡ x) ⊎ In y xs → A y
-        each_one y (inl same) = subst A (sym same) a
-        each_one y (inr rest) = all y rest
+    by (inl a) (inl all) = search arith
     by (inl a) (inr one) = inr (one.0, inr one.1, one.2)
     by (inr b) rest = inr (x, inl refl, b)
 
@@ -58,10 +54,7 @@ above-valid : (s : ℕ) {epoch e : ℕ} (least : Pair) → is_below (record { se
 above-valid s least valid more = grind (arith, nat_tests)
 
 below-none : (s e : ℕ) {least : Pair} → least ≡ record { seg = 0; epoch = 0 } → is_below (record { seg = s; epoch = e }) least ≡ false
-below-none s e none = subst (λ (pair : Pair). is_below (record { seg = s; epoch = e }) pair ≡ false) (sym none) zero_least
-  where
-    zero_least : is_below (record { seg = s; epoch = e }) (record { seg = 0; epoch = 0 }) ≡ false
-    zero_least = grind (arith, nat_tests)
+below-none s e none = search (arith, nat_tests)
 
 below-less : {s : ℕ} (e : ℕ) (least : Pair) → least.seg < s → is_below (record { seg = s; epoch = e }) least ≡ false
 below-less e least less = grind (arith, nat_tests)
@@ -258,13 +251,7 @@ module _ (setup : Setup) (events : List Event) (m : ServerId) (hosts : ℕ → L
   ready-first ready = ((loss-facts setup events).masters m).said (to_coordinator m Ready) ready refl
 
   opened-is : WasPlaced setup events m 1 → 0 < (log_of setup events m).head
-  opened-is placed = by_beginning placed.before placed.beginning
-      (leb-true 1 (log_of setup placed.before m).head (and_parts (nat_lt 0 1) (nat_le 1
-      (log_of setup placed.before m).head) placed.opened).1)
-    where
-      by_beginning : (before : List Event) → Begins before events → 1 ≤ (log_of setup before m).head → 0 < (log_of setup events m).head
-      by_beginning before (rest, same) has = subst (λ (all : List Event). 0 < (log_of setup all m).head) same
-          (let up = (since-more setup before rest {m = m}).later.head in omega (arith, up, has))
+  opened-is placed = search (arith, leb-true, and_parts, nat_lt, since-more)
 
   ready-above : WasReady (sent_after setup events) m → 0 < (log_of setup events m).head
   ready-above ready = opened-is (ready-first ready).1.placed
@@ -311,16 +298,7 @@ module _ (setup : Setup) (events : List Event) (m : ServerId) (hosts : ℕ → L
       is_below (record { seg = s; epoch = e }) ((replay setup events).coordinator.least m) ≡ false →
       (held : HeldRow) × (In held (held_rows replies)) × (held.row ≡ row_of_replica (s, stands.replica)) ×
       (is_valid ((replay setup events).coordinator.least m) held.row ≡ true)
-  valid-row {s} stands valid = (
-    stands.held,
-    stands.among,
-    stands.row,
-    subst (λ (row : Row). is_valid ((replay setup events).coordinator.least m) row ≡ true) (sym stands.row) counts,
-  )
-    where
-      counts : is_valid ((replay setup events).coordinator.least m) (row_of_replica (s, stands.replica)) ≡ true
-      counts = or_right stands.replica.closed _ (ap not
-          (above-valid s ((replay setup events).coordinator.least m) valid stands.upto))
+  valid-row {s} stands valid = search (arith, or_right, above-valid)
 
   -- No head
 
@@ -430,15 +408,7 @@ module _ (setup : Setup) (events : List Event) (m : ServerId) (hosts : ℕ → L
     )
       where
         freed : IsLeftOut (log_of setup events m) t → ⊥
-        freed out = which (cases_order row.seg out.head)
-          where
-            lacks : out.head ≤ row.seg → ⊥
-            lacks from = out.lacks row.seg from copy.opened.below in_digest
-
-            which : (row.seg ≡ out.head) ⊎ ((row.seg < out.head) ⊎ (out.head < row.seg)) → ⊥
-            which (inl same) = lacks (omega (arith, same))
-            which (inr (inl less)) = row-unshut (out.shut row.seg copy.opened.above less)
-            which (inr (inr more)) = lacks (omega (arith, more))
+        freed out = search (arith, cases_order, in_digest, row-unshut)
 
         stands-valid : (x : ServerId) (e len : ℕ) → StillStands (held_at (replay setup events).hosts x.index m) t e len true → In
             x.index (hosts t)
@@ -502,9 +472,7 @@ module _ (setup : Setup) (events : List Event) (m : ServerId) (hosts : ℕ → L
       outcome t same (inr (shut, absent)) = inr (t, same, shut, absent)
 
       by_fault : 0 < factor_of setup m.index → IsMissing fault → Refusal fault
-      by_fault some (inl same) = inl (no-head (head_missing ((replay setup events).coordinator.least m) replies
-          (subst (λ (one : Fault). pick ((replay setup events).coordinator.least m) replies ≡ Err one) same refused))
-          (least-unshut some ready) some)
+      by_fault some (inl same) = search (arith, no-head, head_missing, least-unshut)
       by_fault some (inr (t, same)) =
           outcome t same (segment-gone (segment_missing ((replay setup events).coordinator.least m) replies t
           (subst (λ (one : Fault). pick ((replay setup events).coordinator.least m) replies ≡ Err one) same refused)) some)

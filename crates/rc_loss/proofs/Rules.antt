@@ -3,12 +3,12 @@ use Rattle.std.proofs.Common.{◌≡◌, ◌⊎◌, ℕ, ◌+◌, ◌<◌, ◌�
 use Rattle.std.proofs.Common.{length, map, Option, Some, None, Result, Ok, Err, refl, sym, ◌∙◌, subst, inl, inr, arith}
 use Rattle.std.proofs.lemmas.Bool.{eqb-true}
 use Rattle.std.proofs.lemmas.List.{length-map}
-use Rattle.rc_model.specs.Model.{ServerId, Member, Phase, Opening, Fault, EpochsExhausted, LAST_EPOCH, Message, Stored}
-use Rattle.rc_model.specs.Model.{between, ServerList, Config, new_member, any_lost, lost_if_crashed, with_lost, substitutes_for}
+use Rattle.rc_model.specs.Model.{ServerId, Phase, Opening, Fault, EpochsExhausted, LAST_EPOCH, Message, Stored}
+use Rattle.rc_model.specs.Model.{between, ServerList, Config, any_lost, lost_if_crashed, with_lost, substitutes_for}
 use Rattle.rc_model.specs.Model.{replaced, changed, changes_to, lose, refills_with, refill, told_if_heard, noted, committed_at, Segment}
 use Rattle.rc_model.specs.Model.{new_segment, under_new_epoch, Log, with_segment, has_segment, opens_head, with_config, opens_change}
-use Rattle.rc_model.specs.Model.{refills, loses, stored, commit_noted, all_placed, In}
-use Rattle.rc_model.proofs.Tests.{true_false, either}
+use Rattle.rc_model.specs.Model.{refills, loses, stored, commit_noted, In}
+use Rattle.rc_model.proofs.Tests.{either}
 use Rattle.rc_model.proofs.Tables.{put_each}
 use Rattle.rc_log_laws.proofs.MasterWorlds.{put-cases}
 use Rattle.rc_loss.proofs.Placings.{IsNext, Some_placed, HasClosed, AllKnown, GoodPlacing, Placings, PlacedNow, good-later, placings-moved}
@@ -52,14 +52,8 @@ module _ (f : ℕ) (W : ℕ → ℕ → Type 0) (sent : List Message) (m : Serve
       (log.segments seg).shut ≡ false → Placings f W sent m log →
       Placings f W sent m
       (with_segment seg (under_new_epoch (changed (with_lost servers (log.segments seg).config) ids) (log.segments seg)) log)
-  changed-put {log} seg servers ids unshut p = placings-put W p (good-config W
-      (length-map (replaced (map (lost_if_crashed servers) (log.segments seg).config.members) ids)
-      (λ (member : Member). new_member member.id) ∙
-      many-replaced (map (lost_if_crashed servers) (log.segments seg).config.members) ids ∙
-      length-map (log.segments seg).config.members (lost_if_crashed servers)) refl (λ is. true_false (sym is ∙ unshut))
-      (known-anew sent m seg ((log.segments seg).config.epoch + 1)
-      (replaced (map (lost_if_crashed servers) (log.segments seg).config.members) ids))
-      (λ never. true_false (sym never)) (p.each seg))
+  changed-put {log} seg servers ids unshut p =
+      search (arith, placings-put, good-config, length-map, many-replaced, known-anew)
 
   changes-put : {log : Log} (seg : ℕ) (servers : ServerList) (found : Option (List ServerId)) →
       (log.segments seg).shut ≡ false → Placings f W sent m log →
@@ -139,23 +133,12 @@ module _ (f : ℕ) (W : ℕ → ℕ → Type 0) (sent : List Message) (m : Serve
       lower s above (inr same) (inr none) = absurd (omega (arith, above, same, none))
 
       fresh : GoodPlacing f W sent m (log.head + 1) Opening (log.head + 1) (new_segment (log.head + 1) digest ids)
-      fresh = record {
-        many = λ above upto. length-map ids new_member ∙ many;
-        known = known-chosen sent m (log.head + 1) 0 ids;
-        next = λ never. true_false (sym never);
-        shut = λ some never. true_false (sym never);
-        asked = λ never. true_false (sym never);
-      }
+      fresh = search (arith, length-map, known-chosen)
 
   -- the phase goes on from Opening, where the head is placed on all, or from one in which it was
   pub phase-put : {log : Log} {phase : Phase} → (phase ≡ Opening → ⊥) → (0 < log.head) × Some_placed W log.head →
       Placings f W sent m log → Placings f W sent m (record log { phase = phase })
-  phase-put {log} {phase} not_opening placed p = placings-moved W refl refl next p.lower (λ _. placed)
-      (λ s. good-later W W (λ t e w. w) (λ message at. at) (λ above upto. upto) (next s) (p.each s)) p
-    where
-      next : (s : ℕ) → IsNext f log.head log.phase s → IsNext f log.head phase s
-      next s (inl less) = inl less
-      next s (inr (same, _)) = inr (same, λ some. not_opening)
+  phase-put {log} {phase} not_opening placed p = search (arith, placings-moved, good-later)
 
   -- the durable count
   pub counted-put : {log : Log} {n : ℕ} → Placings f W sent m log → Placings f W sent m (record log { durable = n })
@@ -165,11 +148,7 @@ module _ (f : ℕ) (W : ℕ → ℕ → Type 0) (sent : List Message) (m : Serve
 
 pub placed-kept : {old new : Log} → old.head ≤ new.head →
     ((s : ℕ) → s ≤ old.head → (new.segments s).config ≡ (old.segments s).config) → (s e : ℕ) → PlacedNow old s e → PlacedNow new s e
-placed-kept up same s e p = record {
-  opened = record { above = p.opened.above; below = omega (arith, up, p.opened.below) };
-  placed = subst (λ (config : Config). all_placed config ≡ true) (sym (same s p.opened.below)) p.placed;
-  epoch = subst (λ (config : Config). config.epoch ≡ e) (sym (same s p.opened.below)) p.epoch;
-}
+placed-kept up same s e p = search arith
 
 pub kept-put : {log : Log} (seg : ℕ) (segment : Segment) → segment.config ≡ (log.segments seg).config → (s e : ℕ) →
     PlacedNow log s e → PlacedNow (with_segment seg segment log) s e
@@ -178,6 +157,4 @@ kept-put {log} seg segment same = placed-kept (omega arith)
 
 pub kept-opens : {log : Log} (digest : List ℕ) (ids : List ServerId) (s e : ℕ) → PlacedNow log s e → PlacedNow
     (opens_head log digest ids) s e
-kept-opens {log} digest ids = placed-kept (omega arith)
-    (λ s upto. put-cases (λ k (one : Segment). k ≤ log.head → one.config ≡ (log.segments k).config) log.segments (log.head + 1)
-    (new_segment (log.head + 1) digest ids) (λ beyond. absurd (omega (arith, beyond))) (λ k _ _. refl) s upto)
+kept-opens {log} digest ids = search (arith, placed-kept, put-cases)

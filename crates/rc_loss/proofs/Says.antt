@@ -1,14 +1,13 @@
 -- What a master says again on its timer claims what holds.
-use Rattle.std.proofs.Common.{◌≡◌, ◌⊎◌, ℕ, ◌+◌, ◌<◌, true, cond, not, nat_lt, nat_eq, ◌&&◌, List, [], ◌∷◌, map, filter, drop}
-use Rattle.std.proofs.Common.{length, Option, Some, None, is_some, refl, sym, ap, ◌∙◌, subst, inl, inr, arith}
+use Rattle.std.proofs.Common.{◌≡◌, ◌⊎◌, ℕ, ◌<◌, true, cond, not, nat_lt, ◌&&◌, List, [], ◌∷◌, map, filter}
+use Rattle.std.proofs.Common.{Option, Some, None, is_some, refl, sym, subst, inl, inr, arith}
 use Rattle.std.proofs.lemmas.Bool.{and_parts, eqb-true}
-use Rattle.rc_model.specs.Model.{ServerId, Member, Told, Phase, Opening, Closing, Writing, Message, Append, Close, Ready}
-use Rattle.rc_model.specs.Model.{between, to_coordinator, Log, numbers_to, is_closing, is_writing, Master, Task, place_of}
-use Rattle.rc_model.specs.Model.{is_closing_old, lacking}
+use Rattle.rc_model.specs.Model.{ServerId, Member, Told, Phase, Opening, Closing, Writing, Message}
+use Rattle.rc_model.specs.Model.{between, Log, numbers_to, is_closing, is_writing, Master, Task, place_of}
+use Rattle.rc_model.specs.Model.{lacking}
 use Rattle.rc_model.specs.Model.{reminds_member, reminds_members, reminds_open, reminds_shut, reminds_shut_members, standing, to_remind}
-use Rattle.rc_model.specs.Model.{commits_again, fetch_of, fetches_again, has_not_come, recovered_again, awaits_grant, attempt_of, PartState}
+use Rattle.rc_model.specs.Model.{commits_again, fetch_of, fetches_again, has_not_come, recovered_again}
 use Rattle.rc_model.specs.Model.{ready_again, reminds}
-use Rattle.rc_types.specs.declared.messages.Body.TheVariants as body
 use Rattle.rc_model.proofs.Tests.{true_false, either}
 use Rattle.rc_model.proofs.Sending.{Each, each-none, each-one, each-both, each-map, each-if, each-commits}
 use Rattle.rc_loss.proofs.Placings.{IsNext, Some_placed, Claims, AllClaim, Placings}
@@ -41,23 +40,7 @@ module _ (f : ℕ) (W : ℕ → ℕ → Type 0) (sent : List Message) (m : Serve
   lacking-holds : (seg : ℕ) (member : Member) (told : Option Told) →
       Each Holds (map (λ body. between log.own member.id body) (lacking log seg told))
   lacking-holds seg member None = each-one Holds _ (λ never. true_false (sym never))
-  lacking-holds seg member (Some told) =
-      either (λ bodies. Each Holds (map (λ body. between log.own member.id body) bodies)) (nat_lt told.len (length
-      (log.segments seg).entries))
-      (Append seg told.len (map (λ one. one.0) (drop told.len (log.segments seg).entries)) ∷ [])
-      (cond (is_closing_old log seg && not told.closed) (Close seg (length (log.segments seg).entries) ∷ []) [])
-      (λ _. each-one Holds _ tt)
-      (λ _. either (λ bodies. Each Holds (map (λ body. between log.own member.id body) bodies)) (is_closing_old log seg && not told.closed)
-      (Close seg (length (log.segments seg).entries) ∷ []) [] (λ e. each-one Holds _ (old_head e)) (λ _. each-none Holds))
-    where
-      old_head : (is_closing_old log seg && not told.closed) ≡ true → IsNext f log.head log.phase seg
-      old_head e =
-          let first = and_parts (is_closing_old log seg) (not told.closed) e in
-          let second = and_parts (is_closing log.phase) (nat_eq (seg + 1) log.head && (log.segments seg).config.committed) first.0 in
-          inr (
-            eqb-true (seg + 1) log.head (and_parts (nat_eq (seg + 1) log.head) (log.segments seg).config.committed second.1).0,
-            λ some. closing-not log.phase second.0,
-          )
+  lacking-holds seg member (Some told) = search (arith, nat_lt, each-one, each-none, and_parts, eqb-true, closing-not)
 
   members-hold : (seg : ℕ) (members : List Member) → Each Holds (reminds_members log seg members)
   members-hold seg [] = each-none Holds
@@ -92,15 +75,10 @@ module _ (f : ℕ) (W : ℕ → ℕ → Type 0) (sent : List Message) (m : Serve
       (fetches-hold own master tasks)
 
   recovered-holds : (master : Master) → Each Holds (recovered_again master)
-  recovered-holds master = each-map Holds (λ (state : PartState). to_coordinator master.log.own
-      (body.Recovered (attempt_of state.part.term master.tasks) state.part.term))
-      (filter (awaits_grant master) master.ownership.parts) (λ state at. tt)
+  recovered-holds master = search (arith, each-map)
 
   ready-holds : (master : Master) → master.log.phase ≡ log.phase → Each Holds (ready_again master)
-  ready-holds master same = each-if Holds (is_writing master.log.phase && nat_eq (length master.ownership.grants) 0)
-      (to_coordinator master.log.own Ready ∷ []) (λ e. each-one Holds (to_coordinator master.log.own Ready)
-      (first-placed (writing-not log.phase
-      (sym (ap is_writing same) ∙ (and_parts (is_writing master.log.phase) (nat_eq (length master.ownership.grants) 0) e).0))))
+  ready-holds master same = search (arith, each-if, each-one, first-placed, writing-not, and_parts)
 
 pub reminds-hold : {f : ℕ} (W : ℕ → ℕ → Type 0) {sent : List Message} {m : ServerId} (before : Log) (master : Master) →
     Placings f W sent m master.log → AllClaim f W master.log (reminds before master).1

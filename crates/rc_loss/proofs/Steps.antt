@@ -1,4 +1,5 @@
 -- The steps of a master, and what they make of its placings: an input and the list rules first, then what follows up.
+use Rattle.std.proofs.Common.{arith}
 use Rattle.std.proofs.Common.{◌≡◌, ◌⊎◌, ℕ, ◌+◌, Bool, true, false, List, [], ◌∷◌, ◌++◌}
 use Rattle.std.proofs.Common.{length, Some, refl, sym, ◌∙◌, subst, inl, inr}
 use Rattle.std.proofs.lemmas.List.{append_assoc}
@@ -60,9 +61,7 @@ module _ (f : ℕ) (W : ℕ → ℕ → Type 0) (m : ServerId) where
     -- a segment goes whole to some, closed only where it is shut
     whole-claims : (sent : List Message) (log : Log) (seg : ℕ) (closed : Bool) (ids : List ServerId) →
         (closed ≡ true → IsNext f log.head log.phase seg) → AllClaim f W log (to_ids log.own ids (place_of log seg closed))
-    whole-claims sent log seg closed ids next =
-        each-to_ids (λ message. Claims (IsNext f log.head log.phase) (Some_placed W 1) W message.body) log.own ids
-        (place_of log seg closed) (λ id _. next)
+    whole-claims sent log seg closed ids next = search (arith, each-to_ids)
 
     begins-opens : (master : Master) (digest : List ℕ) {ids : List ServerId} (seg : ℕ) →
         choose seg master.log.own master.log.factor master.known ≡ Some ids →
@@ -131,9 +130,7 @@ module _ (f : ℕ) (W : ℕ → ℕ → Type 0) (m : ServerId) where
       where
         heard : (x : ServerId) (s e len : ℕ) (closed : Bool) → from ≡ Server x → says ≡ Stored s e len closed →
             In (between x m (Stored s e len closed)) known
-        heard x s e len closed is tells =
-            subst (λ (one : Addr). In (record { from = one; to = Server m; body = Stored s e len closed }) known) is
-            (subst (λ (some : Body). In (record { from = from; to = Server m; body = some }) known) tells at)
+        heard x s e len closed is tells = search arith
 
     pub begins-ticked : Ticked Begins
     begins-ticked = record {

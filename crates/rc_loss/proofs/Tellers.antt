@@ -6,7 +6,7 @@ use Rattle.rc_model.specs.Model.{ServerId, Addr, Server, Setup, Event, Member, M
 use Rattle.rc_model.specs.Model.{backup_takes, ids_of, Master, master_takes, master_ticks, factor_of, NodeWork, HostNode, server_of}
 use Rattle.rc_model.specs.Model.{host_step}
 use Rattle.rc_model.specs.Model.{next_server, with_backup, with_master, World, opening, NodeName, TheOutside, TheCoordinator, TheHost, Job}
-use Rattle.rc_model.specs.Model.{job_of, is_possible, with_last_view, host_done, node_done, job_done, step, replay, In}
+use Rattle.rc_model.specs.Model.{job_of, is_possible, host_done, node_done, job_done, step, replay, In}
 use Rattle.rc_types.specs.declared.ids.Addr.TheVariants.{Coordinator as AtCoordinator}
 use Rattle.rc_model.specs.Nodes.{Start}
 use Rattle.rc_model.proofs.Replays.{replay_from-push}
@@ -44,10 +44,7 @@ module _ (world : World) (one : Event) (good : GoodWorld world) (m : ServerId) w
 
     done-backup : {master : Master} → (world.hosts i).master ≡ Some master → (after : Backup × List Message) →
         Done (with_backup (world.hosts i) after)
-    done-backup {master} is (backup, messages) =
-        inl (ap (λ (found : Option Master). with_last_view world.masters found m) is ∙
-        ap (λ (table : ServerId → Master). table m) (put_id-found {masters = world.masters} master.log.own {master = master}
-        (ap world.masters (is-good world one i good {master = master} is).own ∙ (good.hosts_are i).runs master is)))
+    done-backup {master} is (backup, messages) = search (arith, put_id-found, is-good)
 
     no-enlist : (x : ServerId) (s e len : ℕ) (closed : Bool) →
         In (between x m (Stored s e len closed)) (to_coordinator (next_server (world.hosts i)) Enlist ∷ []) → ⊥

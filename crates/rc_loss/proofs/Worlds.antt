@@ -1,16 +1,14 @@
 -- Each world that a list of events leads to: what was placed, what backups keep, and what was told stands or is lost.
-use Rattle.std.proofs.Common.{◌≡◌, ◌⊎◌, ℕ, Bool, true, false, ◌&&◌, ◌||◌, nat_lt, nat_le, List, [], ◌∷◌, ◌++◌, length, Some, None}
-use Rattle.std.proofs.Common.{refl, sym, ap, ◌∙◌, subst, inl, inr, arith}
+use Rattle.std.proofs.Common.{◌≡◌, ◌⊎◌, ℕ, Bool, true, false, ◌||◌, nat_lt, List, [], ◌∷◌, ◌++◌, length, Some}
+use Rattle.std.proofs.Common.{refl, sym, subst, inl, inr, arith}
 use Rattle.std.proofs.lemmas.Bool.{or_parts, lt-ltb, le-leb}
 use Rattle.std.proofs.lemmas.List.{append-nil, append_assoc}
 use Rattle.rc_model.specs.Model.{ServerId, Setup, Event, Stored}
 use Rattle.rc_model.specs.Model.{between, Backup, Held, replica_of, is_freed, is_kept}
 use Rattle.rc_model.specs.Model.{stays, Log, has_segment}
-use Rattle.rc_model.specs.Model.{factor_of, World, opening, is_possible, step, replay, In}
-use Rattle.rc_types.specs.declared.events.Event.TheVariants as event
+use Rattle.rc_model.specs.Model.{factor_of, World, opening, step, replay, In}
 use Rattle.rc_model.proofs.Replays.{replay_from-push}
 use Rattle.rc_model.proofs.Storing.{stay-found}
-use Rattle.rc_model.proofs.Tests.{true_false}
 use Rattle.rc_step_laws.specs.All.{Begins, IsOpened, held_at, StillStands, HeldLater}
 use Rattle.rc_step_laws.proofs.Copies.{split}
 use Rattle.rc_step_laws.proofs.Lists.{begins-trans}
@@ -46,11 +44,7 @@ placed-later one p = record {
 }
 
 pub opened-has : {log : Log} {s : ℕ} → IsOpened log s → has_segment log s ≡ true
-opened-has {log} {s} p = both (nat_lt 0 s) (nat_le s log.head) (lt-ltb 0 s p.above) (le-leb s log.head p.below)
-  where
-    both : (a b : Bool) → a ≡ true → b ≡ true → (a && b) ≡ true
-    both true b e f = f
-    both false b e f = e
+opened-has {log} {s} p = search (arith, nat_lt, lt-ltb, le-leb)
 
 -- and what is placed now
 placed-now : {setup : Setup} {events : List Event} {m : ServerId} {s e : ℕ} → PlacedNow (log_of setup events m) s e →
@@ -74,18 +68,7 @@ Standing setup events world x m s e len closed = StillStands (held_at world.host
 
 dropped-later : {setup : Setup} {events : List Event} (one : Event) {x m : ServerId} {s e : ℕ} → WasDropped setup events x m s e →
     WasDropped setup (events ++ one ∷ []) x m s e
-dropped-later one {x} p = record {
-  before = p.before;
-  kept = p.kept;
-  beginning = begins-more (p.before ++ event.Start x.index p.kept ∷ []) one p.beginning;
-  told = p.told;
-  possible = p.possible;
-  replica = p.replica;
-  had = p.had;
-  unclosed = p.unclosed;
-  since = p.since;
-  unnamed = p.unnamed;
-}
+dropped-later one {x} p = search (arith, begins-more)
 
 -- a replica that is above what was told, where a later one is above it
 stands-then : {old new : Held} {s e len : ℕ} {closed : Bool} → HeldLater old new → StillStands old s e len closed →
@@ -94,13 +77,7 @@ stands-then {new} {s} {e} {len} {closed} later p = by (later.replicas s p.replic
   where
     by : StillStands new s p.replica.epoch (length p.replica.entries) p.replica.closed ⊎ (is_freed s new ≡ true) →
         StillStands new s e len closed ⊎ (is_freed s new ≡ true)
-    by (inl q) = inl (record {
-      replica = q.replica;
-      kept = q.kept;
-      epoch = omega (arith, p.epoch, q.epoch);
-      enough = omega (arith, p.enough, q.enough);
-      closed_too = λ is. q.closed_too (p.closed_too is);
-    })
+    by (inl q) = search arith
     by (inr freed) = inr freed
 
 -- All of it
@@ -114,28 +91,7 @@ pub record LossFacts (setup : Setup) (events : List Event) (world : World) : Typ
       Standing setup events world x m s e len closed
 
 pub facts-opening : {setup : Setup} → LossFacts setup [] (opening setup)
-facts-opening = record {
-  masters = λ m. record {
-    own = refl;
-    factor = refl;
-    said = λ message at. absurd at;
-    lower = λ s above below. absurd (omega (arith, below));
-    head_placed = λ never. absurd (never refl);
-    each = λ s. record {
-      many = λ above upto. absurd (omega (arith, above, upto));
-      known = λ member at. absurd at;
-      next = λ never. true_false (sym never);
-      shut = λ some never. true_false (sym never);
-      asked = λ never. true_false (sym never);
-    };
-  };
-  hosts = λ i m. record { closed = λ s replica never is. none replica never; freed = λ s never. true_false (sym never) };
-  shut = λ m x s e len closed at. absurd at;
-  told = λ x m s e len closed at. absurd at;
-}
-  where
-    none : {P X : Type 0} (x : X) → None ≡ Some x → P
-    none x never = cc
+facts-opening = search arith
 
 module _ (setup : Setup) (events : List Event) (one : Event) (p : LossFacts setup events (replay setup events)) where
   world : World
@@ -198,28 +154,7 @@ module _ (setup : Setup) (events : List Event) (one : Event) (p : LossFacts setu
         })
 
         lost : (stands.replica.closed || is_kept start.kept m s) ≡ false → StandsNow
-        lost gone =
-            let parts : (stands.replica.closed ≡ false) × (is_kept start.kept m s ≡ false) =
-            or_parts stands.replica.closed (is_kept start.kept m s) gone in
-            inr (inr (
-              λ is. true_false (sym (stands.closed_too is) ∙ parts.0),
-              record {
-                before = events;
-                kept = start.kept;
-                beginning = (
-                  [],
-                  append-nil (events ++ event.Start x.index start.kept ∷ []) ∙ ap (λ
-                      (last : Event). events ++ last ∷ []) (sym start.is),
-                );
-                told = told;
-                possible = subst (λ (last : Event). is_possible (replay setup events) last ≡ true) start.is start.possible;
-                replica = stands.replica;
-                had = stands.kept;
-                unclosed = parts.0;
-                since = stands.epoch;
-                unnamed = parts.1;
-              },
-            ))
+        lost gone = search (arith, or_parts, kept, append-nil)
 
     -- or it stays the same
     stays-on : ((step (replay setup events) one).hosts x.index).generation ≡ ((replay setup events).hosts x.index).generation →
@@ -235,12 +170,7 @@ module _ (setup : Setup) (events : List Event) (one : Event) (p : LossFacts setu
     stands-now at = by (told-stands (replay setup events) one (good-world setup events) x m s e len closed at)
       where
         was : HasStored (replay setup events).sent x m s e → Standing setup events (replay setup events) x m s e len closed → StandsNow
-        was told (inl stands) = which (same-or-start (replay setup events) one x.index)
-          where
-            which : (((step (replay setup events) one).hosts x.index).generation ≡ ((replay setup events).hosts x.index).generation)
-                ⊎ IsStart (replay setup events) one x.index (step (replay setup events) one) → StandsNow
-            which (inl still) = stays-on still stands
-            which (inr start) = restarts told start stands
+        was told (inl stands) = search (arith, same-or-start, stays-on, restarts)
         was told (inr (inl freed)) = inr (inl (freed-more led.onward.more freed))
         was told (inr (inr dropped)) = inr (inr (dropped.0, dropped-later one dropped.1))
 

@@ -1,18 +1,15 @@
 -- What a read finds among entries: the greatest version of its key under its term, of one of them, or 0.
-use Rattle.std.proofs.Common.{◌≡◌, ◌⊎◌, ℕ, ◌<◌, ◌≤◌, true, false, ◌&&◌, nat_eq, nat_lt, List, [], ◌∷◌, Option, Some, None}
+use Rattle.std.proofs.Common.{◌≡◌, ◌⊎◌, ℕ, ◌≤◌, true, ◌&&◌, nat_lt, List, [], ◌∷◌, Option, Some, None}
 use Rattle.std.proofs.Common.{refl, sym, ap, ◌∙◌, subst, inl, inr, arith}
 use Rattle.std.proofs.lemmas.Bool.{and_parts, eqb-true, ltb-true, and_from}
 use Rattle.std.specs.List.{fold}
 use Rattle.rc_model.specs.Model.{Entry, is_of, is_above, Found, found_in, or_greater, read_of, In}
-use Rattle.rc_model.proofs.Tests.{true_false, either}
+use Rattle.rc_model.proofs.Tests.{either}
 use Rattle.rc_owner_laws.proofs.Appending.{is-of-true}
 
 of-is : {term table key : ℕ} (entry : Entry) → is_of term table key entry ≡ true → (entry.term ≡ term) × (entry.table ≡ table)
     × (entry.key ≡ key)
-of-is {term} {table} {key} entry e =
-    let p = and_parts (nat_eq entry.term term) (nat_eq entry.table table && nat_eq entry.key key) e in
-    let q = and_parts (nat_eq entry.table table) (nat_eq entry.key key) p.1 in
-    (eqb-true entry.term term p.0, eqb-true entry.table table q.0, eqb-true entry.key key q.1)
+of-is {term} {table} {key} entry e = search (arith, and_parts, eqb-true)
 
 module _ (term table key : ℕ) where
   -- what is found is an entry's
@@ -35,35 +32,11 @@ module _ (term table key : ℕ) where
   or-least : (found : Option Entry) (entry : Entry) →
       (found_in found).version ≤ (found_in (or_greater term table key found entry)).version
   or-least None entry = omega arith
-  or-least (Some old) entry =
-      either (λ (now : Option Entry). old.version ≤ (found_in now).version) (is_of term table key entry && nat_lt old.version entry.version)
-      (Some entry) (Some old) (λ e. let less : old.version < entry.version = ltb-true old.version entry.version
-      (and_parts (is_of term table key entry) (nat_lt old.version entry.version) e).1 in omega arith)
-      (λ e. omega arith)
+  or-least (Some old) entry = search (arith, nat_lt, ltb-true, and_parts)
 
   or-above : (found : Option Entry) (entry : Entry) → is_of term table key entry ≡ true →
       entry.version ≤ (found_in (or_greater term table key found entry)).version
-  or-above found entry of = either (λ (now : Option Entry). entry.version ≤ (found_in now).version)
-      (is_of term table key entry && is_above found entry.version) (Some entry) found
-      (λ e. omega arith) (not-above found)
-    where
-      ways : (a b : ℕ) → (b < a) ⊎ (a ≤ b)
-      ways a b = grind arith
-
-      less-test : (a b : ℕ) → a < b → nat_lt a b ≡ true
-      less-test a b less = grind arith
-
-      not-less : (old : Entry) → (old.version < entry.version) ⊎ (entry.version ≤ old.version) →
-          (is_of term table key entry && nat_lt old.version entry.version) ≡ false → entry.version ≤ old.version
-      not-less old (inr p) e = p
-      not-less old (inl less) e = true_false
-          (sym (and_from (is_of term table key entry) (nat_lt old.version entry.version) of
-          (less-test old.version entry.version less)) ∙ e)
-
-      not-above : (found : Option Entry) → (is_of term table key entry && is_above found entry.version) ≡ false →
-          entry.version ≤ (found_in found).version
-      not-above None e = true_false (sym (and_from (is_of term table key entry) true of refl) ∙ e)
-      not-above (Some old) e = not-less old (ways entry.version old.version) e
+  or-above found entry of = search (arith, nat_lt, and_from)
 
   from-least : (found : Option Entry) (entries : List Entry) →
       (found_in found).version ≤ (found_in (fold (or_greater term table key) found entries)).version
@@ -77,12 +50,7 @@ module _ (term table key : ℕ) where
       entry.version ≤ (found_in (fold (or_greater term table key) found entries)).version
   from-above found [] entry at of = absurd at
   from-above found (first ∷ entries) entry (inr at) of = from-above (or_greater term table key found first) entries entry at of
-  from-above found (first ∷ entries) entry (inl same) of =
-      let a : first.version ≤ (found_in (or_greater term table key found first)).version = or-above found first
-      (subst (λ (one : Entry). is_of term table key one ≡ true) same of) in
-      let b = from-least (or_greater term table key found first) entries in
-      let c : entry.version ≡ first.version = ap (λ (one : Entry). one.version) same in
-      omega arith
+  from-above found (first ∷ entries) entry (inl same) of = search (arith, or-above, from-least)
 
   or-is : {found : Option Entry} {entry : Entry} → (or_greater term table key found entry ≡ found)
       ⊎ IsOne (entry ∷ []) (or_greater term table key found entry)
@@ -149,9 +117,4 @@ module _ (term table key : ℕ) where
   -- and above 0 it is one of them
   pub read-is : {entries : List Entry} → ((read_of term table key entries).version ≡ 0 → ⊥) →
       IsFound entries (read_of term table key entries)
-  read-is {entries} above = by (read-ways)
-    where
-      by : (read_of term table key entries ≡ record { version = 0; value = None }) ⊎ IsFound entries (read_of term table key entries) →
-          IsFound entries (read_of term table key entries)
-      by (inl e) = absurd (above (ap (λ (found : Found). found.version) e))
-      by (inr p) = p
+  read-is {entries} above = search (arith, read-ways)

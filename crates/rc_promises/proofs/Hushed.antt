@@ -1,6 +1,7 @@
 -- A master answers a read by a ReadOk, and sends none besides.
+use Rattle.std.proofs.Common.{arith}
 use Rattle.std.proofs.Common.{◌≡◌, Bool, true, false, List, [], ◌∷◌, refl, subst}
-use Rattle.rc_model.specs.Model.{ServerId, Addr, Message, Body, Read, ReadOk, left_out, Master, to_ids, then_does, goes_on, new_durable}
+use Rattle.rc_model.specs.Model.{ServerId, Addr, Message, Body, Read, ReadOk, Master, to_ids, then_does, goes_on}
 use Rattle.rc_model.specs.Model.{master_takes_first, deposed_takes, master_ticks}
 use Rattle.rc_model.proofs.Tests.{true_false}
 use Rattle.rc_model.proofs.Walk.{Joined, Listed, Taken, Ticked, Followed, kept-then, kept-takes_first, kept-deposed}
@@ -67,36 +68,10 @@ taken isn't = record {
 }
 
 ticked : Ticked By
-ticked = record {
-  enlists = λ master. one refl;
-  reminds = λ before master. record {
-    hushed = each-reminds is_hushed before master (record {
-      place = λ member seg closed at shut among. refl;
-      append = λ member seg len at. refl;
-      close = λ member seg at old. refl;
-    }) (λ seg awaits. refl) (record {
-      fetch = λ task row given among. refl;
-      recovered = λ state among awaits. refl;
-      ready = refl;
-    });
-  };
-}
+ticked = search (arith, one, each-reminds)
 
 followed : Followed By
-followed = record {
-  marks = λ master is. none;
-  starts = λ master may. one refl;
-  places = λ master may. none;
-  closes = λ master due. several _ _ _ refl;
-  shuts = λ master may. record { hushed = each-frees is_hushed master.log (left_out master.log) (λ seg id at. refl) };
-  commits = λ master seg open_one wants. one refl;
-  counts = λ master more. record {
-    hushed = each-write_oks is_hushed master.log.own (new_durable master.log) (λ place at client. refl);
-  };
-  rolls = λ master ids writing room chosen. several _ _ _ refl;
-  replays = λ master entry entries is writing room. several _ _ _ refl;
-  answers = λ master term is. one refl;
-}
+followed = search (arith, none, one, several, each-frees, each-write_oks)
 
 pub hush-then : {first : Master × List Message} {rule : Master → Master × List Message} → Hush first →
     ((after : Master) → Hush (rule after)) → Hush (then_does first rule)

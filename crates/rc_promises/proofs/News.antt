@@ -1,11 +1,12 @@
 -- What each event newly sends: a Write is sent by the outside alone, and a ReadOk is what its master read just then.
+use Rattle.std.proofs.Common.{arith}
 use Rattle.std.proofs.Common.{◌≡◌, ◌⊎◌, ℕ, false, List, [], ◌∷◌, ◌++◌, Option, Some, None, refl, sym, ap, ◌∙◌, subst, inl, inr}
 use Rattle.std.proofs.lemmas.List.{append-nil, append_assoc}
-use Rattle.rc_model.specs.Model.{ServerId, Addr, Server, Outside, Setup, Event, Message, Body, Write, Read, ReadOk, Enlist, put}
-use Rattle.rc_model.specs.Model.{to_coordinator, to_outside, Found, read_of, Backup, backup_takes, term_of, Master, durable_entries}
-use Rattle.rc_model.specs.Model.{then_does, goes_on, master_takes_first, deposed_takes, master_takes, master_ticks, NodeWork}
-use Rattle.rc_model.specs.Model.{HostNode, outside_sends, coordinator_step, server_of, host_step, starts_host, next_server, World, opening}
-use Rattle.rc_model.specs.Model.{NodeName, TheOutside, TheCoordinator, TheHost, Job, job_of, is_possible, node_done, job_done, step}
+use Rattle.rc_model.specs.Model.{ServerId, Addr, Server, Outside, Setup, Event, Message, Body, Write, Read, ReadOk, put}
+use Rattle.rc_model.specs.Model.{to_outside, Found, read_of, Backup, term_of, Master, durable_entries}
+use Rattle.rc_model.specs.Model.{then_does, goes_on, master_takes_first, deposed_takes, master_takes, NodeWork}
+use Rattle.rc_model.specs.Model.{HostNode, outside_sends, server_of, host_step, starts_host, next_server, World, opening}
+use Rattle.rc_model.specs.Model.{NodeName, TheOutside, TheCoordinator, TheHost, Job, job_of, node_done, job_done, step}
 use Rattle.rc_model.specs.Model.{replay, In, reads_under, refused, NotOwner}
 use Rattle.rc_types.specs.declared.ids.Addr.TheVariants.{Coordinator as AtCoordinator}
 use Rattle.rc_model.specs.Coordinator.{Coordinator}
@@ -36,10 +37,7 @@ pub stands-where : {X : Type 0} (xs : List X) {ys : List X} (before : List X) {x
     → xs ++ ys ≡ before ++ x ∷ after → StandsFirst xs before x
     ⊎ StandsSecond xs ys before x after
 stands-where [] before e = inr (record { between = before; before_is = refl; whole = e })
-stands-where {X} (z ∷ xs) [] {x} {after} e = inl (record { after = xs; whole = ap (λ (one : X). one ∷ xs) heads })
-  where
-    heads : z ≡ x
-    heads = cc
+stands-where {X} (z ∷ xs) [] {x} {after} e = search arith
 stands-where {X} (z ∷ xs) {ys} (y ∷ before) {x} {after} e = by
     (stands-where xs before (let tails : xs ++ ys ≡ before ++ x ∷ after = cc in tails))
   where
@@ -49,11 +47,7 @@ stands-where {X} (z ∷ xs) {ys} (y ∷ before) {x} {after} e = by
     by : StandsFirst xs before x ⊎ StandsSecond xs ys before x after → StandsFirst (z ∷ xs) (y ∷ before) x
         ⊎ StandsSecond (z ∷ xs) ys (y ∷ before) x after
     by (inl p) = inl (record { after = p.after; whole = ap (λ l. z ∷ l) p.whole ∙ ap (λ (one : X). one ∷ before ++ x ∷ p.after) heads })
-    by (inr p) = inr (record {
-      between = p.between;
-      before_is = ap (λ l. y ∷ l) p.before_is ∙ ap (λ (one : X). one ∷ xs ++ p.between) (sym heads);
-      whole = p.whole;
-    })
+    by (inr p) = search (arith, heads)
 
 -- A read
 
@@ -88,39 +82,8 @@ answer-first : {master : Master} {term table key : ℕ} → term_of master.owner
     {t k version : ℕ} {value : Option (List ℕ)} → message.body ≡ ReadOk t k version value → Reads master before t k version value
 answer-first owned {rest} hushed (one ∷ before) message after e says =
     hushed-no before message after hushed (let tails : rest ≡ before ++ message ∷ after = cc in tails) says
-answer-first {master} {term} {table} {key} owned hushed [] message after e {t} {k} {version} {value} says = record {
-  first = refl;
-  term = term;
-  owned = subst (λ n. term_of master.ownership n k ≡ Some term) tables
-      (subst (λ n. term_of master.ownership table n ≡ Some term) keys owned);
-  found = subst (λ n. ◌≡◌ {A = Found} (read_of term n k (durable_entries master)) (record { version = version; value = value })) tables
-      (subst (λ n. ◌≡◌ {A = Found} (read_of term table n (durable_entries master)) (record { version = version; value = value })) keys
-      (λ i. record { version = versions i; value = values i }));
-}
-  where
-    found : Found
-    found = read_of term table key (durable_entries master)
-
-    heads : to_outside master.log.own
-        (ReadOk table key (read_of term table key (durable_entries master)).version (read_of term table key (durable_entries master)).value)
-        ≡ message
-    heads = cc
-
-    bodies : ReadOk table key (read_of term table key (durable_entries master)).version
-        (read_of term table key (durable_entries master)).value ≡ ReadOk t k version value
-    bodies = ap (λ (one : Message). one.body) heads ∙ says
-
-    tables : table ≡ t
-    tables = cc
-
-    keys : key ≡ k
-    keys = cc
-
-    versions : (read_of term table key (durable_entries master)).version ≡ version
-    versions = cc
-
-    values : (read_of term table key (durable_entries master)).value ≡ value
-    values = cc
+answer-first {master} {term} {table} {key} owned hushed [] message after e {t} {k} {version} {value} says =
+    search arith
 
 reads-answered : {master : Master} (found : Option ℕ) (table key : ℕ) → term_of master.ownership table key ≡ found →
     ReadsBy master (then_does (option_map_or (λ term. reads_under master term table key) found (refused master NotOwner)) goes_on)
@@ -128,10 +91,7 @@ reads-answered {master} None table key e before message after same t k version v
   where
     refusal : (before : List Message) → (then_does (refused master NotOwner) goes_on).1 ≡ before ++ message ∷ after →
         Reads master before t k version value
-    refusal [] whole =
-        let heads : Rattle.rc_model.specs.Messages.refuses master.log.own Rattle.rc_types.specs.declared.faults.Fault.TheVariants.NotOwner ≡
-        message = cc in
-        true_false (sym (ap is_read_ok says) ∙ ap (λ (one : Message). is_read_ok one.body) (sym heads))
+    refusal [] whole = search (arith, is_read_ok)
     refusal (one ∷ rest) whole = hushed-no rest message after (hush-goes master).hushed
         (let tails : (goes_on master).1 ≡ rest ++ message ∷ after = cc in tails) says
 reads-answered {master} (Some term) table key e before message after same t k version value says =
@@ -175,15 +135,7 @@ news-none : {world : World} → IsNews world []
 news-none = news-quiet (λ message at. absurd at) (λ message at. absurd at)
 
 news-outside : {world : World} (work : NodeWork) → IsNews world (outside_sends work)
-news-outside (Ask to body) = news-quiet (λ message at table key value says. from message at)
-    (λ message at m server. not_server m (sym (from message at) ∙ server))
-  where
-    from : (message : Message) → In message (outside_sends (Ask to body)) → message.from ≡ Outside
-    from message (inl same) = ap (λ (one : Message). one.from) same
-    from message (inr never) = absurd never
-
-    not_server : {P : Type 0} (m : ServerId) → Outside ≡ Server m → P
-    not_server m e = cc
+news-outside (Ask to body) = search (arith, news-quiet)
 news-outside _ = news-none
 
 news-coordinator : {world : World} {after : Coordinator × List Message} → CoordinatorMoved world.sent world.coordinator after →
@@ -241,18 +193,7 @@ module _ (world : World) (one : Event) (i : ℕ) (good : GoodWorld world) where
   News after = IsNews world after.1
 
   news-starts : (kept : List (ServerId × ℕ)) → News (starts_host (world.hosts i) (next_server (world.hosts i)) kept)
-  news-starts kept = news-quiet asked quiet
-    where
-      asked : (message : Message) → In message (to_coordinator (next_server (world.hosts i)) Enlist ∷ []) →
-          (table key : ℕ) (value : Option (List ℕ)) → message.body ≡ Write table key value → message.from ≡ Outside
-      asked message (inl same) table key value says = let e : Enlist ≡ Write table key value = sym (ap (λ (it : Message). it.body) same)
-          ∙ says in cc
-      asked message (inr never) table key value says = absurd never
-
-      quiet : (message : Message) → In message (to_coordinator (next_server (world.hosts i)) Enlist ∷ []) → (m : ServerId) →
-          message.from ≡ Server m → is_read_ok message.body ≡ false
-      quiet message (inl same) m from = ap (λ (it : Message). is_read_ok it.body) same
-      quiet message (inr never) m from = absurd never
+  news-starts kept = search (arith, news-quiet, is_read_ok)
 
   news-host : (work : NodeWork) → IsGiven world.sent (TheHost i) work → News (host_step (world.hosts i) work)
   news-host work given = walked-host world one i good News (record {
@@ -275,11 +216,7 @@ pub record Adds (world after : World) : Type 0 where
 adds-node : {world : World} (one : Event) (node : NodeName) (work : NodeWork) → GoodWorld world → IsGiven world.sent node work →
     Adds world (node_done world one node work)
 adds-node one TheOutside work good given = record { messages = outside_sends work; grows = refl; news = news-outside work }
-adds-node {world} one TheCoordinator work good given = record {
-  messages = (coordinator_step world.coordinator work).1;
-  grows = refl;
-  news = news-coordinator (coordinator-moved world work good given);
-}
+adds-node {world} one TheCoordinator work good given = search (arith, news-coordinator, coordinator-moved)
 adds-node {world} one (TheHost i) work good given = record
     { messages = (host_step (world.hosts i) work).1; grows = refl; news = news-host world one i good work given }
 
@@ -292,9 +229,7 @@ adds-job one None is good = adds-none
 adds-job {world} one (Some job) is good = adds-node one job.node job.work good (job_of-given world.sent one is)
 
 pub adds-step : {world : World} (one : Event) → GoodWorld world → Adds world (step world one)
-adds-step {world} one good =
-    either (Adds world) (is_possible world one) (job_done world one (job_of world.sent one)) world
-    (λ _. adds-job one (job_of world.sent one) refl good) (λ _. adds-none)
+adds-step {world} one good = search (arith, adds-job, adds-none)
 
 -- In every world
 

@@ -90,9 +90,7 @@ among-durable setup events {m} {ack} p = by (oks-of m (counted_places ((replay s
 
         says : (ack.term ≡ place.entry.term) × (ack.table ≡ place.entry.table) × (ack.key ≡ place.entry.key)
             × (ack.version ≡ place.entry.version)
-        says = same-ok ack.seg ack.offset ack.term ack.table ack.key ack.version place.seg place.offset place.entry.term
-            place.entry.table place.entry.key place.entry.version
-            (sym p.says ∙ ap (λ (message : Message). message.body) is)
+        says = search (arith, same-ok)
 
 -- what a master counts stands at a place of its log
 pub record IsPlaced (log : Log) (entry : Entry) : Type 0 where
@@ -135,12 +133,7 @@ durable-later {setup} {past} rest {m} {s} {o} p = record {
 
     by : (t k : ℕ) → (j : ℕ) × (j ≤ p.moment) × IsTrue (is_stored_on_all (master_of (replay setup (take j past)) m).log t k) →
         (j : ℕ) × (j ≤ p.moment) × IsTrue (is_stored_on_all (master_of (replay setup (take j (past ++ rest))) m).log t k)
-    by t k (j, upto, stored) = (
-      j,
-      upto,
-      subst (λ (events : List Event). IsTrue (is_stored_on_all (master_of (replay setup events) m).log t k))
-          (same j (omega (arith, upto, p.happened))) stored,
-    )
+    by t k (j, upto, stored) = search (arith, same)
 
 -- The base of a grant stays as it was
 

@@ -1,4 +1,5 @@
 -- What a client may rely on, of nodes that run apart.
+use Rattle.std.proofs.Common.{arith}
 use Rattle.std.proofs.Common.{◌≡◌, List, ◌∷◌, ◌++◌, sym, ap, ◌∙◌, subst, append_assoc}
 use Rattle.std.proofs.lemmas.List.{map-append}
 use Rattle.rc_types.specs.declared.events.Setup.{Setup}
@@ -6,7 +7,7 @@ use Rattle.rc_model.specs.Model.{Entry, HasAcknowledged}
 use Rattle.rc_history.specs.Apart.{Step, events_by, sent_by, TakenApart}
 use Rattle.rc_history.proofs.Apart.{apart-history}
 use Rattle.rc_log_laws.specs.WordClaims.{sent_after}
-use Rattle.rc_promises.specs.Service.{HasAsked, IsWritten, IsOneWrite, HasRead}
+use Rattle.rc_promises.specs.Service.{HasAsked, IsWritten, IsOneWrite}
 use Rattle.rc_promises.specs.ServiceApart.{OneWriteApart, WrittenApart, TimeApart, ReadsApart}
 use Rattle.rc_promises.proofs.Once.{one-version-is-one-write, acknowledged-is-written}
 use Rattle.rc_promises.proofs.Time.{writes-follow-time}
@@ -44,6 +45,4 @@ time-apart setup steps more apart m x first later entry acknowledged written of_
     of_key (λ asked. unasked (subst (λ l. HasAsked l x later.table later.key entry.value) sent asked))
 
 pub reads-apart : ReadsApart
-reads-apart setup steps apart m before answer read =
-    reads-see-acknowledged-writes setup (events_by steps) m before answer
-    (subst (λ l. HasRead l m before answer) (sym (sent-apart apart)) read)
+reads-apart setup steps apart m before answer read = search (arith, reads-see-acknowledged-writes, sent-apart)

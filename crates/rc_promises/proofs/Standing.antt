@@ -37,11 +37,7 @@ module _ (sent : List Message) (masters : ServerId → Master) (hosts : ℕ → 
         by (inr (inr a)) q = less (inl a)
         by (inr (inl e)) (inl b) = more (inr (e, b))
         by (inr (inl e)) (inr (inr b)) = less (inr (sym e, b))
-        by (inr (inl e)) (inr (inl f)) =
-            let here_too : slice_get (log_in (masters m).log t) k ≡ Some one =
-            subst (λ j. slice_get (log_in (masters m).log t) j ≡ Some one) f
-            (subst (λ n. slice_get (log_in (masters m).log n) o ≡ Some one) e here) in
-            cc
+        by (inr (inl e)) (inr (inl f)) = search arith
 
     -- what stands at a safe place, each later owner of its point has from the start, or a greater version
     pub goes-from : {m : ServerId} {s o : ℕ} {entry : Entry} → IsSafe sent m (masters m).log s o →

@@ -1,13 +1,14 @@
 -- Each sentence makes its test true, for every list of messages; so a run whose test fails refutes the sentence.
-use Rattle.std.proofs.Common.{◌≡◌, ◌⊎◌, ℕ, ◌<◌, ◌≤◌, Bool, true, false, cond, not, ◌&&◌, ◌||◌, nat_eq, nat_lt, nat_le}
-use Rattle.std.proofs.Common.{List, [], ◌∷◌, ◌++◌, Option, refl, sym, ap, ◌∙◌, subst, inl, inr, append_assoc}
+use Rattle.std.proofs.Common.{arith}
+use Rattle.std.proofs.Common.{◌≡◌, ◌⊎◌, ℕ, ◌<◌, ◌≤◌, Bool, true, false, cond, not, ◌&&◌, ◌||◌, nat_eq, nat_lt}
+use Rattle.std.proofs.Common.{List, [], ◌∷◌, ◌++◌, Option, refl, sym, ◌∙◌, subst, inl, inr, append_assoc}
 use Rattle.std.specs.List.{list_any, list_all}
 use Rattle.std.proofs.lemmas.Bool.{eq-eqb, eqb-true, lt-ltb, le-leb, and_parts, and_from, or_left, or_right}
-use Rattle.rc_model.specs.Model.{ServerId, Addr, Server, Outside, Entry, Setup, Event, Message, Body, Write, WriteOk, ReadOk, same_id}
+use Rattle.rc_model.specs.Model.{ServerId, Addr, Server, Entry, Setup, Event, Message, Body, WriteOk, ReadOk, same_id}
 use Rattle.rc_model.specs.Model.{is_server, made, Ack, granted, covers, grants_of, IsEarlier, is_earlier, same_value, In, HasMade}
 use Rattle.rc_model.specs.Model.{HasAcknowledged}
 use Rattle.rc_model.proofs.Befores.{is_before-finds, is_before-found}
-use Rattle.rc_model.proofs.Members.{In-append, In-left, In-right, In-get}
+use Rattle.rc_model.proofs.Members.{In-append, In-right, In-get}
 use Rattle.rc_model.proofs.Said.{is_server-from, HasMade-from}
 use Rattle.rc_model.proofs.Tests.{true_false}
 use Rattle.rc_worked.specs.Sentences.{acks_by, acks_of, is_of_key, asked_by, asked, is_to, was_granted, has_value, is_same_write}
@@ -51,10 +52,7 @@ abbrev Says : ServerId × Ack → Addr → Body → Type 0
 Says (m, ack) from body = (from ≡ Server m) × (body ≡ WriteOk ack.seg ack.offset ack.term ack.table ack.key ack.version)
 
 acks_by-says : (from : Addr) (body : Body) (m : ServerId) (ack : Ack) → In (m, ack) (acks_by from body) → Says (m, ack) from body
-acks_by-says (Server m') (WriteOk seg offset term table key version) m ack (inl e) = (
-  ap (λ (one : ServerId × Ack). Server one.0) (sym e),
-  ap (λ (one : ServerId × Ack). WriteOk one.1.seg one.1.offset one.1.term one.1.table one.1.key one.1.version) (sym e),
-)
+acks_by-says (Server m') (WriteOk seg offset term table key version) m ack (inl e) = search arith
 acks_by-says (Server m') (WriteOk seg offset term table key version) m ack (inr rest) = absurd rest
 acks_by-says (Server m') _ m ack at = absurd at
 acks_by-says _ _ m ack at = absurd at
@@ -78,14 +76,7 @@ one-if x false e = cc
 asked-in : (sent : List Message) (m : ServerId) (table key : ℕ) (value : Option (List ℕ)) →
     HasAsked sent m table key value → In value (asked sent m table key)
 asked-in [] m table key value at = absurd at
-asked-in (first ∷ sent) m table key value (inl e) =
-    In-left value (asked_by m table key first.from first.to first.body) (asked sent m table key)
-    (subst (λ (x : Message). In value (asked_by m table key x.from x.to x.body)) e here)
-  where
-    here : In value (asked_by m table key Outside (Server m) (Write table key value))
-    here = one-if value (is_server m (Server m) && (nat_eq table table && nat_eq key key))
-        (and_from (is_server m (Server m)) (nat_eq table table && nat_eq key key) (same_id-refl m)
-        (and_from (nat_eq table table) (nat_eq key key) (eq-eqb table table refl) (eq-eqb key key refl)))
+asked-in (first ∷ sent) m table key value (inl e) = search (arith, one-if, and_from, same_id-refl, eq-eqb)
 asked-in (first ∷ sent) m table key value (inr rest) =
     In-right value (asked_by m table key first.from first.to first.body) (asked sent m table key)
     (asked-in sent m table key value rest)
@@ -118,16 +109,7 @@ module _ (sent : List Message) (m : ServerId) (ack : Ack) (p : IsOneWrite sent m
       where
         same : (is_of_key ack.table ack.key other ≡ true) × (nat_eq other.version ack.version ≡ true) →
             (same_id x m && (nat_eq other.seg ack.seg && (nat_eq other.offset ack.offset && nat_eq other.term ack.term))) ≡ true
-        same both =
-            let it : (x ≡ m) × (other ≡ ack) = p.only x other (acks-say sent x other at)
-            (of-key both.0) (eqb-true other.version ack.version both.1) in
-            and_from (same_id x m) (nat_eq other.seg ack.seg && (nat_eq other.offset ack.offset && nat_eq other.term ack.term))
-            (subst (λ y. same_id x y ≡ true) it.0 (same_id-refl x))
-            (and_from (nat_eq other.seg ack.seg) (nat_eq other.offset ack.offset && nat_eq other.term ack.term)
-            (eq-eqb other.seg ack.seg (ap (λ (a : Ack). a.seg) it.1))
-            (and_from (nat_eq other.offset ack.offset) (nat_eq other.term ack.term)
-            (eq-eqb other.offset ack.offset (ap (λ (a : Ack). a.offset) it.1))
-            (eq-eqb other.term ack.term (ap (λ (a : Ack). a.term) it.1))))
+        same both = search (arith, acks-say, of-key, eqb-true, and_from, same_id-refl, eq-eqb)
 
     one-write : is_one_write sent (m, ack) ≡ true
     one-write = and_from (was_granted sent m ack.term ack.table ack.key && nat_lt 0 ack.version)
@@ -246,10 +228,7 @@ module _ (setup : Setup) (events : List Event) (m : ServerId) (before : List Mes
             (eqb-true ack.version answer.version both.1)))
 
     seen-under : sees_under sent before m answer.table answer.key answer.version answer.value p.term ≡ true
-    seen-under = and_from (was_granted before m p.term answer.table answer.key) _ (was-granted p.owned)
-        (and_from (sees_earlier sent p.term answer.table answer.key answer.version) _ earlier-seen
-        (and_from (sees_own before m p.term answer.table answer.key answer.version) _ own-seen
-        (and_from (sees_by_then before p.term answer.table answer.key answer.version) _ by-then-seen value-seen)))
+    seen-under = search (arith, and_from, was-granted, earlier-seen, own-seen, by-then-seen, value-seen)
 
     all-seen : list_any (λ grant. sees_under sent before m answer.table answer.key answer.version answer.value grant.term)
         (granted before) ≡ true

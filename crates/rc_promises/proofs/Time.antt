@@ -100,11 +100,7 @@ module _ (setup : Setup) (events more : List Event) where
         by : In is.written.place (places_of (old.masters x).log) ⊎ Begins (places_of (old.masters x).log) at.before →
             Begins (places_of (old.masters x).log) at.before
         by (inr p) = p
-        by (inl there) = absurd (unasked
-            (subst (λ (value : _). WasToldToWrite old.sent x later.table later.key value) (ap (λ (one : Entry). one.value) same)
-            (subst (λ k. WasToldToWrite old.sent x later.table k is.written.place.entry.value) is.written.key_is
-            (subst (λ t. WasToldToWrite old.sent x t is.written.place.entry.key is.written.place.entry.value) is.written.table_is
-            (clients-asked setup events is.written.place there is.written.client)))))
+        by (inl there) = search (arith, same, is, clients-asked)
 
     pub is-above : (other : Entry) → In other (logged (places_of (old.masters x).log)) → other.term ≡ later.term →
         other.table ≡ later.table → other.key ≡ later.key → other.version < later.version
@@ -124,19 +120,7 @@ module _ (setup : Setup) (events more : List Event) where
           ((later-of {m = was.owner}).more (from_coordinator was.owner (own_body was)) (all_old.kept.told was among))
 
       same : (one other : Grant) → ◌≡◌ {A = Addr} (Server one.owner) (Server other.owner) → own_body one ≡ own_body other → other ≡ one
-      same one other to says =
-          let owners : other.owner ≡ one.owner = cc in
-          let ranges : other.range ≡ one.range = cc in
-          let terms : other.term ≡ one.term = cc in
-          let befores : other.previous ≡ one.previous = cc in
-          let attempts : other.attempt ≡ one.attempt = cc in
-          λ i. record {
-            range = ranges i;
-            term = terms i;
-            previous = befores i;
-            attempt = attempts i;
-            owner = owners i;
-          }
+      same one other to says = search (arith, owner)
 
   -- the owner of a term was left by an accepted recovery, within the first events
   pub record IsLeft (term table key : ℕ) : Type 0 where
@@ -291,15 +275,7 @@ module _ (setup : Setup) (events more : List Event) where
 
         by : ((there.seg ≡ later.seg) × (there.offset ≡ later.offset)) ⊎ (w.entry.version < there.other.version) → ⊥
         by (inr more_than) = (let e : w.entry.version ≡ later.version = w.version_is in let l = less in absurd (omega arith))
-        by (inl (segs, offsets)) =
-            let here : slice_get (log_in (new.masters x).log later.seg) later.offset ≡ Some there.other =
-            subst (λ o. slice_get (log_in (new.masters x).log later.seg) o ≡ Some there.other) offsets
-            (subst (λ t. slice_get (log_in (new.masters x).log t) there.offset ≡ Some there.other) segs there.holds) in
-            let it : slice_get (log_in (new.masters x).log later.seg) later.offset ≡ Some w.entry = w.holds in
-            let same_one : w.entry ≡ there.other = cc in
-            let e : there.other.version ≡ later.version = ap (λ (one : Entry). one.version) (sym same_one) ∙ w.version_is in
-            let l = less in
-            absurd (omega arith)
+        by (inl (segs, offsets)) = search (arith, there, w, less)
 
     later-is-greater : first.version < later.version
     later-is-greater = by (one-chain new.sent new.coordinator all_new.grants all_new.kept later.table later.key
@@ -317,9 +293,7 @@ module _ (setup : Setup) (events more : List Event) where
             later (by-anyone written.acknowledged) first (by-anyone first_new) (sym keys.table_is) (sym keys.key_is)
             (subst (λ n. IsEarlier new.sent later.table later.key first.term n) owned.term_is
             (subst (λ n. IsEarlier new.sent later.table later.key n owned.grant.term) owned_first.term_is way))
-        by (inr (inr way)) = under-earlier-term
-            (subst (λ n. IsEarlier new.sent later.table later.key later.term n) owned_first.term_is
-            (subst (λ n. IsEarlier new.sent later.table later.key n owned_first.grant.term) owned.term_is way))
+        by (inr (inr way)) = search (arith, under-earlier-term, owned_first, owned)
 
 pub writes-follow-time : WritesFollowTime
 writes-follow-time setup events more m x first later entry acked_first written keys unasked =

@@ -1,8 +1,9 @@
 -- What stands in a log by a client was asked.
-use Rattle.std.proofs.Common.{◌≡◌, ◌⊎◌, ℕ, zero, suc, Bool, true, false, cond, nat_eq, ◌&&◌, List, [], ◌∷◌, ◌++◌}
+use Rattle.std.proofs.Common.{arith}
+use Rattle.std.proofs.Common.{◌≡◌, ◌⊎◌, ℕ, zero, suc, Bool, true, false, cond, List, [], ◌∷◌, ◌++◌}
 use Rattle.std.proofs.Common.{length, take, Option, slice_get, refl, sym, ap, ◌∙◌, subst, inl, inr}
 use Rattle.std.proofs.lemmas.Bool.{eqb-true}
-use Rattle.rc_model.specs.Model.{ServerId, Addr, Server, Entry, Message, Body, WriteOk, Write, Setup, Ack, Segment, Log, LogPlace}
+use Rattle.rc_model.specs.Model.{ServerId, Addr, Server, Entry, Message, Body, WriteOk, Write, Setup, Ack, Log, LogPlace}
 use Rattle.rc_model.specs.Model.{places_of, Master, with_log, appends_entry, write_oks, new_durable, commits, durable_now, written}
 use Rattle.rc_model.specs.Model.{master_takes, master_ticks, commits_again, replay, In}
 use Rattle.rc_model.proofs.Members.{In-left, In-append, place_of}
@@ -14,7 +15,6 @@ use Rattle.rc_log_laws.proofs.EachMaster.{IsKeptByAll, kept-replay}
 use Rattle.rc_write_laws.proofs.Counting.{added, places-appended, filter-in, counted-is-acknowledged}
 use Rattle.rc_write_laws.proofs.Settling.{ok_of}
 use Rattle.rc_model.proofs.Ids.{same_id-refl}
-use Rattle.rc_model.proofs.Tests.{either}
 
 -- Each client's place holds what was asked
 
@@ -54,11 +54,7 @@ module _ (Asked : Entry → Type 0) where
       by place (inr at) = asks-added master.log.head len entry client asked place at
 
   asks-commits : (master : Master) (seg : ℕ) → Asks master (commits master seg)
-  asks-commits master seg = asks-same master (commits master seg).0 (commits master seg).1
-      (places_to-same master.log.segments (commits master seg).0.log.segments master.log.head
-      (λ s upto. either (λ (one : Segment). one.entries ≡ (master.log.segments s).entries) (nat_eq seg s)
-      (record (master.log.segments seg) { commit_sent = true }) (master.log.segments s)
-      (λ e. ap (λ k. (master.log.segments k).entries) (eqb-true seg s e)) (λ _. refl)))
+  asks-commits master seg = search (arith, asks-same, places_to-same, eqb-true)
 
   asks-kept : IsKept Asked Asks
   asks-kept = record {
@@ -155,9 +151,7 @@ same-ok e = (cc, cc, cc, cc, cc, cc)
 
 says-of : {ack : Ack} {place : LogPlace} → WriteOk ack.seg ack.offset ack.term ack.table ack.key ack.version ≡ WriteOk
     place.seg place.offset place.entry.term place.entry.table place.entry.key place.entry.version → SaysOf ack place
-says-of e =
-    let p = same-ok e in
-    record { seg = p.0; offset = p.1; term = p.2; table = p.3; key = p.4; version = p.5 }
+says-of e = search (arith, same-ok)
 
 pub acknowledged-was-asked : AcknowledgedWasAsked
 acknowledged-was-asked setup events m ack acked = by (oks-of m (counted_places log) acked.message there)
@@ -172,9 +166,7 @@ acknowledged-was-asked setup events m ack acked = by (oks-of m (counted_places l
         is-ack : (message : Message) → message.from ≡ Server m →
             message.body ≡ WriteOk ack.seg ack.offset ack.term ack.table ack.key ack.version →
             is_ack_of m message ≡ true
-        is-ack message from says = ap (λ (a : Addr). is_ack_of m (record { from = a; to = message.to; body = message.body })) from
-            ∙ (ap (λ (b : Body). is_ack_of m (record { from = Server m; to = message.to; body = b })) says ∙
-            ap (λ b. b && true) (same_id-refl m))
+        is-ack message from says = search (arith, same_id-refl)
 
     by : (place : LogPlace) × In place (counted_places log) × (place.client ≡ true) × (acked.message ≡ ok_of m place) →
         IsAsked (replay setup events).sent m log ack

@@ -123,17 +123,7 @@ pub places-appended : (segments : ℕ → Segment) (n : ℕ) (one : Entry × Boo
     added n (length (segments n).entries) one
 places-appended segments zero one = refl
 places-appended segments (suc n) one =
-    ap (λ l. l ++ places_in (suc n) 0 (cond (nat_eq (suc n) (suc n)) (with_entry one.0 one.1 (segments (suc n)))
-    (segments (suc n))).entries)
-    (places_to-same segments (λ s. cond (nat_eq (suc n) s) (with_entry one.0 one.1 (segments (suc n))) (segments s)) n
-    (λ s upto. ap (λ (segment : Segment). segment.entries)
-    (put-beside segments (with_entry one.0 one.1 (segments (suc n))) (λ e. absurd (omega (arith, e, upto))))))
-    ∙ (ap (λ (segment : Segment). places_to segments n ++ places_in (suc n) 0 segment.entries)
-    (put-same segments (suc n) (with_entry one.0 one.1 (segments (suc n))))
-    ∙ (ap (λ l. places_to segments n ++ l) (places_in-more (suc n) 0 (segments (suc n)).entries (one ∷ []) ∙
-    ap (λ k. places_in (suc n) 0 (segments (suc n)).entries ++ places_in (suc n) k (one ∷ [])) (omega arith))
-    ∙ sym (append_assoc (places_to segments n) (places_in (suc n) 0 (segments (suc n)).entries)
-    (places_in (suc n) (length (segments (suc n)).entries) (one ∷ [])))))
+    search (arith, places_to-same, put-beside, put-same, places_in-more, append_assoc)
 
 -- A step
 
@@ -152,29 +142,13 @@ pub record Acks (old : Master) (after : Master × List Message) : Type 0 where
 
 acks-both : (a b : Master) (first : List Message) (after : Master × List Message) → Acks a (b, first) → Acks b after →
     Acks a (after.0, first ++ after.1)
-acks-both a b first after p q = record {
-  own = q.own ∙ p.own;
-  factor = q.factor ∙ p.factor;
-  within = λ h. q.within (p.within h);
-  acked_more = λ h. q.acked_more (p.within h) ∙ (ap (λ l. l ++ acks_in b.log.own after.1) (p.acked_more h)
-      ∙ (ap (λ (own : ServerId). (acked a.log ++ acks_in a.log.own first) ++ acks_in own after.1) p.own
-      ∙ (append_assoc (acked a.log) (acks_in a.log.own first) (acks_in a.log.own after.1)
-      ∙ ap (λ l. acked a.log ++ l) (sym (filter-append (is_ack_of a.log.own) first after.1)))));
-}
+acks-both a b first after p q = search (arith, append_assoc, filter-append)
 
 -- the same places and count, and nothing acknowledged
 acks-same : {old new : Master} {messages : List Message} → new.log.own ≡ old.log.own → new.log.factor ≡ old.log.factor →
     new.log.durable ≡ old.log.durable → places_of new.log ≡ places_of old.log →
     acks_in old.log.own messages ≡ [] → Acks old (new, messages)
-acks-same {old} {new} own factor durable places none = record {
-  own = own;
-  factor = factor;
-  within = λ h. subst (λ l. new.log.durable ≤ length l) (sym places) (omega (arith, h, durable));
-  acked_more = λ h. ap (λ (id : ServerId). write_oks id (counted_places new.log)) own
-      ∙ (ap (λ n. write_oks old.log.own (take n (places_of new.log))) durable
-      ∙ (ap (λ l. write_oks old.log.own (take old.log.durable l)) places
-      ∙ (sym (append-nil (acked old.log)) ∙ ap (λ l. acked old.log ++ l) (sym none))));
-}
+acks-same {old} {new} own factor durable places none = search (arith, append-nil)
 
 acks-quiet : (old new : Master) (messages : List Message) → QuietLog old.log new.log → AllSoft messages → Acks old (new, messages)
 acks-quiet old new messages q soft = acks-same q.own q.factor q.durable q.places (soft-no_acks old.log.own messages soft)
@@ -237,16 +211,7 @@ acks-again master = acks-same refl refl refl refl (filter-none (is_ack_of master
     (λ k d less. and-false (is_server master.log.own (Server master.log.own)) refl)))
 
 pub acks-kept : IsKept (λ entry. Unit {0}) Acks
-acks-kept = record {
-  inputs = record {
-    both = acks-both;
-    quiet = acks-quiet;
-    appends = λ master entry client room asked. acks-appends entry client;
-    again = acks-again;
-  };
-  counts = acks-counts;
-  commits = λ master seg e. acks-commits;
-}
+acks-kept = search (arith, acks-both, acks-quiet, acks-appends, acks-again, acks-counts, acks-commits)
 
 pub acks-takes : {master : Master} (from : Addr) (body : Body) → Acks master (master_takes master from body)
 acks-takes from body = takes-kept (λ entry. Unit {0}) Acks acks-kept from (λ table key value under e. tt)
@@ -267,30 +232,14 @@ acked-others sent messages m master p others = filter-append (is_ack_of m) sent 
     (append-nil (acks_in m sent) ∙ p))
   where
     none : (message : Message) → In message messages → is_ack_of m message ≡ false
-    none message at = by (is_server m message.from) refl
-      where
-        by : (b : Bool) → is_server m message.from ≡ b → (b && is_write_ok message.body) ≡ false
-        by true e = soft-body message.body (others-soft message.body (others message at (is_server-true m message.from e)))
-        by false e = refl
+    none message at = search (arith, soft-body, others-soft, is_server-true)
 
 acked-after : {sent : List Message} {m : ServerId} {master : Master} {after : Master × List Message} →
     GoodMaster sent m master → Acked sent m master → Acks master after → Acked (sent ++ after.1) m after.0
-acked-after {sent} {m} {master} {after} good p step = filter-append (is_ack_of m) sent after.1
-    ∙ (ap (λ l. l ++ acks_in m after.1) p
-    ∙ (ap (λ (id : ServerId). write_oks id (counted_places master.log) ++ acks_in id after.1) (sym good.own)
-    ∙ (sym (step.acked_more good.durable_within)
-    ∙ ap (λ (id : ServerId). write_oks id (counted_places after.0.log)) (step.own ∙ good.own))))
+acked-after {sent} {m} {master} {after} good p step = search (arith, filter-append)
 
 acked-kept : {setup : Setup} → IsKeptByAll setup Acked
-acked-kept = record {
-  opened = λ m. refl;
-  led = record {
-    same = λ sent m master p. p;
-    others = acked-others;
-    takes = λ sent m master from body good p at. acked-after good p (acks-takes from body);
-    ticks = λ sent m master good p. acked-after good p (acks-ticks master);
-  };
-}
+acked-kept = search (arith, acked-others, acked-after, acks-takes, acks-ticks)
 
 pub counted-is-acknowledged : CountedIsAcknowledged
 counted-is-acknowledged setup events m = kept-replay setup Acked (acked-kept) events m

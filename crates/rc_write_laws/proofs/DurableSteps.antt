@@ -1,8 +1,9 @@
 -- A step of a master keeps what its members have told, and shuts only what is closed on all of them.
-use Rattle.std.proofs.Common.{◌≡◌, ◌⊎◌, ℕ, ◌+◌, ◌-◌, true, List, [], ◌∷◌, refl, sym, ap, subst, inl, inr}
-use Rattle.rc_model.specs.Model.{Addr, Server, Message, Body, Stored, is_all_closed, with_closes_sent, Log, old_head_of, durable_now}
-use Rattle.rc_model.specs.Model.{left_out, starts, closes_old, writes_on, Master, then_does, goes_on, ticks, master_takes_first}
-use Rattle.rc_model.specs.Model.{deposed_takes, master_takes, master_ticks}
+use Rattle.std.proofs.Common.{arith}
+use Rattle.std.proofs.Common.{◌≡◌, ◌⊎◌, ℕ, ◌-◌, true, List, [], ◌∷◌, refl, subst, inl}
+use Rattle.rc_model.specs.Model.{Addr, Server, Message, Body, Stored, is_all_closed, with_closes_sent, Log, old_head_of}
+use Rattle.rc_model.specs.Model.{left_out, starts, writes_on, Master, then_does, goes_on, ticks, master_takes_first}
+use Rattle.rc_model.specs.Model.{master_takes, master_ticks}
 use Rattle.rc_model.proofs.Tests.{either}
 use Rattle.rc_model.proofs.Walk.{OfLog, LogJoined, LogListed, LogWritten, LogFollowed, of_log-joined, of_log-listed, of_log-taken}
 use Rattle.rc_model.proofs.Walk.{of_log-ticked, of_log-followed, kept-takes_first, kept-ticks_first, kept-goes_on, same-deposed}
@@ -19,10 +20,7 @@ listed : LogListed InputOk
 listed = record { replaces = input-loses; opens = λ servers log ids none chosen. input-chosen (1 ∷ []) 1 servers chosen }
 
 written : LogWritten InputOk
-written = record {
-  rolls = λ servers log digest ids writing room chosen. input-chosen digest (log.head + 1) servers chosen;
-  writes = λ log entry client writing room. input-appends entry client log;
-}
+written = search (arith, input-chosen, input-appends)
 
 -- a Stored that says closed tells all of a segment below the head
 abbrev pub TellsWhole : Log → Addr → Body → Type 0
@@ -77,23 +75,11 @@ pub step-same : {log : Log} → StepOk log log
 step-same = record { keeps = λ told. told; shut = λ told s e. inl e }
 
 then-step : {old : Log} (first : Master × List Message) → InputOk old first.0.log → StepOk old (then_does first goes_on).0.log
-then-step {old} (master, messages) p = record {
-  keeps = λ told. (goes-follows master).keeps (p.keeps told);
-  shut = λ told s e. by s ((goes-follows master).closes (p.keeps told) s e);
-}
-  where
-    by : (s : ℕ) → ((master.log.segments s).shut ≡ true) ⊎ (is_all_closed ((goes_on master).0.log.segments s) ≡ true) →
-        ((old.segments s).shut ≡ true) ⊎ (is_all_closed ((goes_on master).0.log.segments s) ≡ true)
-    by s (inl was) = inl (p.shut s was)
-    by s (inr closed) = inr closed
+then-step {old} (master, messages) p = search (arith, goes-follows)
 
 pub takes-step : (master : Master) (from : Addr) (body : Body) → TellsWhole master.log from body →
     StepOk master.log (master_takes master from body).0.log
-takes-step master from body tells =
-    either (λ (after : Master × List Message). StepOk master.log after.0.log) master.deposed (deposed_takes master body)
-    (then_does (master_takes_first master from body) goes_on)
-    (λ _. subst (StepOk master.log) (sym (ap (λ (one : Master). one.log) (same-deposed master body))) (step-same))
-    (λ _. then-step (master_takes_first master from body) (takes_first-input master from body tells))
+takes-step master from body tells = search (arith, same-deposed, step-same, then-step, takes_first-input)
 
 pub ticks-step : (master : Master) → StepOk master.log (master_ticks master).0.log
 ticks-step master =

@@ -1,4 +1,5 @@
 -- What is durable was sent, and each later owner keeps it at a durable place.
+use Rattle.std.proofs.Common.{arith}
 use Rattle.std.proofs.Common.{◌≡◌, ◌≢◌, ℕ, ◌-◌, ◌<◌, ◌&&◌, nat_lt, true, List, take, Some, slice_get, subst}
 use Rattle.std.proofs.lemmas.Bool.{and_parts, ltb-true}
 use Rattle.rc_model.specs.Model.{ServerId, Server, Entry, Setup, Event, durable_len, Log, has_segment, all_shut_to, IsDurable, factor_of}
@@ -82,10 +83,7 @@ kept-durably {setup} {events} {owner} some k = record {
     made = durable-is-made setup events owner k.at.seg k.at.offset durable
 
     same : made.0 ≡ k.entry
-    same =
-        let one : slice_get (log_in ((replay setup events).masters owner).log k.at.seg) k.at.offset ≡ Some made.0 = made.1 in
-        let other : slice_get (log_in ((replay setup events).masters owner).log k.at.seg) k.at.offset ≡ Some k.entry = k.at.holds in
-        cc
+    same = search (arith, made)
 
 pub acknowledged-is-handed-on : AcknowledgedIsHandedOn
 acknowledged-is-handed-on setup events m ack was = record {
@@ -115,9 +113,7 @@ acknowledged-is-handed-on setup events m ack was = record {
 
     way : (grant : Granted) → IsEarlier (replay setup events).sent r.entry.table r.entry.key r.entry.term grant.term →
         IsEarlier (replay setup events).sent ack.table ack.key ack.term grant.term
-    way grant before = subst (λ n. IsEarlier (replay setup events).sent ack.table ack.key n grant.term) r.of_ack.term
-        (subst (λ k. IsEarlier (replay setup events).sent ack.table k r.entry.term grant.term) r.of_ack.key
-        (subst (λ t. IsEarlier (replay setup events).sent t r.entry.key r.entry.term grant.term) r.of_ack.table before))
+    way grant before = search (arith, r)
 
 pub durable-is-handed-on : DurableIsHandedOn
 durable-is-handed-on setup events m s o durable = (

@@ -1,14 +1,15 @@
 -- What a master has noted of a member was told: a Stored of that segment, under that epoch.
-use Rattle.std.proofs.Common.{◌≡◌, ◌⊎◌, ℕ, ◌+◌, ◌-◌, Bool, true, false, cond, nat_eq, nat_lt, not, List, [], ◌∷◌, ◌++◌, map, Option}
+use Rattle.std.proofs.Common.{arith}
+use Rattle.std.proofs.Common.{◌≡◌, ◌⊎◌, ℕ, ◌+◌, Bool, true, false, cond, nat_eq, nat_lt, not, List, [], ◌∷◌, ◌++◌, map, Option}
 use Rattle.std.proofs.Common.{Some, None, is_some, Result, Ok, Err, refl, sym, ap, ◌∙◌, subst, inl, inr}
 use Rattle.std.proofs.lemmas.Bool.{and_parts, eqb-true}
-use Rattle.rc_model.specs.Model.{ServerId, Addr, Server, Setup, Event, Fault, EpochsExhausted, LAST_EPOCH, Message, Body, Stored}
+use Rattle.rc_model.specs.Model.{ServerId, Addr, Server, Setup, Event, Fault, Message, Body, Stored}
 use Rattle.rc_model.specs.Model.{Member, between, ServerList, has_crashed, Config, new_member, new_config, is_heard, told_if_heard}
 use Rattle.rc_model.specs.Model.{told_with, noted}
-use Rattle.rc_model.specs.Model.{committed_at, is_placed, all_placed, any_lost, lost_if_crashed, with_lost, substitutes_for, replaced}
-use Rattle.rc_model.specs.Model.{changed, changes_to, lose, refills_with, refill, Segment, new_segment, with_entry, under_new_epoch}
-use Rattle.rc_model.specs.Model.{with_closes_sent, Log, head_of, old_head_of, with_segment, has_segment, opens_head, with_config}
-use Rattle.rc_model.specs.Model.{opens_change, refills, loses, left_out, with_freed, starts, Master, master_takes}
+use Rattle.rc_model.specs.Model.{committed_at, is_placed, all_placed, lost_if_crashed, with_lost, substitutes_for, replaced}
+use Rattle.rc_model.specs.Model.{changes_to, lose, refills_with, refill, Segment, new_segment, under_new_epoch}
+use Rattle.rc_model.specs.Model.{Log, with_segment, has_segment, opens_head, with_config}
+use Rattle.rc_model.specs.Model.{opens_change, refills, loses, with_freed, Master, master_takes}
 use Rattle.rc_model.specs.Model.{master_ticks, In, same_id}
 use Rattle.rc_model.proofs.Tests.{either, true_false}
 use Rattle.rc_model.proofs.Tables.{put_each}
@@ -38,9 +39,7 @@ module _ (P : ServerId → ℕ → Type 0) where
           (record one { lost = true }) one (λ _. (refl, refl)) (λ _. (refl, refl))
 
       by : (was : Member) × (In was config.members) × (member ≡ lost_if_crashed servers was) → P member.id config.epoch
-      by (was, there, is) =
-          subst (λ (id : ServerId). P id config.epoch) (sym (ap (λ (one : Member). one.id) is ∙ (same was).0))
-          (heard was there (sym (ap is_some (same was).1) ∙ (sym (ap (λ (one : Member). is_some one.told) is) ∙ told)))
+      by (was, there, is) = search (arith, same, is_some)
 
   -- who is new has told nothing
   heard-fresh : (members : List Member) (member : Member) → In member (map (λ (one : Member). new_member one.id) members) →
@@ -50,17 +49,10 @@ module _ (P : ServerId → ℕ → Type 0) where
 
   heard-changes : (config : Config) (ids : Option (List ServerId)) → Heard config → Heard (changes_to config ids).0
   heard-changes config None heard = heard
-  heard-changes config (Some ids) heard =
-      either (λ (after : Config × Result Bool Fault). Heard after.0) (nat_lt config.epoch LAST_EPOCH) (changed config ids, Ok true)
-      (config, Err EpochsExhausted)
-      (λ _ member at told. true_false (sym told ∙ heard-fresh (replaced config.members ids) member at)) (λ _. heard)
+  heard-changes config (Some ids) heard = search (arith, nat_lt, heard-fresh)
 
   heard-lose : (own : ServerId) (servers : ServerList) (config : Config) → Heard config → Heard (lose own servers config).0
-  heard-lose own servers config heard =
-      either (λ (after : Config × Result Bool Fault). Heard after.0) (any_lost (with_lost servers config).members)
-      (changes_to (with_lost servers config) (substitutes_for own servers (with_lost servers config))) (with_lost servers config, Ok false)
-      (λ _. heard-changes (with_lost servers config) (substitutes_for own servers (with_lost servers config))
-      (heard-lost servers config heard)) (λ _. heard-lost servers config heard)
+  heard-lose own servers config heard = search (arith, heard-changes, heard-lost)
 
   -- a replaced one too
   old-replaced : (members : List Member) (ids : List ServerId) (member : Member) → In member (replaced members ids) →
@@ -180,21 +172,10 @@ module _ (Q : ℕ → ServerId → ℕ → Type 0) where
   keeps-listed = record { replaces = keeps-loses; opens = λ servers log ids none chosen. keeps-opens log (1 ∷ []) ids }
 
   keeps-written : LogWritten Keeps
-  keeps-written = record {
-    rolls = λ servers log digest ids writing room chosen. keeps-opens log digest ids;
-    writes = λ log entry client writing room. keeps-put log (with_entry entry client (head_of log)) (λ h. h);
-  }
+  keeps-written = search (arith, keeps-opens, keeps-put)
 
   keeps-followed : LogFollowed Keeps
-  keeps-followed = record {
-    marks = λ log is. keeps-put log (record (old_head_of log) { shut = true }) (λ h. h);
-    starts = λ log may heard. heard;
-    places = λ log may heard. heard;
-    closes = λ log due. keeps-put log (with_closes_sent (old_head_of log)) (λ h. h);
-    shuts = λ log may heard. keeps-freed (left_out log) (starts log) heard;
-    commits = λ log seg. keeps-put log (record (log.segments seg) { commit_sent = true }) (λ h. h);
-    counts = λ log more heard. heard;
-  }
+  keeps-followed = search (arith, keeps-put, keeps-freed)
 
   takes-heard : (master : Master) {from : Addr} {body : Body} →
       ((teller : ServerId) (seg epoch len : ℕ) (closed : Bool) → from ≡ Server teller → body ≡ Stored seg epoch len closed →

@@ -1,8 +1,7 @@
 -- The numbers of a log stay within their limits.
-use Rattle.std.proofs.Common.{◌≡◌, Bool, true, false, List, ◌++◌, length, refl, ◌∙◌, arith, leb-false}
+use Rattle.std.proofs.Common.{◌≡◌, Bool, true, false, List, refl, ◌∙◌, arith, leb-false}
 use Rattle.std.proofs.lemmas.List.{length_push}
-use Rattle.rc_model.specs.Model.{ServerId, Entry, Message, Setup, with_entry, head_of, is_full, Master, appends_entry, master_takes}
-use Rattle.rc_model.specs.Model.{master_ticks}
+use Rattle.rc_model.specs.Model.{ServerId, Entry, Message, Setup, is_full, Master, appends_entry}
 use Rattle.rc_write_laws.specs.LimitClaims.{LogIsWithinLimits, LogsStayWithinLimits, SegmentsTakeWhatIsSetUp}
 use Rattle.rc_write_laws.proofs.Quiet.{limits-put}
 use Rattle.rc_write_laws.proofs.Walk.{IsKept, takes-kept, tick-kept}
@@ -14,15 +13,7 @@ record Limits (old : Master) (after : Master × List Message) : Type 0 where
 
 limits-appends : {master : Master} (entry : Entry) (client : Bool) → is_full master.log ≡ false →
     Limits master (appends_entry master entry client)
-limits-appends {master} entry client room = record {
-  size = refl;
-  limits = λ h. limits-put master.log.head (with_entry entry client (head_of master.log)) h (h.epochs master.log.head)
-      (omega (
-        arith,
-        length_push (head_of master.log).entries (entry, client),
-        leb-false master.log.size (length (head_of master.log).entries) room,
-      ));
-}
+limits-appends {master} entry client room = search (arith, limits-put, length_push, leb-false)
 
 limits-kept : IsKept (λ entry. Unit {0}) Limits
 limits-kept = record {
@@ -49,16 +40,7 @@ after-step : {setup : Setup} {sent sent_now : List Message} {m : ServerId} {mast
 after-step p step = record { size = step.size ∙ p.size; limits = step.limits p.limits }
 
 of_setup-kept : {setup : Setup} → IsKeptByAll setup (OfSetup setup)
-of_setup-kept = record {
-  opened = λ m. record { size = refl; limits = record { head = omega arith; epochs = λ s. omega arith; entries = λ s. omega arith } };
-  led = record {
-    same = λ sent m master p. p;
-    others = λ sent messages m master p others. record { size = p.size; limits = p.limits };
-    takes = λ sent m master from body good p at. after-step p (takes-kept (λ entry. Unit {0}) Limits limits-kept from
-        (λ table key value under e. tt));
-    ticks = λ sent m master good p. after-step p (tick-kept (λ entry. Unit {0}) Limits limits-kept master);
-  };
-}
+of_setup-kept = search (arith, after-step, takes-kept, limits-kept, tick-kept)
 
 pub logs-stay-within-limits : LogsStayWithinLimits
 logs-stay-within-limits setup events m = (kept-replay setup (OfSetup setup) (of_setup-kept) events m).limits

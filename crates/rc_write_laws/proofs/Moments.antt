@@ -1,11 +1,11 @@
 -- A place is counted as durable in the event in which it becomes stored on all.
-use Rattle.std.proofs.Common.{◌≡◌, ℕ, zero, suc, ◌+◌, ◌-◌, ◌<◌, ◌≤◌, max, Bool, true, false, cond, List, [], ◌∷◌, ◌++◌, length, map, refl}
+use Rattle.std.proofs.Common.{◌≡◌, ℕ, zero, suc, ◌+◌, ◌-◌, ◌<◌, ◌≤◌, max, Bool, true, cond, List, [], ◌∷◌, ◌++◌, length, map, refl}
 use Rattle.std.proofs.Common.{sym, ap, ◌∙◌, subst, inl, inr, arith}
 use Rattle.std.proofs.lemmas.Bool.{ltb-true}
 use Rattle.std.proofs.lemmas.List.{append_assoc, append-nil, map-append, length_push}
-use Rattle.rc_model.specs.Model.{ServerId, Event, Addr, Entry, Message, Body, Segment, new_segment, with_entry, durable_in}
-use Rattle.rc_model.specs.Model.{with_closes_sent, Log, head_of, old_head_of, with_segment, numbers_to, durable_among, durable_now}
-use Rattle.rc_model.specs.Model.{opens_head, appends, left_out, with_freed, starts, closes_old, writes_on, Master, then_does}
+use Rattle.rc_model.specs.Model.{ServerId, Event, Addr, Entry, Message, Body, Segment, new_segment, durable_in}
+use Rattle.rc_model.specs.Model.{with_closes_sent, Log, old_head_of, with_segment, numbers_to, durable_among, durable_now}
+use Rattle.rc_model.specs.Model.{opens_head, appends, left_out, with_freed, starts, writes_on, Master, then_does}
 use Rattle.rc_model.specs.Model.{goes_on, ticks, master_takes_first, deposed_takes, master_takes, master_ticks, World, opening}
 use Rattle.rc_model.specs.Model.{step, replay, In}
 use Rattle.rc_model.proofs.Replays.{replay_from-push}
@@ -35,17 +35,7 @@ within segment = omega arith
 
 first-more : (old new : Segment) (a b : ℕ) → SegmentMore old new → a ≤ b →
     cond old.shut (length old.entries + a) (durable_in old) ≤ cond new.shut (length new.entries + b) (durable_in new)
-first-more old new a b p less = by old.shut new.shut refl refl
-  where
-    by : (x y : Bool) → old.shut ≡ x → new.shut ≡ y →
-        cond x (length old.entries + a) (durable_in old) ≤ cond y (length new.entries + b) (durable_in new)
-    by true true e f = omega (arith, p.longer, less)
-    by true false e f = absurd (never (sym (p.shut e) ∙ f))
-      where
-        never : true ≡ false → ⊥
-        never e = cc
-    by false true e f = omega (arith, p.stored, within new)
-    by false false e f = p.stored
+first-more old new a b p less = search (arith, within)
 
 among-more : {old new : ℕ → Segment} (ns : List ℕ) → ((n : ℕ) → In n ns → SegmentMore (old n) (new n)) →
     durable_among (map old ns) ≤ durable_among (map new ns)
@@ -103,11 +93,7 @@ follows-refl : (log : Log) → Follows log log
 follows-refl log = record { now = omega arith; rises = omega arith; count = omega arith }
 
 follows-then : (a b c : Log) → Follows a b → Follows b c → Follows a c
-follows-then a b c p q = record {
-  now = omega (arith, p.now, q.now);
-  rises = omega (arith, p.rises, q.rises);
-  count = omega (arith, p.count, q.count, q.now);
-}
+follows-then a b c p q = search arith
 
 -- the count stays
 follows-more : {old new : Log} → new.durable ≡ old.durable → old.head ≤ new.head →
@@ -127,12 +113,7 @@ follows-opens {log} digest ids = follows-more refl (omega arith) (λ s upto. sub
     (λ same. absurd (omega (arith, same, upto))))) (more-same))
 
 follows-appends : (entry : Entry) (client : Bool) {log : Log} → Follows log (appends entry client log)
-follows-appends entry client {log} = follows-put log.head
-    (record {
-      shut = λ e. e;
-      longer = omega (arith, length_push (head_of log).entries (entry, client));
-      stored = omega (arith, length_push (head_of log).entries (entry, client));
-    })
+follows-appends entry client {log} = search (arith, follows-put, length_push)
 
 follows-freed : (segs : List ℕ) {log : Log} → Follows log (with_freed segs log)
 follows-freed [] {log} = follows-refl log
@@ -182,12 +163,7 @@ abbrev CountStays : Master → Master × List Message → Type 0
 CountStays old after = after.0.log.durable ≡ old.log.durable
 
 count-kept : IsKeptByInputs (λ entry. Unit {0}) CountStays
-count-kept = record {
-  both = λ a b first after p q. q ∙ p;
-  quiet = λ old new messages quiet soft. quiet.durable;
-  appends = λ master entry client room asked. refl;
-  again = λ master. refl;
-}
+count-kept = search arith
 
 pub record Counts (old new : Log) : Type 0 where
   pub rises : old.durable ≤ new.durable
@@ -229,12 +205,7 @@ module _ (world : World) where
   counted-from after same p = subst (λ (old : Master). Counts old.log after.log) same p
 
   counted-led : IsLed IsBefore HasCounted
-  counted-led = record {
-    same = λ sent m master p. counted-from master p (counts-same);
-    others = λ sent messages m master p others. counted-from master p (counts-same);
-    takes = λ sent m master from body good p at. counted-from (master_takes master from body).0 p (takes-counts master from body);
-    ticks = λ sent m master good p. counted-from (master_ticks master).0 p (ticks-counts master);
-  }
+  counted-led = search (arith, counted-from, counts-same, takes-counts, ticks-counts)
 
 -- what an event makes of a master's count
 pub counts-on : (world : World) (one : Event) → GoodWorld world → {m : ServerId} →

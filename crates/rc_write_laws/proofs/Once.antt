@@ -4,12 +4,12 @@ use Rattle.std.proofs.Common.{◌++◌, length, drop, filter, refl, sym, ap, ◌
 use Rattle.std.proofs.lemmas.Bool.{and_parts, eqb-true}
 use Rattle.std.proofs.lemmas.List.{take-append-drop, length-append}
 use Rattle.std.proofs.lemmas.List.Elements.{filter-append}
-use Rattle.rc_model.specs.Model.{ServerId, Entry, Message, Body, WriteOk, is_server, Segment, Log, LogPlace, places_in, places_to}
+use Rattle.rc_model.specs.Model.{ServerId, Entry, Message, Body, WriteOk, Segment, Log, LogPlace, places_in, places_to}
 use Rattle.rc_model.specs.Model.{places_of, write_oks, replay}
 use Rattle.rc_write_laws.specs.AckClaims.{is_write_ok, is_ack_of, counted_places, names_place, acks_place, AcknowledgedOnce}
 use Rattle.rc_write_laws.proofs.Counting.{and-false, oks-append, server-own, counted-is-acknowledged}
 use Rattle.rc_write_laws.proofs.Settling.{ok_of, place_at}
-use Rattle.rc_model.proofs.Tests.{true_false, either}
+use Rattle.rc_model.proofs.Tests.{true_false}
 
 -- of what passes a weaker test, the same passes
 filter-within : {X : Type 0} {weak strong : X → Bool} → ((x : X) → strong x ≡ true → weak x ≡ true) → (xs : List X) →
@@ -29,9 +29,7 @@ named-write_ok s o (WriteOk seg offset term table key version) e = refl
 named-write_ok s o _ e = true_false (sym e)
 
 placed-ack : (m : ServerId) (s o : ℕ) (message : Message) → acks_place m s o message ≡ true → is_ack_of m message ≡ true
-placed-ack m s o message e =
-    let both = and_parts (is_server m message.from) (names_place s o message.body) e in
-    ap (λ b. b && is_write_ok message.body) both.0 ∙ named-write_ok s o message.body both.1
+placed-ack m s o message e = search (arith, and_parts, named-write_ok)
 
 module _ (m : ServerId) (s o : ℕ) where
   -- how many of these places' acknowledgements name this place
@@ -39,28 +37,14 @@ module _ (m : ServerId) (s o : ℕ) where
   count places = length (filter (acks_place m s o) (write_oks m places))
 
   count-append : (first second : List LogPlace) → count (first ++ second) ≡ count first + count second
-  count-append first second = ap (λ l. length (filter (acks_place m s o) l)) (oks-append m first second)
-      ∙ (ap length (filter-append (acks_place m s o) (write_oks m first) (write_oks m second)) ∙
-      length-append (filter (acks_place m s o) (write_oks m first)) (filter (acks_place m s o) (write_oks m second)))
+  count-append first second = search (arith, oks-append, filter-append, length-append)
 
   count-cons : (place : LogPlace) (places : List LogPlace) → count (place ∷ places) ≤ count places + 1
-  count-cons place places =
-      either (λ (messages : List Message). length (filter (acks_place m s o) messages) ≤ count places + 1) place.client
-      (ok_of m place ∷ write_oks m places) (write_oks m places)
-      (λ _. either (λ (messages : List Message). length messages ≤ count places + 1) (acks_place m s o (ok_of m place))
-      (ok_of m place ∷ filter (acks_place m s o) (write_oks m places)) (filter (acks_place m s o) (write_oks m places))
-      (λ _. omega arith) (λ _. omega arith)) (λ _. omega arith)
+  count-cons place places = search (arith, ok_of)
 
   count-other : (place : LogPlace) (places : List LogPlace) → (nat_eq place.seg s && nat_eq place.offset o) ≡ false →
       count (place ∷ places) ≡ count places
-  count-other place places isn't =
-      either (λ (messages : List Message). length (filter (acks_place m s o) messages) ≡ count places) place.client
-      (ok_of m place ∷ write_oks m places) (write_oks m places)
-      (λ _. ap (λ b. length (cond b (ok_of m place ∷ filter (acks_place m s o) (write_oks m places))
-      (filter (acks_place m s o) (write_oks m places)))) not_named) (λ _. refl)
-    where
-      not_named : acks_place m s o (ok_of m place) ≡ false
-      not_named = ap (λ b. b && (nat_eq place.seg s && nat_eq place.offset o)) (server-own m) ∙ isn't
+  count-other place places isn't = search (arith, ok_of, server-own)
 
   -- in the segment: no place twice, and none below the first
   count-in : (seg offset : ℕ) (entries : List (Entry × Bool)) → (count (places_in seg offset entries) ≤ 1) ×
@@ -74,16 +58,8 @@ module _ (m : ServerId) (s o : ℕ) where
       by : (b : Bool) → nat_eq offset o ≡ b → (count (places_in seg (offset + 1) entries) ≤ 1) ×
           (o < offset + 1 → count (places_in seg (offset + 1) entries) ≡ 0) →
           (count (places_in seg offset (one ∷ entries)) ≤ 1) × (o < offset → count (places_in seg offset (one ∷ entries)) ≡ 0)
-      by true e rec =
-          let same : offset ≡ o = eqb-true offset o e in
-          let none : count (places_in seg (offset + 1) entries) ≡ 0 = rec.1 (omega (arith, same)) in (
-            omega (arith, none, count-cons (place_at seg offset one) (places_in seg (offset + 1) entries)),
-            λ below. absurd (omega (arith, same, below)),
-          )
-      by false e rec =
-          let same : count (places_in seg offset (one ∷ entries)) ≡ count (places_in seg (offset + 1) entries) =
-          count-other (place_at seg offset one) (places_in seg (offset + 1) entries) (named e) in
-          (omega (arith, same, rec.0), λ below. same ∙ rec.1 (omega (arith, below)))
+      by true e rec = search (arith, eqb-true, count-cons, place_at)
+      by false e rec = search (arith, count-other, place_at, named)
 
   count-beside : (seg offset : ℕ) (entries : List (Entry × Bool)) → nat_eq seg s ≡ false → count (places_in seg offset entries) ≡ 0
   count-beside seg offset [] e = refl
@@ -100,14 +76,8 @@ module _ (m : ServerId) (s o : ℕ) where
 
       by : (b : Bool) → nat_eq (suc n) s ≡ b → (count (places_to segments n) ≤ 1) × (n < s → count (places_to segments n) ≡ 0) →
           (count (places_to segments (suc n)) ≤ 1) × (suc n < s → count (places_to segments (suc n)) ≡ 0)
-      by true e rec =
-          let same : suc n ≡ s = eqb-true (suc n) s e in
-          let none : count (places_to segments n) ≡ 0 = rec.1 (omega (arith, same)) in
-          let one = (count-in (suc n) 0 (segments (suc n)).entries).0 in
-          (omega (arith, more, none, one), λ below. absurd (omega (arith, same, below)))
-      by false e rec =
-          let none : count (places_in (suc n) 0 (segments (suc n)).entries) ≡ 0 = count-beside (suc n) 0 (segments (suc n)).entries e in
-          (omega (arith, more, none, rec.0), λ below. let before = rec.1 (omega (arith, below)) in omega (arith, more, none, before))
+      by true e rec = search (arith, eqb-true, count-in, more)
+      by false e rec = search (arith, count-beside, more)
 
   count-counted : (log : Log) → count (counted_places log) ≤ 1
   count-counted log =

@@ -6,11 +6,10 @@ use Rattle.std.proofs.lemmas.Bool.{and_parts}
 use Rattle.std.proofs.lemmas.List.Elements.{All-nil, All-cons}
 use Rattle.rc_model.specs.Model.{ServerId, Entry, Message, Body, Append, Commit, Setup, to_coordinator, Segment, with_entry, Log}
 use Rattle.rc_model.specs.Model.{LogPlace, head_of, numbers_to, durable_now, Master, with_log, ids_of, not_lost, appends_entry, write_oks}
-use Rattle.rc_model.specs.Model.{new_durable, first_open, commits, master_takes, master_ticks, commits_again, awaits_commit, In}
+use Rattle.rc_model.specs.Model.{new_durable, first_open, commits, commits_again, awaits_commit, In}
 use Rattle.rc_model.proofs.Members.{In-append, In-map, In-filter}
 use Rattle.rc_step_laws.specs.Facts.{GoodMaster}
-use Rattle.rc_write_laws.specs.CommitClaims.{CommitsAreAskedInOrder, CommitsAreOfPlaced, HasToldOf, CommitsAreOfTheTold}
-use Rattle.rc_step_laws.specs.Words.{IsMember}
+use Rattle.rc_write_laws.specs.CommitClaims.{CommitsAreAskedInOrder, CommitsAreOfPlaced, CommitsAreOfTheTold}
 use Rattle.rc_write_laws.proofs.Hearing.{members-have-told}
 use Rattle.rc_model.proofs.StepSends.{first-open}
 use Rattle.rc_log_laws.specs.WordClaims.{sent_after}
@@ -37,10 +36,7 @@ record ShutStays (old new : Log) : Type 0 where
   shut : (s : ℕ) → s ≤ old.head → (old.segments s).shut ≡ true → (new.segments s).shut ≡ true
 
 next-later : {old new : Log} {s : ℕ} → ShutStays old new → IsNext old s → IsNext new s
-next-later later p = record {
-  upto = omega (arith, later.head, p.upto);
-  shut = λ t above less. later.shut t (omega (arith, less, p.upto)) (p.shut t above less);
-}
+next-later later p = search arith
 
 -- what is said of commits in a step
 abbrev Says : Log → ServerId → List Message → Type 0
@@ -91,12 +87,7 @@ soft-says {log} own messages soft = no-commit log own messages (λ k d less. sof
 orders-same : {old new : Master} {messages : List Message} → new.log.own ≡ old.log.own → ShutStays old.log new.log →
     ((s : ℕ) → (new.log.segments s).commit_sent ≡ true → (old.log.segments s).commit_sent ≡ true) →
     (Ordered old.log → Says new.log old.log.own messages) → Orders old (new, messages)
-orders-same own later asked says = record {
-  own = own;
-  later = later;
-  ordered = λ h s e. next-later later (h s (asked s e));
-  says = says;
-}
+orders-same own later asked says = search (arith, next-later)
 
 orders-quiet : (old new : Master) (messages : List Message) → QuietLog old.log new.log → AllSoft messages → Orders old (new, messages)
 orders-quiet old new messages q soft =
@@ -130,34 +121,7 @@ orders-counts {master} = orders-same refl (record { head = omega arith; shut = �
     (oks-no_commit master.log.own (new_durable master.log)))
 
 orders-commits : (master : Master) (seg : ℕ) → first_open master.log ≡ Some seg → Orders master (commits master seg)
-orders-commits master seg found = record {
-  own = refl;
-  later = later;
-  ordered = λ h s e. next-later later (marked h s e);
-  says = λ h s e at. next-later later (said s e at);
-}
-  where
-    next : IsNext master.log seg
-    next = let p = first-open master.log master.log.head seg found in record { upto = p.1; shut = p.0 }
-
-    later : ShutStays master.log (commits master seg).0.log
-    later = record {
-      head = omega arith;
-      shut = λ s upto. put_each (λ k (one : Segment). (master.log.segments k).shut ≡ true → one.shut ≡ true)
-          master.log.segments seg (record (master.log.segments seg) { commit_sent = true }) (λ e. e) (λ k e. e) s;
-    }
-
-    marked : Ordered master.log → (s : ℕ) → ((commits master seg).0.log.segments s).commit_sent ≡ true → IsNext master.log s
-    marked h = put_each (λ k (one : Segment). one.commit_sent ≡ true → IsNext master.log k) master.log.segments seg
-        (record (master.log.segments seg) { commit_sent = true }) (λ _. next) (λ k e. h k e)
-
-    one-commit : (a b c d : ℕ) → Commit a b ≡ Commit c d → a ≡ c
-    one-commit a b c d e = cc
-
-    said : (s e : ℕ) → In (to_coordinator master.log.own (Commit s e)) (commits master seg).1 → IsNext master.log s
-    said s e (inl same) = subst (IsNext master.log) (sym (one-commit s e seg (master.log.segments seg).config.epoch
-        (ap (λ (message : Message). message.body) same))) next
-    said s e (inr never) = absurd never
+orders-commits master seg found = search (arith, next-later, first-open, put_each)
 
 orders-again : (master : Master) → Orders master (master, commits_again master.log)
 orders-again master = orders-same refl (record { head = omega arith; shut = λ s upto e. e }) (λ s e. e) said
@@ -181,16 +145,7 @@ orders-again master = orders-same refl (record { head = omega arith; shut = λ s
         by seg same awaits = subst (IsNext master.log) (sym same) (h seg (and_parts (master.log.segments seg).commit_sent _ awaits).0)
 
 orders-kept : IsKept (λ entry. Unit {0}) Orders
-orders-kept = record {
-  inputs = record {
-    both = orders-both;
-    quiet = orders-quiet;
-    appends = λ master entry client room asked. orders-appends entry client;
-    again = orders-again;
-  };
-  counts = λ master less. orders-counts;
-  commits = orders-commits;
-}
+orders-kept = search (arith, orders-both, orders-quiet, orders-appends, orders-again, orders-counts, orders-commits)
 
 -- A world
 
@@ -250,8 +205,4 @@ commits-are-of-placed setup events one m s e at = (
 )
 
 pub commits-are-of-the-told : CommitsAreOfTheTold
-commits-are-of-the-told setup events one m s e at x member =
-    let due = (commits-are-of-placed setup events one m s e at).0 in
-    subst (HasToldOf (sent_after setup (events ++ one ∷ [])) x m s) (sym due.epoch)
-    (members-have-told setup (events ++ one ∷ []) due.placed
-    (subst (λ n. IsMember (sent_after setup (events ++ one ∷ [])) m s n x) due.epoch member))
+commits-are-of-the-told setup events one m s e at x member = search (arith, commits-are-of-placed, members-have-told)

@@ -1,14 +1,14 @@
 -- What changes neither the places of a log nor what is counted of them, and asks for no commit.
-use Rattle.std.proofs.Common.{◌≡◌, ℕ, suc, ◌+◌, ◌≤◌, Bool, true, false, cond, nat_lt, nat_eq, List, [], ◌∷◌, ◌++◌, Option, Some}
-use Rattle.std.proofs.Common.{None, Result, Ok, Err, refl, sym, ap, ◌∙◌, subst, arith, length, map, ◌<◌, inl, inr}
+use Rattle.std.proofs.Common.{◌≡◌, ℕ, suc, ◌+◌, ◌≤◌, Bool, true, false, cond, nat_lt, nat_eq, List, [], ◌∷◌, Option, Some}
+use Rattle.std.proofs.Common.{None, Result, Ok, Err, refl, sym, subst, arith, length, map, ◌<◌, inl, inr}
 use Rattle.std.specs.List.{All}
 use Rattle.std.proofs.lemmas.List.Elements.{All-nil, All-cons, All-map, All-head, All-tail}
 use Rattle.std.proofs.lemmas.List.{append-nil}
 use Rattle.std.proofs.lemmas.Bool.{eqb-true, eq-eqb, ltb-true}
-use Rattle.rc_model.specs.Model.{ServerId, Fault, EpochsExhausted, LAST_SEGMENT, LAST_EPOCH, Phase, Message, Body, WriteOk, Commit}
-use Rattle.rc_model.specs.Model.{between, ServerList, Config, told_if_heard, noted, committed_at, any_lost, with_lost, substitutes_for}
-use Rattle.rc_model.specs.Model.{changed, changes_to, lose, refills_with, refill, Segment, new_segment, under_new_epoch, Log, places_in}
-use Rattle.rc_model.specs.Model.{places_to, places_of, with_segment, has_segment, opens_head, with_config, stored, commit_noted}
+use Rattle.rc_model.specs.Model.{ServerId, Fault, LAST_SEGMENT, LAST_EPOCH, Phase, Message, Body, WriteOk, Commit}
+use Rattle.rc_model.specs.Model.{between, ServerList, Config, told_if_heard, noted, committed_at}
+use Rattle.rc_model.specs.Model.{changes_to, lose, refills_with, Segment, new_segment, under_new_epoch, Log}
+use Rattle.rc_model.specs.Model.{places_to, places_of, with_segment, opens_head, with_config, stored, commit_noted}
 use Rattle.rc_model.specs.Model.{opens_change, refills, loses, with_freed, to_ids, In}
 use Rattle.rc_write_laws.specs.LimitClaims.{LogIsWithinLimits}
 use Rattle.rc_model.proofs.Tests.{true_false, either}
@@ -69,53 +69,19 @@ pub record QuietLog (old new : Log) : Type 0 where
   pub asked : (s : ℕ) → (new.segments s).commit_sent ≡ true → (old.segments s).commit_sent ≡ true
 
 pub quiet-refl : {log : Log} → QuietLog log log
-quiet-refl = record {
-  own = refl;
-  factor = refl;
-  durable = refl;
-  size = refl;
-  limits = λ h. h;
-  places = refl;
-  head = omega arith;
-  shut = λ s upto e. e;
-  asked = λ s e. e;
-}
+quiet-refl = search arith
 
 pub quiet-trans : {old middle new : Log} → QuietLog old middle → QuietLog middle new → QuietLog old new
-quiet-trans p q = record {
-  own = q.own ∙ p.own;
-  factor = q.factor ∙ p.factor;
-  durable = q.durable ∙ p.durable;
-  size = q.size ∙ p.size;
-  limits = λ h. q.limits (p.limits h);
-  places = q.places ∙ p.places;
-  head = omega (arith, p.head, q.head);
-  shut = λ s upto e. q.shut s (omega (arith, upto, p.head)) (p.shut s upto e);
-  asked = λ s e. p.asked s (q.asked s e);
-}
+quiet-trans p q = search arith
 
 -- another phase
 pub quiet-phase : {log : Log} {phase : Phase} → QuietLog log (record log { phase = phase })
-quiet-phase = record {
-  own = refl;
-  factor = refl;
-  durable = refl;
-  size = refl;
-  limits = λ h. record { head = h.head; epochs = h.epochs; entries = h.entries };
-  places = refl;
-  head = omega arith;
-  shut = λ s upto e. e;
-  asked = λ s e. e;
-}
+quiet-phase = search arith
 
 -- a segment within its limits is put in
 pub limits-put : {log : Log} (seg : ℕ) (segment : Segment) → LogIsWithinLimits log → segment.config.epoch ≤ LAST_EPOCH →
     length segment.entries ≤ log.size → LogIsWithinLimits (with_segment seg segment log)
-limits-put {log} seg segment h epoch entries = record {
-  head = h.head;
-  epochs = put_each (λ k (one : Segment). one.config.epoch ≤ LAST_EPOCH) log.segments seg segment epoch h.epochs;
-  entries = put_each (λ k (one : Segment). length one.entries ≤ log.size) log.segments seg segment entries h.entries;
-}
+limits-put {log} seg segment h epoch entries = search (arith, put_each)
 
 -- a segment is changed, but for its entries
 pub quiet-put : {log : Log} (seg : ℕ) (segment : Segment) → segment.entries ≡ (log.segments seg).entries →
@@ -123,22 +89,7 @@ pub quiet-put : {log : Log} (seg : ℕ) (segment : Segment) → segment.entries 
     (segment.commit_sent ≡ true → (log.segments seg).commit_sent ≡ true) →
     ((log.segments seg).config.epoch ≤ LAST_EPOCH → segment.config.epoch ≤ LAST_EPOCH) →
     QuietLog log (with_segment seg segment log)
-quiet-put {log} seg segment entries shut asked epoch = record {
-  own = refl;
-  factor = refl;
-  durable = refl;
-  size = refl;
-  limits = λ h. limits-put seg segment h (epoch (h.epochs seg))
-      (let same : length segment.entries ≡ length (log.segments seg).entries = ap length entries in
-      let old = h.entries seg in omega arith);
-  places = places_to-same log.segments (with_segment seg segment log).segments log.head
-      (λ s upto. put_each (λ k (one : Segment). one.entries ≡ (log.segments k).entries) log.segments seg segment entries (λ k. refl) s);
-  head = omega arith;
-  shut = λ s upto. put_each (λ k (one : Segment). (log.segments k).shut ≡ true → one.shut ≡ true) log.segments seg
-      segment shut (λ k e. e) s;
-  asked = put_each (λ k (one : Segment). one.commit_sent ≡ true → (log.segments k).commit_sent ≡ true) log.segments seg
-      segment asked (λ k e. e);
-}
+quiet-put {log} seg segment entries shut asked epoch = search (arith, limits-put, places_to-same, put_each)
 
 -- a segment beside the one that is put
 pub put-beside : (segments : ℕ → Segment) {key : ℕ} (segment : Segment) {s : ℕ} → (key ≡ s → ⊥) →
@@ -148,13 +99,7 @@ put-beside segments {key} segment {s} differs = either (λ one. one ≡ segments
 
 places-opened : (segments : ℕ → Segment) (segment : Segment) (n : ℕ) → segment.entries ≡ [] →
     places_to (λ s. cond (nat_eq (suc n) s) segment (segments s)) (suc n) ≡ places_to segments n
-places-opened segments segment n none =
-    ap (λ l. l ++ places_in (suc n) 0 (cond (nat_eq (suc n) (suc n)) segment (segments (suc n))).entries)
-    (places_to-same segments (λ s. cond (nat_eq (suc n) s) segment (segments s)) n
-    (λ s upto. ap (λ (one : Segment). one.entries) (put-beside segments segment (λ e. absurd (omega (arith, e, upto))))))
-    ∙ (ap (λ l. places_to segments n ++ places_in (suc n) 0 l)
-    (ap (λ b. (cond b segment (segments (suc n))).entries) (eq-eqb (suc n) (suc n) refl) ∙ none)
-    ∙ append-nil (places_to segments n))
+places-opened segments segment n none = search (arith, places_to-same, put-beside, eq-eqb, append-nil)
 
 -- by its number
 places-opened_at : (segments : ℕ → Segment) (segment : Segment) {n h : ℕ} → h ≡ suc n → segment.entries ≡ [] →
@@ -203,16 +148,10 @@ epoch-committed epoch config = either (KeepsEpoch config) (nat_eq epoch config.e
 
 epoch-changes : (config : Config) (ids : Option (List ServerId)) → KeepsEpoch config (changes_to config ids).0
 epoch-changes config None = λ h. h
-epoch-changes config (Some ids) =
-    either (λ (done : Config × Result Bool Fault). KeepsEpoch config done.0) (nat_lt config.epoch LAST_EPOCH)
-    (changed config ids, Ok true) (config, Err EpochsExhausted)
-    (λ e h. let less : config.epoch < LAST_EPOCH = ltb-true config.epoch LAST_EPOCH e in omega arith) (λ _ h. h)
+epoch-changes config (Some ids) = search (arith, nat_lt, ltb-true)
 
 epoch-lose : (own : ServerId) (servers : ServerList) (config : Config) → KeepsEpoch config (lose own servers config).0
-epoch-lose own servers config =
-    either (λ (done : Config × Result Bool Fault). KeepsEpoch config done.0) (any_lost (with_lost servers config).members)
-    (changes_to (with_lost servers config) (substitutes_for own servers (with_lost servers config))) (with_lost servers config, Ok false)
-    (λ _. epoch-changes (with_lost servers config) (substitutes_for own servers (with_lost servers config))) (λ _ h. h)
+epoch-lose own servers config = search (arith, epoch-changes)
 
 epoch-refills : (config : Config) (ids : Option (List ServerId)) → KeepsEpoch config (refills_with config ids).0
 epoch-refills config None h = h
@@ -220,16 +159,10 @@ epoch-refills config (Some ids) h = h
 
 pub quiet-stored : (seg : ℕ) (from : ServerId) (epoch len : ℕ) (closed : Bool) {log : Log} →
     QuietLog log (stored seg from epoch len closed log)
-quiet-stored seg from epoch len closed {log} =
-    either (QuietLog log) (has_segment log seg) (with_config seg (noted from epoch len closed (log.segments seg).config) log) log
-    (λ e. quiet-config seg (noted from epoch len closed (log.segments seg).config)
-    (epoch-noted from epoch len closed (log.segments seg).config)) (λ e. quiet-refl)
+quiet-stored seg from epoch len closed {log} = search (arith, quiet-config, epoch-noted, quiet-refl)
 
 pub quiet-commit_noted : (seg epoch : ℕ) {log : Log} → QuietLog log (commit_noted seg epoch log)
-quiet-commit_noted seg epoch {log} =
-    either (QuietLog log) (has_segment log seg) (with_config seg (committed_at epoch (log.segments seg).config) log) log
-    (λ e. quiet-config seg (committed_at epoch (log.segments seg).config)
-    (epoch-committed epoch (log.segments seg).config)) (λ e. quiet-refl)
+quiet-commit_noted seg epoch {log} = search (arith, quiet-config, epoch-committed, quiet-refl)
 
 quiet-change : (seg : ℕ) {log : Log} (done : Config × Result Bool Fault) → KeepsEpoch (log.segments seg).config done.0 →
     QuietLog log (opens_change seg log done).0
@@ -243,14 +176,7 @@ quiet-refills : (seg : ℕ) {log : Log} (done : Config × Result (List ServerId)
 quiet-refills seg (config, answer) epoch = quiet-config seg config epoch
 
 pub quiet-loses : (servers : ServerList) (seg : ℕ) {log : Log} → QuietLog log (loses servers seg log).0
-quiet-loses servers seg {log} =
-    either (λ (after : Log × Result (List ServerId) Fault). QuietLog log after.0) (log.segments seg).shut
-    (refills seg log (refill log.own servers (log.segments seg).config))
-    (opens_change seg log (lose log.own servers (log.segments seg).config))
-    (λ e. quiet-refills seg (refill log.own servers (log.segments seg).config)
-    (epoch-refills (with_lost servers (log.segments seg).config)
-    (substitutes_for log.own servers (with_lost servers (log.segments seg).config))))
-    (λ e. quiet-change seg (lose log.own servers (log.segments seg).config) (epoch-lose log.own servers (log.segments seg).config))
+quiet-loses servers seg {log} = search (arith, quiet-refills, epoch-refills, quiet-change, epoch-lose)
 
 pub quiet-freed : (segs : List ℕ) {log : Log} → QuietLog log (with_freed segs log)
 quiet-freed [] = quiet-refl

@@ -2,7 +2,6 @@
 use Rattle.std.proofs.Common.{◌≡◌, ◌⊎◌, ℕ, ◌<◌, Bool, List, [], ◌∷◌, ◌++◌, Option, Some, None, refl, ap, inl, inr, arith}
 use Rattle.rc_model.specs.Model.{ServerId, Addr, Server, Outside, Entry, Setup, Event, Message, Stored, Enlist, put, between}
 use Rattle.rc_model.specs.Model.{to_coordinator, Backup, Master, NodeWork, HostNode, outside_sends, coordinator_step, server_of}
-use Rattle.rc_model.specs.Model.{next_server}
 use Rattle.rc_model.specs.Model.{host_step, World, opening, NodeName, TheOutside, TheCoordinator, TheHost, Job, is_possible, job_of}
 use Rattle.rc_model.specs.Model.{node_done, job_done, step, replay_from, replay, In, HasMade}
 use Rattle.rc_types.specs.declared.ids.Addr.TheVariants.{Coordinator as AtCoordinator}
@@ -48,16 +47,10 @@ abbrev AllFrom : Addr → List Message → Type 0
 AllFrom from messages = (message : Message) → In message messages → message.from ≡ from
 
 by-coordinator : (messages sent : List Message) → AllFrom AtCoordinator messages → TellsSent messages sent
-by-coordinator messages sent from x m s e len closed at o less = absurd (never (from (between x m (Stored s e len closed)) at))
-  where
-    never : ◌≡◌ {A = Addr} (Server x) AtCoordinator → ⊥
-    never e = cc
+by-coordinator messages sent from x m s e len closed at o less = search arith
 
 by-outside : (messages sent : List Message) → AllFrom Outside messages → TellsSent messages sent
-by-outside messages sent from x m s e len closed at o less = absurd (never (from (between x m (Stored s e len closed)) at))
-  where
-    never : ◌≡◌ {A = Addr} (Server x) Outside → ⊥
-    never e = cc
+by-outside messages sent from x m s e len closed at o less = search arith
 
 of-outside : (work : NodeWork) → AllFrom Outside (outside_sends work)
 of-outside (Ask to asked) message (inl same) = ap (λ (one : Message). one.from) same

@@ -7,9 +7,9 @@ use Rattle.std.proofs.lemmas.List.{append-nil, append_assoc, length-append, map-
 use Rattle.std.specs.Option.{option_or}
 use Rattle.rc_model.specs.Model.{ServerId, Addr, Entry, Message, Body, WriteOk, Setup, to_outside, durable_len, Segment, durable_in, Log}
 use Rattle.rc_model.specs.Model.{LogPlace, places_in, places_to, places_of, numbers_to, durable_among, durable_now, has_segment, Master}
-use Rattle.rc_model.specs.Model.{then_does, when, follows_start, follows_placed, follows_closing, follows_shut, follows_change}
-use Rattle.rc_model.specs.Model.{follows_stored, follows_data, follows_replay, follow_up, write_oks, followed, enough, goes_on}
-use Rattle.rc_model.specs.Model.{ticks, master_takes_first, deposed_takes, master_takes, master_ticks, factor_of, replay, all_shut_to}
+use Rattle.rc_model.specs.Model.{then_does, when}
+use Rattle.rc_model.specs.Model.{follow_up, write_oks, goes_on}
+use Rattle.rc_model.specs.Model.{master_takes, master_ticks, factor_of, replay, all_shut_to}
 use Rattle.rc_model.specs.Model.{is_stored_on_all, In}
 use Rattle.rc_model.proofs.Measures.{goes_on-up, goes_on-settles}
 use Rattle.rc_step_laws.proofs.Lists.{get-left, get-within}
@@ -17,8 +17,8 @@ use Rattle.rc_write_laws.specs.AckClaims.{is_ack_of, counted_places, StoredIsAck
 use Rattle.rc_model.proofs.Walk.{same-deposed}
 use Rattle.rc_write_laws.proofs.Walk.{first-kept_by, ticks-kept_by}
 use Rattle.rc_log_laws.proofs.EachMaster.{IsKeptByAll, kept-replay}
-use Rattle.rc_write_laws.proofs.Counting.{Acks, acks-kept, acks-takes, acks-ticks, counted-is-acknowledged}
-use Rattle.rc_model.proofs.Tests.{true_false, either}
+use Rattle.rc_write_laws.proofs.Counting.{acks-kept, acks-takes, acks-ticks, counted-is-acknowledged}
+use Rattle.rc_model.proofs.Tests.{either}
 use Rattle.rc_model.proofs.Members.{In-filter}
 use Rattle.rc_model.proofs.LogParts.{length-places_in}
 
@@ -35,9 +35,7 @@ place_at seg offset one = record { seg = seg; offset = offset; entry = one.0; cl
 places_in-get : {seg : ℕ} (offset : ℕ) (entries : List (Entry × Bool)) (k : ℕ) {one : Entry × Bool} → slice_get entries k ≡ Some one →
     slice_get (places_in seg offset entries) k ≡ Some (record { seg = seg; offset = offset + k; entry = one.0; client = one.1 })
 places_in-get offset [] k e = cc
-places_in-get {seg} offset (first ∷ entries) zero {one} e =
-    let same : first ≡ one = cc in
-    ap (λ (p : Entry × Bool). Some (place_at seg offset p)) same ∙ ap (λ n. Some (place_at seg n one)) (omega arith)
+places_in-get {seg} offset (first ∷ entries) zero {one} e = search arith
 places_in-get {seg} offset (first ∷ entries) (suc k) {one} e =
     places_in-get (offset + 1) entries k e ∙ ap (λ n. Some (place_at seg n one)) (omega arith)
 
@@ -96,9 +94,7 @@ among-shut segments (suc n) others e =
 
 -- and an open one as far as all have it
 among-first : (segment : Segment) (others : List Segment) {o : ℕ} → o < durable_in segment → o < durable_among (segment ∷ others)
-among-first segment others {o} less =
-    either (λ n. o < n) segment.shut (length segment.entries + durable_among others) (durable_in segment)
-    (λ e. omega (arith, less)) (λ e. less)
+among-first segment others {o} less = search arith
 
 reached : (segments : ℕ → Segment) (n d : ℕ) {o : ℕ} → all_shut_to segments n ≡ true → o < durable_in (segments (suc n)) →
     length (places_to segments n) + o < durable_among (map segments (numbers_to (d + suc n)))
@@ -106,14 +102,7 @@ reached segments n d {o} shut less = by (numbers-go_on n d)
   where
     by : (rest : List ℕ) × (numbers_to (d + suc n) ≡ numbers_to n ++ (suc n ∷ rest)) →
         length (places_to segments n) + o < durable_among (map segments (numbers_to (d + suc n)))
-    by (rest, e) =
-        let whole : durable_among (map segments (numbers_to (d + suc n))) ≡ length
-        (places_to segments n) + durable_among (segments (suc n) ∷ map segments rest) =
-        ap (λ l. durable_among (map segments l)) e ∙
-        (ap durable_among (map-append segments (numbers_to n) (suc n ∷ rest)) ∙
-        among-shut segments n (segments (suc n) ∷ map segments rest) shut) in
-        let first : o < durable_among (segments (suc n) ∷ map segments rest) = among-first (segments (suc n)) (map segments rest) less in
-        omega (arith, whole, first)
+    by (rest, e) = search (arith, map-append, among-shut, among-first)
 
 stands : (segments : ℕ → Segment) {n : ℕ} (d : ℕ) {o : ℕ} {one : Entry × Bool} → slice_get (segments (suc n)).entries o ≡ Some one →
     slice_get (places_to segments (d + suc n)) (length (places_to segments n) + o) ≡ Some (place_at (suc n) o one)
@@ -142,9 +131,7 @@ ok_of own place = to_outside own (WriteOk place.seg place.offset place.entry.ter
 In-oks : (own : ServerId) (places : List LogPlace) (place : LogPlace) → In place places → place.client ≡ true →
     In (ok_of own place) (write_oks own places)
 In-oks own [] place at client = absurd at
-In-oks own (first ∷ places) place (inl same) client =
-    either (In (ok_of own place)) first.client (ok_of own first ∷ write_oks own places) (write_oks own places)
-    (λ _. inl (ap (ok_of own) same)) (λ isn't. true_false (sym client ∙ (ap (λ (p : LogPlace). p.client) same ∙ isn't)))
+In-oks own (first ∷ places) place (inl same) client = search arith
 In-oks own (first ∷ places) place (inr rest) client =
     either (In (ok_of own place)) first.client (ok_of own first ∷ write_oks own places) (write_oks own places)
     (λ _. inr (In-oks own places place rest client)) (λ _. In-oks own places place rest client)
@@ -161,44 +148,23 @@ when-none false done e = refl
 when-none true done e = cc
 
 nothing-stored : (master : Master) → follow_up master ≡ None → durable_now master.log ≤ master.log.durable
-nothing-stored master e =
-    let a = or-none (follows_start master) e in
-    let b = or-none (follows_placed master) a.1 in
-    let c = or-none (follows_closing master) b.1 in
-    let d = or-none (follows_shut master) c.1 in
-    let f = or-none (follows_change master) d.1 in
-    let g = or-none (follows_stored master) f.1 in
-    not_less master.log.durable (durable_now master.log) (when-none (nat_lt master.log.durable (durable_now master.log)) _ g.0)
-  where
-    not_less : (n m : ℕ) → nat_lt n m ≡ false → m ≤ n
-    not_less n m isn't = grind (arith, nat_tests)
+nothing-stored master e = search (arith, or-none, when-none, nat_lt, nat_tests)
 
 abbrev pub Settled : Master → Type 0
 Settled master = master.deposed ≡ false → durable_now master.log ≤ master.log.durable
 
 goes-settled : (master : Master) → master.log.factor ≢ 0 → Settled (goes_on master).0
-goes-settled master factor =
-    either (λ (after : Master × List Message). Settled after.0) master.deposed (master, []) (followed (enough master) master)
-    (λ is up. true_false (sym is ∙ up))
-    (λ isn't. subst (λ (after : Master × List Message). Settled after.0) (goes_on-up master isn't)
-    (λ _. nothing-stored (goes_on master).0 (goes_on-settles master factor isn't)))
+goes-settled master factor = search (arith, goes_on-up, nothing-stored, goes_on-settles)
 
 then-settled : (first : Master × List Message) → first.0.log.factor ≢ 0 → Settled (then_does first goes_on).0
 then-settled (master, messages) factor = goes-settled master factor
 
 takes-settled : (master : Master) (from : Addr) (body : Body) → master.log.factor ≢ 0 → Settled master →
     Settled (master_takes master from body).0
-takes-settled master from body factor was =
-    either (λ (after : Master × List Message). Settled after.0) master.deposed (deposed_takes master body)
-    (then_does (master_takes_first master from body) goes_on) (λ _. subst Settled (sym (same-deposed master body)) was)
-    (λ _. then-settled (master_takes_first master from body)
-    (λ none. factor (sym (first-kept_by (λ entry. Unit {0}) Acks acks-kept.inputs master from body
-    (λ table key value under e. tt)).factor ∙ none)))
+takes-settled master from body factor was = search (arith, same-deposed, then-settled, first-kept_by, acks-kept)
 
 ticks-settled : (master : Master) → master.log.factor ≢ 0 → Settled master → Settled (master_ticks master).0
-ticks-settled master factor was =
-    either (λ (after : Master × List Message). Settled after.0) master.deposed (master, []) (then_does (ticks master) goes_on) (λ _. was)
-    (λ _. then-settled (ticks master) (λ none. factor (sym (ticks-kept_by (λ entry. Unit {0}) Acks acks-kept.inputs master).factor ∙ none)))
+ticks-settled master factor was = search (arith, then-settled, ticks-kept_by, acks-kept)
 
 -- A world
 
@@ -207,29 +173,13 @@ pub record IsSettled (setup : Setup) (sent : List Message) (m : ServerId) (maste
   pub settled : factor_of setup m.index ≢ 0 → Settled master
 
 pub settled-kept : (setup : Setup) → IsKeptByAll setup (IsSettled setup)
-settled-kept setup = record {
-  opened = λ m. record { factor = refl; settled = λ _ _. omega arith };
-  led = record {
-    same = λ sent m master p. p;
-    others = λ sent messages m master p others. record { factor = p.factor; settled = p.settled };
-    takes = λ sent m master from body good p at. record {
-      factor = (acks-takes from body).factor ∙ p.factor;
-      settled = λ some. takes-settled master from body (λ none. some (sym p.factor ∙ none)) (p.settled some);
-    };
-    ticks = λ sent m master good p. record {
-      factor = (acks-ticks master).factor ∙ p.factor;
-      settled = λ some. ticks-settled master (λ none. some (sym p.factor ∙ none)) (p.settled some);
-    };
-  };
-}
+settled-kept setup = search (arith, acks-takes, takes-settled, acks-ticks, ticks-settled)
 
 -- a client's write that is stored on all is counted
 stored-counted : (log : Log) (s o : ℕ) (entry : Entry) → durable_now log ≤ log.durable →
     is_stored_on_all log s o ≡ true → slice_get (log.segments s).entries o ≡ Some (entry, true) →
     In (place_at s o (entry, true)) (counted_places log)
-stored-counted log zero o entry settled e at = true_false (sym (and_parts (nat_lt 0 0) (nat_le 0 log.head)
-    (and_parts (has_segment log 0) (nat_lt o (durable_len (log.segments 0).config) && all_shut_to log.segments (0 - 1))
-    e).0).0)
+stored-counted log zero o entry settled e at = search (arith, and_parts, nat_lt)
 stored-counted log (suc n) o entry settled e at =
     In-take log.durable (places_of log) (length (places_to log.segments n) + o) (place_at (suc n) o (entry, true))
     (subst (λ h. slice_get (places_to log.segments h) (length (places_to log.segments n) + o) ≡ Some
@@ -253,9 +203,7 @@ stored-counted log (suc n) o entry settled e at =
     shut = let e : suc n - 1 ≡ n = omega arith in subst (λ k. all_shut_to log.segments k ≡ true) e second.1
 
     within : o < durable_in (log.segments (suc n))
-    within = let one : o < durable_len (log.segments (suc n)).config = ltb-true o (durable_len (log.segments (suc n)).config) second.0 in
-        let two : o < length (log.segments (suc n)).entries =
-        get-within (log.segments (suc n)).entries o at in omega (arith, one, two)
+    within = search (arith, ltb-true, second, get-within)
 
     counted : length (places_to log.segments n) + o < durable_now log
     counted = subst (λ h. length (places_to log.segments n) + o < durable_among (map log.segments (numbers_to h))) up

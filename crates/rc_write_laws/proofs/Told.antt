@@ -1,15 +1,14 @@
 -- A member that has told its replica closed has told all of the segment; and what is shut is closed on all its members.
-use Rattle.std.proofs.Common.{◌≡◌, ◌≢◌, ◌⊎◌, ℕ, zero, suc, ◌+◌, ◌-◌, ◌<◌, ◌≤◌, max, Bool, true, false, ◌&&◌, ◌||◌, nat_eq, nat_lt, List}
-use Rattle.std.proofs.Common.{[], ◌∷◌, map, length, take, Option, Some, None, Result, Ok, Err, refl, sym, ap, ◌∙◌, subst, inl, inr, arith}
+use Rattle.std.proofs.Common.{◌≡◌, ◌≢◌, ◌⊎◌, ℕ, ◌+◌, ◌-◌, ◌<◌, ◌≤◌, Bool, true, false, nat_eq, nat_lt, List}
+use Rattle.std.proofs.Common.{[], ◌∷◌, map, length, Option, Some, None, Result, Ok, Err, refl, sym, ap, ◌∙◌, subst, inl, inr, arith}
 use Rattle.std.proofs.lemmas.Bool.{and_parts, ltb-true}
 use Rattle.std.proofs.lemmas.Bool.Decides.{nat_tests}
 use Rattle.rc_model.specs.Model.{ServerId, Entry, Member, Fault, EpochsExhausted, LAST_EPOCH, ServerList, has_crashed, Config, new_member}
-use Rattle.rc_model.specs.Model.{candidates, choose, told_with, is_heard, told_if_heard, noted, committed_at, all_closed, told_closed}
-use Rattle.rc_model.specs.Model.{told_len, any_lost, lost_if_crashed, with_lost, substitutes_for, replaced, changed, changes_to, lose}
+use Rattle.rc_model.specs.Model.{choose, told_if_heard, noted, committed_at, told_closed}
+use Rattle.rc_model.specs.Model.{told_len, lost_if_crashed, with_lost, replaced, changed, changes_to, lose}
 use Rattle.rc_model.specs.Model.{refills_with, refill, Segment, new_segment, with_entry, under_new_epoch, is_all_closed, Log, head_of}
 use Rattle.rc_model.specs.Model.{old_head_of, has_old_head, with_segment, has_segment, opens_head, appends, with_config, stored}
 use Rattle.rc_model.specs.Model.{commit_noted, opens_change, refills, loses, shuts, with_freed, In}
-use Rattle.rc_types.specs.declared.kept.Told.{Told as ToldIt}
 use Rattle.rc_log_laws.proofs.MasterWorlds.{put-cases}
 use Rattle.rc_model.proofs.Tests.{true_false, either}
 use Rattle.rc_model.proofs.Tables.{put_each}
@@ -149,18 +148,10 @@ from-replaced (first ∷ members) (id ∷ ids) member at e =
 some-replaced : (members : List Member) (ids : List ServerId) → StaySome members (replaced members ids)
 some-replaced [] ids some none = some refl
 some-replaced (first ∷ members) [] some none = cc
-some-replaced (first ∷ members) (id ∷ ids) some none =
-    either (λ (now : List Member). now ≡ [] → ⊥) first.lost (new_member id ∷ replaced members ids)
-    (first ∷ replaced members (id ∷ ids)) (λ _ never. cc) (λ _ never. cc) none
+some-replaced (first ∷ members) (id ∷ ids) some none = search arith
 
 from-trans : (a b c : List Member) → FromMembers a b → FromMembers b c → FromMembers a c
-from-trans a b c p q member at e = by (q member at e)
-  where
-    by : (was : Member) × (In was b) × (was.told ≡ member.told) → (was : Member) × (In was a) × (was.told ≡ member.told)
-    by (was, there, same) = further (p was there (ap told_closed same ∙ e))
-      where
-        further : (first : Member) × (In first a) × (first.told ≡ was.told) → (first : Member) × (In first a) × (first.told ≡ member.told)
-        further (first, here, is) = (first, here, is ∙ same)
+from-trans a b c p q member at e = search arith
 
 -- Inputs: what they keep, and they shut nothing
 
@@ -176,11 +167,7 @@ input-trans a b c p q = record { keeps = λ told. q.keeps (p.keeps told); shut =
 
 input-put : {log : Log} (seg : ℕ) (segment : Segment) → segment.shut ≡ (log.segments seg).shut →
     (Told log → Told (with_segment seg segment log)) → InputOk log (with_segment seg segment log)
-input-put {log} seg segment same keeps = record {
-  keeps = keeps;
-  shut = put_each (λ k (one : Segment). one.shut ≡ true → (log.segments k).shut ≡ true) log.segments seg segment
-      (λ e. sym same ∙ e) (λ k e. e);
-}
+input-put {log} seg segment same keeps = search (arith, put_each)
 
 input-members : {log : Log} (seg : ℕ) (segment : Segment) → segment.shut ≡ (log.segments seg).shut →
     segment.entries ≡ (log.segments seg).entries →
@@ -223,32 +210,14 @@ input-stored {seg} from epoch {len} {closed} {log} whole =
         →
         told_closed (told_if_heard from len closed member).told ≡ true →
         (seg < log.head) × (length (log.segments seg).entries ≤ told_len (told_if_heard from len closed member).told)
-    one member was = either (λ (now : Member). told_closed now.told ≡ true →
-        (seg < log.head) × (length (log.segments seg).entries ≤ told_len now.told)) (is_heard from member)
-        (record member { told = Some (told_with member.told len closed) }) member
-        (λ _ e. with member.told was e) (λ _ e. was e)
-      where
-        with : (told : Option ToldIt) →
-            (told_closed told ≡ true → (seg < log.head) × (length (log.segments seg).entries ≤ told_len told)) →
-            (told_with told len closed).closed ≡ true →
-            (seg < log.head) × (length (log.segments seg).entries ≤ (told_with told len closed).len)
-        with None old e = whole e
-        with (Some told) old e = by told.closed closed old whole e
-          where
-            by : (a b : Bool) → (a ≡ true → (seg < log.head) × (length (log.segments seg).entries ≤ told.len)) →
-                (b ≡ true → (seg < log.head) × (length (log.segments seg).entries ≤ len)) → (a || b) ≡ true →
-                (seg < log.head) × (length (log.segments seg).entries ≤ max told.len len)
-            by true b p q e = let enough : length (log.segments seg).entries ≤ told.len = (p refl).1 in ((p refl).0, omega (arith, enough))
-            by false b p q e = let enough : length (log.segments seg).entries ≤ len = (q e).1 in ((q e).0, omega (arith, enough))
+    one member was = search arith
 
     each : (members : List Member) → ((member : Member) → In member members → told_closed member.told ≡ true →
         (seg < log.head) × (length (log.segments seg).entries ≤ told_len member.told)) →
         (member : Member) → In member (map (told_if_heard from len closed) members) → told_closed member.told ≡ true →
         (seg < log.head) × (length (log.segments seg).entries ≤ told_len member.told)
     each [] was member at = absurd at
-    each (first ∷ members) was member (inl is) = subst (λ (some : Member). told_closed some.told ≡ true →
-        (seg < log.head) × (length (log.segments seg).entries ≤ told_len some.told)) (sym is)
-        (one first (was first (inl refl)))
+    each (first ∷ members) was member (inl is) = search (arith, one)
     each (first ∷ members) was member (inr rest) = each members (λ some at. was some (inr at)) member rest
 
     heard : Told log → Told (with_segment seg
@@ -277,10 +246,7 @@ abbrev FromConfig : Config → Config → Type 0
 FromConfig old new = FromMembers old.members new.members × StaySome old.members new.members
 
 from-marked : (servers : ServerList) (config : Config) → FromConfig config (with_lost servers config)
-from-marked servers config = (
-  from-map (lost_if_crashed servers) (lost-told servers) config.members,
-  some-map (lost_if_crashed servers) config.members,
-)
+from-marked servers config = search (arith, from-map, lost-told, some-map)
 
 from-changes : (config marked : Config) (ids : Option (List ServerId)) → FromConfig config marked →
     FromConfig config (changes_to marked ids).0
@@ -297,12 +263,7 @@ from-changes config marked (Some ids) p =
     some-reset (first ∷ members) some none = cc
 
 from-lose : (own : ServerId) (servers : ServerList) (config : Config) → FromConfig config (lose own servers config).0
-from-lose own servers config = either (λ (answer : Config × Result Bool Fault). FromConfig config answer.0)
-    (any_lost (with_lost servers config).members)
-    (changes_to (with_lost servers config) (substitutes_for own servers (with_lost servers config)))
-    (with_lost servers config, Ok false)
-    (λ _. from-changes config (with_lost servers config) (substitutes_for own servers (with_lost servers config))
-    (from-marked servers config)) (λ _. from-marked servers config)
+from-lose own servers config = search (arith, from-changes, from-marked)
 
 from-refills : (config marked : Config) (ids : Option (List ServerId)) → FromConfig config marked →
     FromConfig config (refills_with marked ids).0
@@ -321,9 +282,7 @@ input-loses servers seg log =
     filled.1) (λ _. input-change seg (lose log.own servers (log.segments seg).config) lost.0 lost.1)
   where
     filled : FromConfig (log.segments seg).config (refill log.own servers (log.segments seg).config).0
-    filled = from-refills (log.segments seg).config (with_lost servers (log.segments seg).config)
-        (substitutes_for log.own servers (with_lost servers (log.segments seg).config))
-        (from-marked servers (log.segments seg).config)
+    filled = search (arith, from-refills, from-marked)
 
     lost : FromConfig (log.segments seg).config (lose log.own servers (log.segments seg).config).0
     lost = from-lose log.own servers (log.segments seg).config
@@ -333,21 +292,7 @@ input-loses servers seg log =
 -- where members are chosen there are some
 chosen-some : (seg : ℕ) (own : ServerId) {factor : ℕ} (servers : ServerList) {ids : List ServerId} → factor ≢ 0 →
     choose seg own factor servers ≡ Some ids → ids ≡ [] → ⊥
-chosen-some seg own {factor} servers {ids} some e none = either (λ (found : Option (List ServerId)). found ≡ Some ids →
-    ⊥) (nat_lt (length (candidates seg own servers)) factor) None (Some (take factor (candidates seg own servers)))
-    (λ _ never. cc) (λ enough it. by factor (candidates seg own servers) some enough
-    (one (take factor (candidates seg own servers)) ids it ∙ none)) e
-  where
-    one : (a b : List ServerId) → Some a ≡ Some b → a ≡ b
-    one a b e = cc
-
-    by : (n : ℕ) (list : List ServerId) → n ≢ 0 → nat_lt (length list) n ≡ false → take n list ≡ [] → ⊥
-    by zero list some enough none = some refl
-    by (suc n) [] some enough none = true_false (sym (below n) ∙ enough)
-      where
-        below : (k : ℕ) → nat_lt 0 (suc k) ≡ true
-        below k = grind (arith, nat_tests)
-    by (suc n) (id ∷ list) some enough none = cc
+chosen-some seg own {factor} servers {ids} some e none = search (arith, nat_lt, nat_tests)
 
 told-opens : {log : Log} (digest : List ℕ) {ids : List ServerId} → (ids ≡ [] → ⊥) → Told log → Told (opens_head log digest ids)
 told-opens {log} digest {ids} some told = record {
@@ -379,9 +324,7 @@ told-opens {log} digest {ids} some told = record {
 -- nothing that was there is shut by it
 opens-shut : (log : Log) (digest : List ℕ) (ids : List ServerId) (s : ℕ) →
     ((opens_head log digest ids).segments s).shut ≡ true → (log.segments s).shut ≡ true
-opens-shut log digest ids =
-    put-cases (λ k (one : Segment). one.shut ≡ true → (log.segments k).shut ≡ true) log.segments (log.head + 1)
-    (new_segment (log.head + 1) digest ids) (λ e. true_false (sym e)) (λ k _ e. e)
+opens-shut log digest ids = search (arith, put-cases)
 
 pub input-chosen : {log : Log} (digest : List ℕ) {ids : List ServerId} (seg : ℕ) (servers : ServerList) →
     choose seg log.own log.factor servers ≡ Some ids → InputOk log (opens_head log digest ids)
@@ -411,24 +354,7 @@ pub follow-refl : (log : Log) → FollowOk log log
 follow-refl log = record { keeps = λ told. told; upto = omega arith; config = λ s upto. refl; closes = λ told s e. inl e }
 
 pub follow-trans : (a b c : Log) → FollowOk a b → FollowOk b c → FollowOk a c
-follow-trans a b c p q = record {
-  keeps = λ told. q.keeps (p.keeps told);
-  upto = (let one : a.head ≤ b.head = p.upto in let two : b.head ≤ c.head = q.upto in omega (arith, one, two));
-  config = λ s upto. q.config s (let one : a.head ≤ b.head = p.upto in omega (arith, one, upto)) ∙ p.config s upto;
-  closes = λ told s e. by told s (q.closes (p.keeps told) s e);
-}
-  where
-    by : Told a → (s : ℕ) → ((b.segments s).shut ≡ true) ⊎ (is_all_closed (c.segments s) ≡ true) →
-        ((a.segments s).shut ≡ true) ⊎ (is_all_closed (c.segments s) ≡ true)
-    by told s (inr closed) = inr closed
-    by told s (inl shut) = further (p.closes told s shut)
-      where
-        further : ((a.segments s).shut ≡ true) ⊎ (is_all_closed (b.segments s) ≡ true) →
-            ((a.segments s).shut ≡ true) ⊎ (is_all_closed (c.segments s) ≡ true)
-        further (inl was) = inl was
-        further (inr closed) =
-            let less : s < b.head = (p.keeps told).within s shut in
-            inr (ap (λ (config : Config). config.committed && all_closed config) (q.config s (omega (arith, less))) ∙ closed)
+follow-trans a b c p q = search arith
 
 -- a segment with the same config and entries, and not shut by it
 pub follow-alike : {log : Log} (seg : ℕ) (segment : Segment) → segment.entries ≡ (log.segments seg).entries →

@@ -2,9 +2,9 @@
 use Rattle.std.proofs.Common.{◌≡◌, ℕ, ◌-◌, ◌<◌, Bool, true, false, List, [], ◌∷◌, ◌++◌, filter, length, Option, Some, refl}
 use Rattle.std.proofs.Common.{sym, subst, arith}
 use Rattle.std.proofs.lemmas.Bool.{ltb-true}
-use Rattle.rc_model.specs.Model.{ServerId, Addr, Entry, Closing, Writing, Message, Body, Write, Close, LAST_SEGMENT, Log, head_of}
-use Rattle.rc_model.specs.Model.{old_head_of, numbers_to, durable_now, opens_head, is_full, next_digest, stored, commit_noted, loses}
-use Rattle.rc_model.specs.Model.{left_out, starts, closes_old, writes_on, after_replay, Master, with_log, ids_of, place_of, places_head}
+use Rattle.rc_model.specs.Model.{ServerId, Addr, Entry, Message, Body, Write, Close, LAST_SEGMENT, Log}
+use Rattle.rc_model.specs.Model.{old_head_of, numbers_to, durable_now, opens_head, is_full, next_digest, stored, commit_noted}
+use Rattle.rc_model.specs.Model.{left_out, closes_old, writes_on, after_replay, Master, with_log, ids_of, places_head}
 use Rattle.rc_model.specs.Model.{appends_entry, dead_segments, written, is_unclosed, with_closes_sent, close_marked, frees_segments}
 use Rattle.rc_model.specs.Model.{first_open, commits, write_oks, new_durable, reminds_open, reminds_shut, commits_again, fetches_again}
 use Rattle.rc_model.specs.Model.{recovered_again, ready_again, reminds, ticks, master_takes_first, master_takes, master_ticks}
@@ -49,22 +49,13 @@ module _ (Asked : Entry → Type 0) (R : Master → Master × List Message → T
 
   opens : (master : Master) (digest : List ℕ) (ids : List ServerId) → master.log.head < LAST_SEGMENT →
       R master (with_log master (opens_head master.log digest ids), places_head (opens_head master.log digest ids))
-  opens master digest ids room =
-      kept.quiet master (with_log master (opens_head master.log digest ids)) (places_head (opens_head master.log digest ids))
-      (quiet-opens digest ids room)
-      (soft-ids master.log.own (ids_of (head_of (opens_head master.log digest ids)).config.members)
-      (place_of (opens_head master.log digest ids) (opens_head master.log digest ids).head false) refl)
+  opens master digest ids room = search (arith, quiet-opens, soft-ids)
 
   rolls : (master : Master) → Rolls R master
   rolls master ids writing room chosen = opens master (next_digest master.log (dead_segments master)) ids room
 
   listed : Listed R
-  listed = record {
-    replaces = λ master seg ids isn't. (let log : Log = (loses master.known seg master.log).0 in
-        kept.quiet master (with_log master log) _ (quiet-loses master.known seg)
-        (soft-ids log.own ids (place_of log seg (log.segments seg).shut) refl));
-    opens = λ master ids none chosen. opens master (1 ∷ []) ids (omega (arith, none));
-  }
+  listed = search (arith, quiet-loses, soft-ids, opens)
 
   -- by a Write only what was asked is appended for a client
   abbrev pub WritesAsked : Master → Body → Type 0

@@ -1,18 +1,18 @@
 -- What is shut, and what is counted, was stored on all members at some moment, so it is durable; and so is what was acknowledged.
-use Rattle.std.proofs.Common.{◌≡◌, ◌≢◌, ◌⊎◌, ℕ, zero, suc, ◌+◌, ◌-◌, ◌<◌, ◌≤◌, min, max, Bool, true, false, not, ◌&&◌, List, [], ◌∷◌}
+use Rattle.std.proofs.Common.{◌≡◌, ◌≢◌, ◌⊎◌, ℕ, zero, suc, ◌-◌, ◌<◌, ◌≤◌, min, Bool, true, false, not, ◌&&◌, List, [], ◌∷◌}
 use Rattle.std.proofs.Common.{◌++◌, length, take, nat_lt, ◌||◌, slice_get, Some, refl, sym, ap, ◌∙◌, subst, inl, inr, arith}
 use Rattle.std.specs.List.{list_all}
 use Rattle.std.proofs.lemmas.Bool.{and_parts, cases_order}
 use Rattle.std.proofs.lemmas.Bool.Decides.{nat_tests}
 use Rattle.std.proofs.lemmas.List.{length-map, length-append, append-nil, append_assoc, take_all, take-take, take-append-le}
-use Rattle.rc_model.specs.Model.{ServerId, Addr, Server, Entry, Setup, Event, Member, Message, Body, WriteOk, is_server, between}
-use Rattle.rc_model.specs.Model.{all_closed, is_closed, told_closed, told_len, any_lost, least_told, durable_len, Segment}
+use Rattle.rc_model.specs.Model.{ServerId, Addr, Server, Setup, Event, Member, Message, Body, WriteOk, is_server, between}
+use Rattle.rc_model.specs.Model.{is_closed, told_closed, told_len, any_lost, least_told, durable_len, Segment}
 use Rattle.rc_model.specs.Model.{is_all_closed, durable_in, Log, LogPlace, has_segment, places_of, durable_now, all_shut_to}
-use Rattle.rc_model.specs.Model.{is_stored_on_all, WasStored, EarlierWereStored, IsDurable, Master, master_takes, master_ticks}
+use Rattle.rc_model.specs.Model.{is_stored_on_all, WasStored, EarlierWereStored, IsDurable, Master}
 use Rattle.rc_model.specs.Model.{factor_of, World, opening, step, replay, In}
 use Rattle.rc_types.specs.declared.messages.Body.TheVariants as body
 use Rattle.rc_model.proofs.Replays.{replay_from-push}
-use Rattle.rc_step_laws.specs.All.{log_in, IsStored, GoodMaster, LogLater}
+use Rattle.rc_step_laws.specs.All.{IsStored, GoodMaster, LogLater}
 use Rattle.rc_step_laws.proofs.Lists.{get-below, get-begins, get-within}
 use Rattle.rc_step_laws.proofs.Places.{IsOf, places_to-are, places-later, IsCovered, durable-covered}
 use Rattle.rc_step_laws.proofs.Tests.{all-each, In-take}
@@ -27,7 +27,7 @@ use Rattle.rc_write_laws.specs.DurableClaims.{StoredIsDurable, CountedIsDurable,
 use Rattle.rc_write_laws.proofs.Told.{Told, IsWholeTold}
 use Rattle.rc_write_laws.proofs.DurableSteps.{TellsWhole, StepOk, step-same, takes-step, ticks-step}
 use Rattle.rc_model.proofs.Ids.{same_id-refl}
-use Rattle.rc_model.proofs.Tests.{true_false, either}
+use Rattle.rc_model.proofs.Tests.{true_false}
 use Rattle.rc_model.proofs.Members.{filter-In}
 use Rattle.rc_log_laws.proofs.Stored.{all_shut-each}
 
@@ -39,12 +39,7 @@ tells-whole : (world : World) → GoodWorld world → (m : ServerId) (from : Add
 tells-whole world good m (Server x) (body.Stored s e len closed) at = whole (good.messages (between x m (body.Stored s e len closed)) at)
   where
     whole : IsStored world.sent world.hosts m (world.masters m).log x s e len closed → IsWholeTold (world.masters m).log s len closed
-    whole is closed_so =
-        let all : (s < (world.masters m).log.head) × (len ≡ length (log_in (world.masters m).log s)) = is.told.whole closed_so in
-        let same : length (log_in (world.masters m).log s) ≡ length ((world.masters m).log.segments s).entries =
-        length-map ((world.masters m).log.segments s).entries (λ (one : Entry × Bool). one.0) in
-        let long : len ≡ length (log_in (world.masters m).log s) = all.1 in
-        (all.0, omega (arith, long, same))
+    whole is closed_so = search (arith, length-map)
 tells-whole world good m from says at = tt
 
 module _ (world : World) (good : GoodWorld world) where
@@ -60,16 +55,7 @@ module _ (world : World) (good : GoodWorld world) where
   after-step after same p = subst (λ (old : Master). StepOk old.log after.log) same p
 
   step-led : IsLed IsBefore IsAfter
-  step-led = record {
-    same = λ sent m master p. after-step master p.master_is (step-same);
-    others = λ sent messages m master p others. after-step master p.master_is (step-same);
-    takes = λ sent m master from says fine p at. after-step (master_takes master from says).0 p.master_is
-        (takes-step master from says (subst (λ (old : Master). TellsWhole old.log from says) (sym p.master_is)
-        (tells-whole world good m from says
-        (subst (λ (all : List Message). In (record { from = from; to = Server m; body = says }) all) p.sent_is
-        at))));
-    ticks = λ sent m master fine p. after-step (master_ticks master).0 p.master_is (ticks-step master);
-  }
+  step-led = search (arith, after-step, step-same, takes-step, tells-whole, ticks-step)
 
 steps-on : (world : World) (one : Event) → GoodWorld world → {m : ServerId} → StepOk (world.masters m).log ((step world one).masters m).log
 steps-on world one good {m} = led-by (IsBefore world good) (IsAfter world good) (step-led world good) world one good
@@ -84,22 +70,11 @@ pub record WasStoredOnce (setup : Setup) (events : List Event) (m : ServerId) (s
 
 once-later : {setup : Setup} {events : List Event} (more : List Event) {m : ServerId} {s o : ℕ} → WasStoredOnce setup events m s o →
     WasStoredOnce setup (events ++ more) m s o
-once-later {setup} {events} more {m} {s} {o} was = record {
-  moment = was.moment;
-  happened = (let upto : was.moment ≤ length events = was.happened in let longer : length (events ++ more) ≡ length
-      events + length more = length-append events more in omega (arith, upto, longer));
-  stored = subst (λ (past : List Event). is_stored_on_all ((replay setup past).masters m).log s o ≡ true)
-      (sym (take-append-le was.moment events more was.happened)) was.stored;
-}
+once-later {setup} {events} more {m} {s} {o} was = search (arith, length-append, take-append-le)
 
 once-now : {setup : Setup} {events : List Event} {m : ServerId} {s o : ℕ} →
     is_stored_on_all ((replay setup events).masters m).log s o ≡ true → WasStoredOnce setup events m s o
-once-now {setup} {events} {m} {s} {o} stored = record {
-  moment = length events;
-  happened = omega arith;
-  stored = subst (λ (past : List Event). is_stored_on_all ((replay setup past).masters m).log s o ≡ true)
-      (sym (take_all (length events) events (omega arith))) stored;
-}
+once-now {setup} {events} {m} {s} {o} stored = search (arith, take_all)
 
 -- What is stored now
 
@@ -111,19 +86,7 @@ all-shut segments (suc n) each = ap (λ b. b && all_shut_to segments n) (each (s
 -- a place below the durable length of a segment of the log, where each earlier one is shut
 stored-now : (log : Log) {s o : ℕ} → 0 < s → s ≤ log.head → o < durable_len (log.segments s).config →
     ((t : ℕ) → 0 < t → t < s → (log.segments t).shut ≡ true) → is_stored_on_all log s o ≡ true
-stored-now log {s} {o} above upto less shut = by (has_segment log s) (has above upto)
-    (ap (λ b. b && all_shut_to log.segments (s - 1)) (lt o (durable_len (log.segments s).config) less)
-    ∙ all-shut log.segments (s - 1) (λ t over under. shut t over (omega (arith, above, under))))
-  where
-    has : 0 < s → s ≤ log.head → has_segment log s ≡ true
-    has p q = grind (arith, nat_tests)
-
-    lt : (a b : ℕ) → a < b → nat_lt a b ≡ true
-    lt a b p = grind (arith, nat_tests)
-
-    by : (b : Bool) → b ≡ true → {c : Bool} → c ≡ true → (b && c) ≡ true
-    by true e f = f
-    by false e f = true_false (sym e)
+stored-now log {s} {o} above upto less shut = search (arith, all-shut, nat_tests, nat_lt)
 
 -- a segment that is closed on all its members, who have told all of it
 least-told : {n : ℕ} (members : List Member) → (members ≡ [] → ⊥) →
@@ -154,19 +117,7 @@ none-lost (member ∷ members) e =
 
 closed-len : {log : Log} {s : ℕ} → Told log → 0 < s → s ≤ log.head → is_all_closed (log.segments s) ≡ true →
     length (log.segments s).entries ≤ durable_len (log.segments s).config
-closed-len {log} {s} told above upto closed =
-    either (λ n. length (log.segments s).entries ≤ n) ((log.segments s).config.committed &&
-    not (any_lost (log.segments s).config.members)) (least_told (log.segments s).config.members) 0
-    (λ _. least-told (log.segments s).config.members (told.members s above upto) (λ member at. (told.closed s member at
-    (closed-parts member (all-each is_closed member (log.segments s).config.members parts.1 at)).1).1))
-    (λ isn't. true_false (sym both ∙ isn't))
-  where
-    parts : ((log.segments s).config.committed ≡ true) × (all_closed (log.segments s).config ≡ true)
-    parts = and_parts (log.segments s).config.committed (all_closed (log.segments s).config) closed
-
-    both : ((log.segments s).config.committed && not (any_lost (log.segments s).config.members)) ≡ true
-    both = ap (λ b. b && not (any_lost (log.segments s).config.members)) parts.0 ∙
-        ap not (none-lost (log.segments s).config.members parts.1)
+closed-len {log} {s} told above upto closed = search (arith, least-told, closed-parts, all-each, and_parts, none-lost)
 
 -- After every list of events
 
@@ -216,24 +167,8 @@ module _ (setup : Setup) (events : List Event) (one : Event) (m : ServerId) (was
       by : ((((replay setup events).masters m).log.segments t).shut ≡ true) ⊎
           (is_all_closed (((replay setup (events ++ one ∷ [])).masters m).log.segments t) ≡ true) →
           WasStoredOnce setup (events ++ one ∷ []) m t o
-      by (inl before) = once-later (one ∷ [])
-          (was.shut t o before (subst (λ (entries : List (Entry × Bool)). o < length entries)
-          (later.final t (was.told.within t before)) less))
-      by (inr closed) = once-now
-          (stored-now ((replay setup (events ++ one ∷ [])).masters m).log above (omega (arith, below)) enough
-          (λ k over under. mine.old_shut k over (omega (arith, under, below))))
-        where
-          above : 0 < t
-          above = (mine.shut_below t shut).0
-
-          below : t < ((replay setup (events ++ one ∷ [])).masters m).log.head
-          below = (mine.shut_below t shut).1
-
-          enough : o < durable_len (((replay setup (events ++ one ∷ [])).masters m).log.segments t).config
-          enough = let all : length (((replay setup (events ++ one ∷ [])).masters m).log.segments t).entries ≤
-              durable_len (((replay setup (events ++ one ∷ [])).masters m).log.segments t).config =
-              closed-len told-now above (omega (arith, below))
-              closed in omega (arith, less, all)
+      by (inl before) = search (arith, once-later, later)
+      by (inr closed) = search (arith, once-now, stored-now, mine, closed-len, told-now)
 
   now-counted : (k : ℕ) (place : LogPlace) → k < ((replay setup (events ++ one ∷ [])).masters m).log.durable →
       slice_get (places_of ((replay setup (events ++ one ∷ [])).masters m).log) k ≡ Some place →
@@ -275,11 +210,7 @@ module _ (setup : Setup) (events : List Event) (one : Event) (m : ServerId) (was
               covered.below)
 
       rest : ((replay setup events).masters m).log.durable ≤ k → WasStoredOnce setup (events ++ one ∷ []) m place.seg place.offset
-      rest from =
-          let upto : ((replay setup (events ++ one ∷ [])).masters m).log.durable ≤ max
-          ((replay setup events).masters m).log.durable
-          (durable_now ((replay setup (events ++ one ∷ [])).masters m).log) = counts.count in
-          just (omega (arith, less, from, upto))
+      rest from = search (arith, counts, just)
 
       by_count : (k ≡ ((replay setup events).masters m).log.durable) ⊎
           ((k < ((replay setup events).masters m).log.durable) ⊎ (((replay setup events).masters m).log.durable < k)) →
@@ -292,16 +223,7 @@ module _ (setup : Setup) (events : List Event) (one : Event) (m : ServerId) (was
   all-now = record { told = told-now; shut = now-shut; counted = now-counted }
 
 all-opening : {setup : Setup} {m : ServerId} → factor_of setup m.index ≢ 0 → AllWereStored setup [] m
-all-opening some = record {
-  told = record {
-    closed = λ s member at. absurd at;
-    within = λ s e. true_false (sym e);
-    members = λ s above upto. absurd (omega (arith, above, upto));
-    factor = some;
-  };
-  shut = λ t o shut. true_false (sym shut);
-  counted = λ k place less. absurd (omega (arith, less));
-}
+all-opening some = search arith
 
 all-from : {setup : Setup} {past : List Event} (events : List Event) {m : ServerId} → AllWereStored setup past m
     → AllWereStored setup (past ++ events) m
