@@ -1,6 +1,6 @@
 //! A setup and events as a text.
 
-use rc_pen::{Pen, Piece, Spelling};
+use rc_pen::{Pen, Spelling};
 use rc_reading::{Hosts, Kinds, ScenarioEvent};
 use rc_types::limits::MAX_HOSTS;
 use rc_types::{Addr, Body, Event, Kind, ServerId, Setup};
@@ -86,29 +86,34 @@ fn put_event(pen: &mut Pen, event: &Event) {
             put_id(pen, ",\"owner\":", *owner);
             pen.put("}");
         }
-        Event::Split { table, at } => pen.put_all(
-            "{\"e\":\"split\",\"table\":%,\"at\":%}",
-            &[Piece::U32(*table), Piece::U64(*at)],
-        ),
+        Event::Split { table, at } => {
+            pen.put_number("{\"e\":\"split\",\"table\":", u64::from(*table));
+            pen.put_number(",\"at\":", *at);
+            pen.put("}");
+        }
     }
 }
 
 /// These letters, and an id.
 fn put_id(pen: &mut Pen, letters: &str, id: ServerId) {
     pen.put(letters);
-    pen.put_all("[%,%]", &[Piece::U8(id.index), Piece::U32(id.generation)]);
+    pen.put_number("[", u64::from(id.index));
+    pen.put_number(",", u64::from(id.generation));
+    pen.put("]");
 }
 
 /// An event of a kind that names a server alone.
-fn put_named(pen: &mut Pen, kind: &'static str, id: ServerId) {
-    pen.put_all("{\"e\":\"%\"", &[Piece::Words(kind)]);
-    put_id(pen, ",\"id\":", id);
+fn put_named(pen: &mut Pen, kind: &str, id: ServerId) {
+    pen.put("{\"e\":\"");
+    pen.put(kind);
+    put_id(pen, "\",\"id\":", id);
     pen.put("}");
 }
 
 /// A delivery.
 fn put_deliver(pen: &mut Pen, number: usize) {
-    pen.put_all("{\"e\":\"deliver\",\"n\":%}", &[Piece::Size(number)]);
+    pen.put_number("{\"e\":\"deliver\",\"n\":", number as u64);
+    pen.put("}");
 }
 
 /// A start.
@@ -117,7 +122,8 @@ fn put_start(pen: &mut Pen, host: u8, kept: &[(ServerId, u16)]) {
     pen.put_either(kept.is_empty(), "", ",\"kept\":[");
     for (number, (id, seg)) in kept.iter().enumerate() {
         put_id(pen, if number == 0 { "[" } else { ",[" }, *id);
-        pen.put_all(",%]", &[Piece::U16(*seg)]);
+        pen.put_number(",", u64::from(*seg));
+        pen.put("]");
     }
     pen.put_either(kept.is_empty(), "}", "]}");
 }
@@ -129,12 +135,11 @@ fn put_request(pen: &mut Pen, to: ServerId, body: &Body) {
         Body::Read { table, key } => ("read", *table, *key),
         _ => return,
     };
-    pen.put_all("{\"e\":\"%\"", &[Piece::Words(kind)]);
-    put_id(pen, ",\"to\":", to);
-    pen.put_all(
-        ",\"table\":%,\"key\":%",
-        &[Piece::U32(table), Piece::U64(key)],
-    );
+    pen.put("{\"e\":\"");
+    pen.put(kind);
+    put_id(pen, "\",\"to\":", to);
+    pen.put_number(",\"table\":", u64::from(table));
+    pen.put_number(",\"key\":", key);
     if let Body::Write { value, .. } = body {
         match value {
             Some(bytes) => {
