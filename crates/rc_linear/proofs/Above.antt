@@ -1,11 +1,12 @@
 -- What a client asked for only afterwards stands above all that had stood.
+use Rattle.std.proofs.Common.{arith}
 use Rattle.std.proofs.Common.{◌≡◌, ◌⊎◌, ◌≢◌, ◌<◌, true, List, ◌∷◌, ◌++◌, Some, slice_get, refl, sym, ap, ◌∙◌, subst, inl, inr}
 use Rattle.rc_model.specs.Model.{ServerId, Entry, Setup, Event, Grant, Ack, IsEarlier, LogPlace, places_of, in_range, factor_of, replay}
 use Rattle.rc_model.specs.Model.{HasAcknowledged, In}
 use Rattle.rc_model.proofs.Members.{place_of}
 use Rattle.rc_step_laws.specs.All.{log_in}
 use Rattle.rc_step_laws.proofs.Logs.{get-log}
-use Rattle.rc_step_laws.proofs.Places.{IsOf, places_to-are, place-logged}
+use Rattle.rc_step_laws.proofs.Places.{places_to-are, place-logged}
 use Rattle.rc_owner_laws.specs.Parts.{part_view, IsClients}
 use Rattle.rc_owner_laws.specs.VersionClaims.{MayFree}
 use Rattle.rc_owner_laws.proofs.OwnersOrdered.{one-chain}
@@ -35,9 +36,7 @@ module _ (setup : Setup) (past rest : List Event) (m x : ServerId) (some : facto
 
     its : IsOwned (replay setup (past ++ rest)).sent (replay setup (past ++ rest)).masters (replay setup (past ++ rest)).hosts
         (replay setup (past ++ rest)).coordinator (all_new setup past rest) x written.grant.term place.entry.table place.entry.key
-    its = owned (replay setup (past ++ rest)).sent (replay setup (past ++ rest)).masters (replay setup (past ++ rest)).hosts
-        (replay setup (past ++ rest)).coordinator (all_new setup past rest) x written.grant place.entry.table place.entry.key
-        written.among written.holds
+    its = search (arith, owned, all_new, written)
 
     its_term : its.grant.term ≡ place.entry.term
     its_term = its.term_is ∙ written.term_is
@@ -54,12 +53,7 @@ module _ (setup : Setup) (past rest : List Event) (m x : ServerId) (some : facto
         ((replay setup (past ++ rest)).masters m).log (later-of setup past rest).later s.seg s.offset one s.holds
 
     here : slice_get (log_in ((replay setup (past ++ rest)).masters x).log place.seg) place.offset ≡ Some place.entry
-    here = place-logged ((replay setup (past ++ rest)).masters x).log found
-      where
-        found : IsOf ((replay setup (past ++ rest)).masters x).log.segments ((replay setup (past ++ rest)).masters x).log.head place
-        found = (let k = place_of (places_of ((replay setup (past ++ rest)).masters x).log) place among in
-            places_to-are ((replay setup (past ++ rest)).masters x).log.head
-            k.0 k.1)
+    here = search (arith, place-logged, place_of, places_to-are)
 
     under-one-term : s.owned.grant.term ≡ its.grant.term → one.version < place.entry.version
     under-one-term same =
@@ -114,9 +108,7 @@ module _ (setup : Setup) (past rest : List Event) (m x : ServerId) (some : facto
             ⊎ IsEarlier (replay setup (past ++ rest)).sent one.table one.key its.grant.term s.owned.grant.term) →
             one.version < place.entry.version
         by (inl same) = under-one-term same
-        by (inr (inl way)) = under-later-term
-            (subst (λ n. IsEarlier (replay setup (past ++ rest)).sent one.table one.key n place.entry.term)
-            s.owned.term_is (subst (λ n. IsEarlier (replay setup (past ++ rest)).sent one.table one.key s.owned.grant.term n) its_term way))
+        by (inr (inl way)) = search (arith, under-later-term, its_term)
         by (inr (inr way)) = absurd (not_before (subst (λ n. IsEarlier (replay setup (past ++ rest)).sent one.table one.key n one.term)
             its_term (subst (λ n. IsEarlier (replay setup (past ++ rest)).sent one.table one.key its.grant.term n) s.owned.term_is way)))
 

@@ -1,10 +1,10 @@
 -- A place for which nothing had been sent stands behind all that was sent, durable or recovered by then.
-use Rattle.std.proofs.Common.{◌≡◌, ◌⊎◌, ◌≢◌, ℕ, ◌+◌, ◌-◌, ◌<◌, ◌≤◌, Bool, true, ◌&&◌, nat_lt, List, [], ◌++◌, length, Some, slice_get}
+use Rattle.std.proofs.Common.{◌≡◌, ◌⊎◌, ◌≢◌, ℕ, ◌<◌, ◌≤◌, Bool, true, nat_lt, List, [], ◌++◌, length, Some, slice_get}
 use Rattle.std.proofs.Common.{refl, sym, ap, ◌∙◌, subst, inl, inr, arith}
 use Rattle.std.proofs.lemmas.Bool.{and_parts, and_from, ltb-true}
 use Rattle.std.proofs.lemmas.List.{length-map}
-use Rattle.rc_model.specs.Model.{ServerId, Entry, Setup, Event, Ack, Accepted, Log, has_segment, durable_len, all_shut_to, is_stored_on_all}
-use Rattle.rc_model.specs.Model.{IsDurable, Phase, Writing, Opening, Closing, factor_of, World, replay, WasAccepted}
+use Rattle.rc_model.specs.Model.{ServerId, Entry, Setup, Event, Ack, Accepted, Log, is_stored_on_all}
+use Rattle.rc_model.specs.Model.{IsDurable, factor_of, World, replay, WasAccepted}
 use Rattle.rc_model.specs.Model.{IsHeld, HasAcknowledged, Master}
 use Rattle.rc_model.specs.Durable.{log_after}
 use Rattle.rc_step_laws.specs.All.{log_in, GoodMaster, IsWriteOk}
@@ -28,38 +28,11 @@ use Rattle.rc_linear.specs.Confirmed.{HasSentFor}
 -- each segment before one that has an entry is shut
 shut-before : {sent : List _} {m : ServerId} {master : Master} → GoodMaster sent m master → {t s : ℕ} → 0 < t → t < s →
     s ≤ master.log.head → (log_in master.log s ≡ [] → ⊥) → (master.log.segments t).shut ≡ true
-shut-before {master} good {t} {s} above less upto some = by (ways (t + 1) master.log.head (omega arith))
-  where
-    ways : (a b : ℕ) → a ≤ b → (a < b) ⊎ (a ≡ b)
-    ways a b p = grind arith
-
-    by : (t + 1 < master.log.head) ⊎ (t + 1 ≡ master.log.head) → (master.log.segments t).shut ≡ true
-    by (inl under) = good.old_shut t above under
-    by (inr last) = phased master.log.phase refl
-      where
-        head : s ≡ master.log.head
-        head = omega (arith, last, less, upto)
-
-        empty : (master.log.phase ≡ Writing → ⊥) → (master.log.segments t).shut ≡ true
-        empty isn't = absurd (some (ap (log_in master.log) head ∙ good.empty isn't))
-
-        phased : (phase : Phase) → master.log.phase ≡ phase → (master.log.segments t).shut ≡ true
-        phased Writing e = good.writing_shut e t above (omega (arith, last))
-        phased Opening e = empty (λ writing. (let never : ◌≡◌ {A = Phase} Opening Writing = sym e ∙ writing in cc))
-        phased Closing e = empty (λ writing. (let never : ◌≡◌ {A = Phase} Closing Writing = sym e ∙ writing in cc))
+shut-before {master} good {t} {s} above less upto some = search arith
 
 -- a lower place of a segment is stored on all, too
 stored-lower : (log : Log) (s : ℕ) {o k : ℕ} → k ≤ o → is_stored_on_all log s o ≡ true → is_stored_on_all log s k ≡ true
-stored-lower log s {o} {k} upto stored =
-    let one = and_parts (has_segment log s) (nat_lt o (durable_len (log.segments s).config) && all_shut_to log.segments (s - 1)) stored in
-    let two = and_parts (nat_lt o (durable_len (log.segments s).config)) (all_shut_to log.segments (s - 1)) one.1 in
-    and_from (has_segment log s) (nat_lt k (durable_len (log.segments s).config) && all_shut_to log.segments (s - 1)) one.0
-    (and_from (nat_lt k (durable_len (log.segments s).config)) (all_shut_to log.segments (s - 1))
-    (lt k (durable_len (log.segments s).config) (let less : o < durable_len (log.segments s).config =
-    ltb-true o (durable_len (log.segments s).config) two.0 in omega arith)) two.1)
-  where
-    lt : (a b : ℕ) → a < b → nat_lt a b ≡ true
-    lt a b p = grind arith
+stored-lower log s {o} {k} upto stored = search (arith, and_parts, nat_lt, and_from, ltb-true)
 
 module _ (setup : Setup) (past rest : List Event) where
   abbrev pub old : World
@@ -110,12 +83,7 @@ module _ (setup : Setup) (past rest : List Event) where
         (made.0, made.2)
       where
         less : k < length (((replay setup past).masters m).log.segments t).entries
-        less = (let inside : k < length (log_in ((replay setup past).masters m).log t) =
-            get-within (log_in ((replay setup past).masters m).log t) k {x = other} holds in
-            let same : length (log_in ((replay setup past).masters m).log t) ≡
-            length (((replay setup past).masters m).log.segments t).entries =
-            length-map (((replay setup past).masters m).log.segments t).entries (λ (one : Entry × Bool). one.0) in
-            omega (arith, inside, same))
+        less = search (arith, get-within, length-map)
 
     -- so what stands now where nothing had been sent stands behind
     pub behind : {s o t k : ℕ} {one other : Entry} → slice_get (log_in (old.masters m).log s) o ≡ Some one → IsSentTo m s o →

@@ -1,5 +1,5 @@
 -- Reads follow time, and show what was asked.
-use Rattle.std.proofs.Common.{◌≡◌, ◌⊎◌, ◌<◌, ◌≤◌, List, ◌++◌, length, None, sym, ap, ◌∙◌}
+use Rattle.std.proofs.Common.{◌≡◌, ◌⊎◌, ◌<◌, ◌≤◌, List, ◌++◌, None, sym, ◌∙◌}
 use Rattle.std.proofs.Common.{subst, inl, inr, arith}
 use Rattle.rc_model.specs.Model.{ServerId, Server, Outside, Setup, Event, Message, Write, replay, In, HasAcknowledged}
 use Rattle.rc_model.proofs.Members.{In-get}
@@ -67,13 +67,7 @@ reads-follow-time setup events m x before since first later some_m some_x read_f
         (subst (λ (l : List Event). Finds setup l x later.table later.key later.version later.value) (sym is) b.finds) confirmed.ack
         (subst (λ (l : List Event). HasAcknowledged (replay setup (l ++ b.rest)).sent x confirmed.ack) (sym is) acked)
         (subst (λ (l : List Event). HasSentFor (replay setup l).sent x confirmed.ack.seg confirmed.ack.offset → ⊥) (sym is) unsent)
-    by (inr (gap, is)) =
-        let longer = first-events setup b.past gap in
-        let same : length (replay setup (b.past ++ gap)).sent ≡ length (replay setup a.past).sent =
-        ap (λ (l : List Event). length (replay setup l).sent) is in
-        let one : length before ≡ length (replay setup a.past).sent = ap length a.sent_is in
-        let two : length since ≡ length (replay setup b.past).sent = ap length b.sent_is in
-        absurd (omega (arith, longer, same, one, two, less))
+    by (inr (gap, is)) = search (arith, first-events, b, a)
 
 pub writes-follow-reads : WritesFollowReads
 writes-follow-reads setup events m x before answer later some_m some_x read acked of unsent = by (zero-or-more answer.version)

@@ -28,18 +28,7 @@ use Rattle.rc_linear.specs.Confirmed.{HasSentFor}
 in-segment : (seg offset o : ℕ) (entries : List (Entry × Bool)) {one : Entry × Bool} → slice_get entries o ≡ Some one →
     In (record { seg = seg; offset = offset + o; entry = one.0; client = one.1 }) (places_in seg offset entries)
 in-segment seg offset o [] e = cc
-in-segment seg offset zero (first ∷ entries) {one} e = inl (λ i. record {
-  seg = seg;
-  offset = plus i;
-  entry = (same i).0;
-  client = (same i).1;
-})
-  where
-    same : one ≡ first
-    same = cc
-
-    plus : offset + zero ≡ offset
-    plus = omega arith
+in-segment seg offset zero (first ∷ entries) {one} e = search arith
 in-segment seg offset (suc o) (first ∷ entries) {one} e =
     inr (subst (λ n. In (record { seg = seg; offset = n; entry = one.0; client = one.1 }) (places_in seg (offset + 1) entries))
     (let plus : (offset + 1) + o ≡ offset + suc o = omega arith in plus) (in-segment seg (offset + 1) o entries e))

@@ -3,7 +3,7 @@ use Rattle.std.proofs.Common.{◌≡◌, ◌⊎◌, ℕ, zero, suc, ◌<◌, ◌
 use Rattle.std.proofs.Common.{nat_eq, ◌&&◌, slice_get, refl, sym, ap, ◌∙◌, subst, inl, inr, arith}
 use Rattle.std.proofs.lemmas.Bool.{eq-eqb}
 use Rattle.rc_types.specs.declared.events.Setup.{Setup}
-use Rattle.rc_model.specs.Model.{ServerId, Server, Outside, Entry, Event, Message, Write, WriteOk, Ack, LogPlace, places_of, Found}
+use Rattle.rc_model.specs.Model.{ServerId, Entry, Event, Message, Write, WriteOk, Ack, LogPlace, places_of, Found}
 use Rattle.rc_model.specs.Model.{read_of, term_of, durable_entries, to_outside, replay, In, HasMade, HasAcknowledged}
 use Rattle.rc_model.proofs.Members.{In-get, place_of, filter-In}
 use Rattle.rc_model.proofs.Tests.{true_false, either}
@@ -44,9 +44,7 @@ use Rattle.rc_linear.proofs.Standing.{take-get, take-length, which-begins, first
 use Rattle.rc_linear.proofs.Standing.{answered-first, acknowledged-at, read-at, IsFoundAt, found-at, HadStood, had-stood}
 
 fewer : {X : Type 0} (test : X → Bool) (xs : List X) (z : X) → length (filter test (z ∷ xs)) ≤ 1 → length (filter test xs) ≤ 1
-fewer {X} test xs z few =
-    either (λ (l : List X). length l ≤ 1 → length (filter test xs) ≤ 1) (test z) (z ∷ filter test xs) (filter test xs)
-    (λ _ p. omega (arith, p)) (λ _ p. p) few
+fewer {X} test xs z few = search arith
 
 no-more : {X : Type 0} (test : X → Bool) (xs : List X) (z : X) → length (filter test (z ∷ xs)) ≤ 1 → test z ≡ true →
     (y : X) → In y xs → test y ≡ true → ⊥
@@ -167,9 +165,7 @@ module _ (setup : Setup) (events : List Event) (some : HasReplicas setup) where
       where
         misses : MissesNothing r.master (take r.response sent)
             (record { table = r.table; key = r.key; version = r.version; value = r.value })
-        misses = confirmed-reads-miss-nothing setup events r.master (take r.response sent)
-            (record { table = r.table; key = r.key; version = r.version; value = r.value }) (some r.master.index)
-            (read-at r is.response) is.confirmed
+        misses = search (arith, confirmed-reads-miss-nothing, read-at)
 
     -- and shows the value of the one of its version
     pub shows : {w : Operation} (write : IsWrite sent w) → w.table ≡ r.table → w.key ≡ r.key → w.version ≡ r.version →
@@ -212,13 +208,7 @@ module _ (setup : Setup) (events : List Event) (some : HasReplicas setup) where
             acked_since)
             (subst (λ (l : List Event). HasSentFor (replay setup l).sent r.master is.confirmed.ack.seg is.confirmed.ack.offset → ⊥)
             (sym is_past) unsent_then)
-        by (inr (gap, is_past)) =
-            let longer = first-events setup at.past gap in
-            let same : length (replay setup (at.past ++ gap)).sent ≡ length (replay setup was.past).sent =
-            ap (λ (l : List Event). length (replay setup l).sent) is_past in
-            let a_first = was_first in
-            let r_first = sent_first in
-            absurd (omega (arith, longer, same, a_first, r_first, less))
+        by (inr (gap, is_past)) = search (arith, first-events, at, was, was_first, sent_first)
 
     pub alike : {a : Operation} (other : IsRead sent a) → a.table ≡ r.table → a.key ≡ r.key → a.version ≡ r.version →
         (r.version ≡ 0 → ⊥) → a.value ≡ r.value
@@ -245,10 +235,7 @@ module _ (setup : Setup) (events : List Event) (some : HasReplicas setup) where
 
       came : Origin (replay setup at.past).sent (replay setup at.past).masters (replay setup at.past).hosts
           (replay setup at.past).coordinator (all-world setup at.past) r.master showing.stood.seg showing.stood.offset showing.entry
-      came = origin (replay setup at.past).sent (replay setup at.past).masters (replay setup at.past).hosts
-          (replay setup at.past).coordinator (all-world setup at.past)
-          showing.stood.holds showing.stood.owned.grant showing.stood.owned.among showing.stood.owned.owner_is
-          showing.stood.owned.term_is showing.stood.owned.holds
+      came = search (arith, origin, all-world, showing)
 
       asked : IsAskedFor (replay setup at.past).sent came.x came.place
       asked = all-asked-for setup at.past came.x came.place came.among came.client
@@ -261,20 +248,7 @@ module _ (setup : Setup) (events : List Event) (some : HasReplicas setup) where
           let same = sent_first in omega (arith, less, same))
 
       requested : IsRequest sent asked.number came.x (Write r.table r.key r.value)
-      requested = (get-take r.response sent asked.number (subst (λ l. slice_get l asked.number ≡ Some (record {
-        from = Outside;
-        to = Server came.x;
-        body = Write r.table r.key r.value;
-      })) at.sent_is same)).1
-        where
-          same : slice_get (replay setup at.past).sent asked.number
-              ≡ Some (record { from = Outside; to = Server came.x; body = Write r.table r.key r.value })
-          same = asked.asked ∙ (λ i. Some (record {
-            from = Outside;
-            to = Server came.x;
-            body = Write ((came.table_is ∙ showing.table_is) i) ((came.key_is ∙ showing.key_is) i)
-                ((came.value_is ∙ showing.value_is) i);
-          }))
+      requested = search (arith, get-take, asked, came, showing)
 
       -- and whatever was answered before it was asked for stands lower
       below : {a : Operation} → IsAnswered sent a → a.table ≡ r.table → a.key ≡ r.key → a.response < asked.number →
@@ -287,15 +261,7 @@ module _ (setup : Setup) (events : List Event) (some : HasReplicas setup) where
 
           by : (a.version ≡ 0) ⊎ ((one : Entry) × Stood setup had.early had.gap a.master one × (one.table ≡ a.table) × (one.key ≡ a.key)
               × (one.version ≡ a.version)) → a.version < r.version
-          by (inl none) = more (zero-or-more r.version)
-            where
-              more : (r.version ≡ 0) ⊎ (r.version ≡ 0 → ⊥) → a.version < r.version
-              more (inl zero_too) = absurd (above zero_too)
-              more (inr over) = positive r.version over none
-                where
-                  positive : (n : ℕ) → (n ≡ 0 → ⊥) → a.version ≡ 0 → a.version < n
-                  positive zero over none = absurd (over refl)
-                  positive (suc n) over none = omega (arith, none)
+          by (inl none) = search (arith, zero-or-more)
           by (inr (one, stood, tables, keys, versions)) =
               let less_one : one.version < showing.entry.version =
               below-at setup had.early had.gap at.rest a.master r.master some one stood at.finds.term r.version r.value is.confirmed.ack
@@ -315,11 +281,7 @@ module _ (setup : Setup) (events : List Event) (some : HasReplicas setup) where
 
   read-after : (a b : Operation) → a.version ≤ b.version → b.kind ≡ ARead → (a.kind ≡ AWrite) ⊎ (a.response < b.response) →
       StandsBefore a b
-  read-after a b less reads how = by (less-or-same less)
-    where
-      by : (a.version < b.version) ⊎ (a.version ≡ b.version) → StandsBefore a b
-      by (inl under) = inl under
-      by (inr same) = inr (same, reads, how)
+  read-after a b less reads how = search (arith, less-or-same)
 
   module _ (a b : Operation) (table : a.table ≡ b.table) (key : a.key ≡ b.key) where
     in-time : IsWrite sent a ⊎ IsRead sent a → IsWrite sent b ⊎ IsRead sent b → Precedes a b → StandsBefore a b
@@ -369,26 +331,7 @@ module _ (setup : Setup) (events : List Event) (some : HasReplicas setup) where
 
     total : IsWrite sent a ⊎ IsRead sent a → IsWrite sent b ⊎ IsRead sent b →
         StandsBefore a b ⊎ (StandsBefore b a ⊎ (a.response ≡ b.response))
-    total one other = by (three)
-      where
-        same : IsWrite sent a ⊎ IsRead sent a → IsWrite sent b ⊎ IsRead sent b → a.version ≡ b.version →
-            StandsBefore a b ⊎ (StandsBefore b a ⊎ (a.response ≡ b.response))
-        same (inl w) (inl v) e = inr (inr (one-response w v e))
-        same (inl w) (inr r) e = inl (inr (e, r.kind, inl w.kind))
-        same (inr q) (inl v) e = inr (inl (inr (sym e, q.kind, inl v.kind)))
-        same (inr q) (inr r) e = reads (three)
-          where
-            reads : (a.response < b.response) ⊎ ((a.response ≡ b.response) ⊎ (b.response < a.response)) →
-                StandsBefore a b ⊎ (StandsBefore b a ⊎ (a.response ≡ b.response))
-            reads (inl less) = inl (inr (e, r.kind, inr less))
-            reads (inr (inl equal)) = inr (inr equal)
-            reads (inr (inr more)) = inr (inl (inr (sym e, q.kind, inr more)))
-
-        by : (a.version < b.version) ⊎ ((a.version ≡ b.version) ⊎ (b.version < a.version)) →
-            StandsBefore a b ⊎ (StandsBefore b a ⊎ (a.response ≡ b.response))
-        by (inl less) = inl (inl less)
-        by (inr (inl e)) = same one other e
-        by (inr (inr more)) = inr (inl (inl more))
+    total one other = search (arith, three, one-response)
 
   begins-with-none : {a : Operation} → IsWrite sent a ⊎ IsRead sent a → a.version ≡ 0 → (a.kind ≡ ARead) × (a.value ≡ None)
   begins-with-none {a} (inl w) none = absurd (let more = above-zero a w in omega (arith, more, none))
@@ -476,9 +419,7 @@ each-write setup events m ack some p = by (oks-of m (counted_places ((replay set
         same-ok a b c d f g h i j k l n e = (cc, cc, cc)
 
         says : (ack.table ≡ place.entry.table) × (ack.key ≡ place.entry.key) × (ack.version ≡ place.entry.version)
-        says = same-ok ack.seg ack.offset ack.term ack.table ack.key ack.version place.seg place.offset place.entry.term
-            place.entry.table place.entry.key place.entry.version
-            (sym p.says ∙ ap (λ (message : Message). message.body) is)
+        says = search (arith, same-ok)
 
         counted : (k : ℕ) × (k < ((replay setup events).masters m).log.durable)
             × (slice_get (places_of ((replay setup events).masters m).log) k ≡ Some place)
@@ -490,13 +431,7 @@ each-write setup events m ack some p = by (oks-of m (counted_places ((replay set
             (counted-is-durable setup events m counted.0 place (some m.index) counted.1 counted.2)
 
         same : made.0 ≡ place.entry
-        same =
-            let one : slice_get (log_in ((replay setup events).masters m).log place.seg) place.offset ≡ Some made.0 = made.1 in
-            let other : slice_get (log_in ((replay setup events).masters m).log place.seg) place.offset ≡ Some place.entry =
-            place-logged ((replay setup events).masters m).log
-            (places_to-are ((replay setup events).masters m).log.head
-            counted.0 counted.2) in
-            cc
+        same = search (arith, made, place-logged, places_to-are, counted)
 
 pub each-write-apart : EachWriteIsAnOperationApart
 each-write-apart setup steps m ack apart some =

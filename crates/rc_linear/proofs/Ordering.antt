@@ -1,17 +1,17 @@
 -- What is said of reads makes the test of a run true; so a run whose test fails refutes it.
-use Rattle.std.proofs.Common.{◌≡◌, ◌⊎◌, ◌<◌, Bool, true, false, not, ◌&&◌, ◌||◌, nat_eq, nat_lt, nat_le}
+use Rattle.std.proofs.Common.{◌≡◌, ◌⊎◌, ◌<◌, Bool, true, false, not, ◌&&◌, ◌||◌, nat_eq}
 use Rattle.std.proofs.Common.{List, [], ◌∷◌, ◌++◌, length, refl, sym, ap, ◌∙◌, subst, inl, inr, append_assoc, arith}
 use Rattle.std.specs.List.{list_any, list_all}
 use Rattle.std.proofs.lemmas.Bool.{eqb-true, lt-ltb, le-leb, and_parts, and_from}
 use Rattle.std.proofs.lemmas.List.{length-append}
-use Rattle.rc_model.specs.Model.{ServerId, Addr, Server, Entry, Setup, Event, Message, Body, ReadOk, Ack, made, same_id, same_value}
+use Rattle.rc_model.specs.Model.{ServerId, Addr, Server, Entry, Setup, Event, Message, Body, ReadOk, Ack, made, same_id}
 use Rattle.rc_model.specs.Model.{World, opening, replay, In, HasAcknowledged}
 use Rattle.rc_model.proofs.Members.{In-append}
 use Rattle.rc_model.proofs.Said.{HasMade-in}
 use Rattle.rc_model.proofs.Ids.{same_id-true}
 use Rattle.rc_model.proofs.Tests.{true_false}
 use Rattle.rc_worked.specs.Sentences.{Run, acks_of, is_of_key, is_no_more, whole_world}
-use Rattle.rc_worked.specs.Ordered.{is_some_entry, has_begun, is_confirmed, Shown, shown_by, shown_of, is_same_key, is_followed, is_no_less}
+use Rattle.rc_worked.specs.Ordered.{is_some_entry, has_begun, Shown, shown_by, shown_of, is_same_key, is_followed, is_no_less}
 use Rattle.rc_worked.specs.Ordered.{is_alike, is_in_order, answered_in_order, keeps_order_from, keeps_order, order_of}
 use Rattle.rc_worked.proofs.Scenarios.{scenarios-are-replays, runs-append}
 use Rattle.rc_log_laws.specs.WordClaims.{sent_after}
@@ -103,19 +103,7 @@ module _ (setup : Setup) (events : List Event) (some : HasReplicas setup) (misse
   module _ (m : ServerId) (before : List Message) (one : Shown) (read : HasRead sent m before (answer-of one)) where
     -- what was shown before it was a read, answered before it
     earlier : {other : Shown} (p : WasShown before other) → HasRead sent p.m p.before (answer-of other) × (length p.before < length before)
-    earlier p = (
-      record {
-        message = p.message;
-        after = p.after ++ read.message ∷ read.after;
-        whole = read.whole ∙ ap (λ l. l ++ read.message ∷ read.after) p.whole
-            ∙ append_assoc p.before (p.message ∷ p.after) (read.message ∷ read.after);
-        from = p.from;
-        says = p.says;
-      },
-      (let long : length before ≡ length (p.before ++ p.message ∷ p.after) = ap length p.whole in
-          let both = length-append p.before (p.message ∷ p.after) in
-          omega (arith, long, both)),
-    )
+    earlier p = search (arith, append_assoc, length-append)
 
     followed : list_all (is_followed before one) (acks_of sent) ≡ true
     followed = all-from (acks_of sent) each
@@ -175,17 +163,12 @@ module _ (setup : Setup) (events : List Event) (some : HasReplicas setup) (misse
           (earlier p).0 read confirmed keys.0 keys.1 (earlier p).1)))
 
     in-order : is_in_order sent before m one ≡ true
-    in-order = and_from (list_all (is_followed before one) (acks_of sent)) _ followed
-        (and_from (list_all (is_alike one) (shown_of before)) _ alike (where-from (is_confirmed sent before m) (λ e.
-        let found = any-in (acks_of sent) e in
-        and_from (list_all (λ ack. is_no_more one.table one.key one.version ack.1) (acks_of before)) _ (no-acks-missed found)
-        (no-reads-missed found))))
+    in-order = search (arith, and_from, followed, alike, where-from, any-in, no-acks-missed, no-reads-missed)
 
   message-in-order : (before after : List Message) (message : Message) (from : Addr) (body : Body) →
       sent ≡ before ++ message ∷ after → message.from ≡ from → message.body ≡ body → answered_in_order sent before from body ≡ true
   message-in-order before after message (Server m) (ReadOk table key version value) whole from says =
-      in-order m before (record { table = table; key = key; version = version; value = value })
-      (record { message = message; after = after; whole = whole; from = from; says = says })
+      search (arith, in-order)
   message-in-order before after message (Server m) _ whole from says = refl
   message-in-order before after message _ _ whole from says = refl
 

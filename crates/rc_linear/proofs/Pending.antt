@@ -175,9 +175,7 @@ module _ (setup : Setup) (early gap rest : List Event) (m x : ServerId) (some_x 
 
         from_origin : ((then.0.attempt ≡ 0) × (then.0.previous ≡ 0))
             ⊎ IsGivenBy (replay setup early).sent (replay setup early).coordinator then.0 → ⊥
-        from_origin (inl created) =
-            let none : h.grant.previous ≡ 0 = ap (λ (g : Grant). g.previous) (sym same_grant) ∙ created.1 in
-            absurd (omega (arith, none, h.previous, above_zero))
+        from_origin (inl created) = search (arith, same_grant, above_zero)
         from_origin (inr given) = unsent (subst (λ k. HasSentFor (replay setup early).sent k o.place.seg o.place.offset)
             (ap (λ (plan : Accepted). plan.master) (sym same_plan) ∙ h.master)
             (held-sent_to setup early gap {plan = plan} accepted {s = o.place.seg} {o = o.place.offset}

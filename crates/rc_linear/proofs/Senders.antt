@@ -3,13 +3,12 @@ use Rattle.std.proofs.Common.{◌≡◌, ◌⊎◌, ℕ, ◌+◌, ◌<◌, List,
 use Rattle.std.proofs.Common.{refl, sym, ap, ◌∙◌, subst, inl, inr, arith}
 use Rattle.std.proofs.lemmas.List.{append-nil, append_assoc, take-append-le, take_all}
 use Rattle.rc_model.specs.Model.{ServerId, Addr, Server, Outside, Setup, Event, Message, Enlist, to_coordinator, NodeWork, outside_sends}
-use Rattle.rc_model.specs.Model.{coordinator_step, server_of, host_step, next_server, World, opening, NodeName, TheOutside, TheCoordinator}
-use Rattle.rc_model.specs.Model.{TheHost, Job, job_of, is_possible, node_done, job_done, step, replay, In}
+use Rattle.rc_model.specs.Model.{coordinator_step, host_step, next_server, World, opening, NodeName, TheOutside, TheCoordinator}
+use Rattle.rc_model.specs.Model.{TheHost, Job, job_of, node_done, job_done, step, replay, In}
 use Rattle.rc_types.specs.declared.ids.Addr.TheVariants.{Coordinator as AtCoordinator}
 use Rattle.rc_model.specs.Nodes.{Ask}
 use Rattle.rc_model.proofs.Members.{In-get}
 use Rattle.rc_model.proofs.Replays.{replay_from-push}
-use Rattle.rc_model.proofs.Tests.{either}
 use Rattle.rc_step_laws.proofs.Lists.{get-within, get-append}
 use Rattle.rc_log_laws.proofs.EachMaster.{coordinator-from}
 use Rattle.rc_log_laws.proofs.NodeWalk.{said-host}
@@ -71,9 +70,7 @@ adds-job one None is good = adds-none
 adds-job {world} one (Some job) is good = adds-node one job.node job.work good (job_of-given world.sent one is)
 
 adds-step : {world : World} (one : Event) → GoodWorld world → Adds world (step world one)
-adds-step {world} one good =
-    either (Adds world) (is_possible world one) (job_done world one (job_of world.sent one)) world
-    (λ _. adds-job one (job_of world.sent one) refl good) (λ _. adds-none)
+adds-step {world} one good = search (arith, adds-job, adds-none)
 
 -- Every list of events
 
@@ -116,15 +113,7 @@ end-one {setup} {past} one p n message e from =
           sent_is = was.sent_is ∙ sym (take-append-le n (replay setup past).sent new.messages (omega (arith, less)))
               ∙ ap (take n) (sym grows);
         }
-    by (inr (k, same, is)) =
-        let last : n ≡ length (replay setup past).sent = (let none : k ≡ 0 = single k is new.alone in omega (arith, same, none)) in
-        record {
-          early = past;
-          since = one ∷ [];
-          whole = refl;
-          sent_is = sym (take_all n (replay setup past).sent (omega (arith, last)))
-              ∙ sym (take-append-le n (replay setup past).sent new.messages (omega (arith, last))) ∙ ap (take n) (sym grows);
-        }
+    by (inr (k, same, is)) = search (arith, single, new, take_all, take-append-le, grows)
 
 end-more : {setup : Setup} {past : List Event} (events : List Event) → AllEnd setup past → AllEnd setup (past ++ events)
 end-more {setup} {past} [] p = subst (AllEnd setup) (sym (append-nil past)) p

@@ -127,11 +127,7 @@ module _ (setup : Setup) (past gap rest : List Event) (m x : ServerId) (table ke
             (subst (λ n. IsEarlier then.sent table key n shown.stood.owned.grant.term) own_two.term_is way))
 
   pub reads-rise : low ≤ high
-  reads-rise = by (zero-or-more low)
-    where
-      by : (low ≡ 0) ⊎ (low ≡ 0 → ⊥) → low ≤ high
-      by (inl none) = omega (arith, none)
-      by (inr above) = rises above
+  reads-rise = search (arith, zero-or-more, rises)
 
 -- Of one version they show one value
 

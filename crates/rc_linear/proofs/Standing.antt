@@ -117,13 +117,7 @@ answer_of op = record { table = op.table; key = op.key; version = op.version; va
 pub read-at : {sent : List Message} (op : Operation) →
     slice_get sent op.response ≡ Some (to_outside op.master (ReadOk op.table op.key op.version op.value)) →
     HasRead sent op.master (take op.response sent) (record { table = op.table; key = op.key; version = op.version; value = op.value })
-read-at {sent} op e = record {
-  message = to_outside op.master (ReadOk op.table op.key op.version op.value);
-  after = drop (suc op.response) sent;
-  whole = split-at op.response sent e;
-  from = refl;
-  says = refl;
-}
+read-at {sent} op e = search (arith, split-at)
 
 -- what the master of a read found, and when
 pub record IsFoundAt (setup : Setup) (events : List Event) (op : Operation) : Type 0 where

@@ -31,9 +31,7 @@ rises-from {m} world (one ∷ events) good =
 
 count-rises : (setup : Setup) (past more : List Event) (m : ServerId) →
     ((replay setup past).masters m).log.durable ≤ ((replay setup (past ++ more)).masters m).log.durable
-count-rises setup past more m =
-    subst (λ (world : World). ((replay setup past).masters m).log.durable ≤ (world.masters m).log.durable)
-    (sym (replay_from-append _ past more)) (rises-from (replay setup past) more (good-world setup past))
+count-rises setup past more m = search (arith, replay_from-append, rises-from, good-world)
 
 In-taken : {X : Type 0} (n : ℕ) (xs : List X) (k : ℕ) (x : X) → k < n → slice_get xs k ≡ Some x → In x (take n xs)
 In-taken zero xs k x less e = absurd (omega arith)

@@ -26,10 +26,7 @@ module _ (setup : Setup) (past rest : List Event) (m : ServerId) (some : factor_
 
           came : Origin (replay setup past).sent (replay setup past).masters (replay setup past).hosts
               (replay setup past).coordinator (all-world setup past) m is.stood.seg is.stood.offset is.entry
-          came = origin (replay setup past).sent (replay setup past).masters (replay setup past).hosts
-              (replay setup past).coordinator (all-world setup past)
-              is.stood.holds is.stood.owned.grant is.stood.owned.among is.stood.owned.owner_is is.stood.owned.term_is
-              is.stood.owned.holds
+          came = search (arith, origin, all-world, is)
 
           above : 0 < came.place.entry.version
           above = clients-begin-at-one setup past came.x came.place came.among came.client
