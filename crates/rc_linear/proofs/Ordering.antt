@@ -35,9 +35,6 @@ any-in {X} {test} (y ∷ xs) e = by (test y) refl (any-in xs) e
     by true is rec e = (y, inl refl, is)
     by false isn't rec e = (let found = rec e in (found.0, inr found.1, found.2))
 
-both-of : {a b : Bool} → (a && b) ≡ true → (a ≡ true) × (b ≡ true)
-both-of {a} {b} e = and_parts a b e
-
 none-is : (b : Bool) → not b ≡ true → b ≡ false
 none-is true e = true_false (sym e)
 none-is false e = refl

@@ -44,9 +44,6 @@ module _ (setup : Setup) (past gap rest : List Event) (m x : ServerId) (table ke
   abbrev now : World
   now = replay setup ((past ++ gap) ++ rest)
 
-  all_then : AllHold then.sent then.masters then.hosts then.coordinator
-  all_then = all_old setup (past ++ gap) rest
-
   own_two : IsOwned then.sent then.masters then.hosts then.coordinator (all_old setup (past ++ gap) rest) x two.term table key
   own_two = reader-owned setup (past ++ gap) rest x some_x two.term table key high other two.owns two.found
 

@@ -88,10 +88,6 @@ pub is-answered : {sent : List Message} {op : Operation} → IsWrite sent op ⊎
 is-answered (inl w) = written w.seg w.offset w.term w.response
 is-answered (inr r) = shown r.response
 
-pub answered-number : {sent : List Message} {op : Operation} → IsAnswered sent op → op.response < length sent
-answered-number {sent} {op} (written seg offset term e) = get-within sent op.response e
-answered-number {sent} {op} (shown e) = get-within sent op.response e
-
 pub answered-first : {n : ℕ} {sent : List Message} {op : Operation} → op.response < n → IsAnswered sent op → IsAnswered (take n sent) op
 answered-first {n} {sent} {op} less (written seg offset term e) = written seg offset term (take-get n op.response sent less e)
 answered-first {n} {sent} {op} less (shown e) = shown (take-get n op.response sent less e)

@@ -35,11 +35,6 @@ is_start _ = false
 
 -- Nothing but a start makes a host run
 
-server-runs : (host : HostNode) {m : Master} (message : Message) → host.master ≡ Some m → runs (server_takes host m message).0 ≡ true
-server-runs host {m} message is = either (λ after. runs after.0 ≡ true) (is_for_backup message.body)
-    (with_backup host (backup_takes host.backup message.from message.body))
-    (with_master host (master_takes m message.from message.body)) (λ _. ap is_some is) (λ _. refl)
-
 takes-runs : (host : HostNode) (running : Option Master) (message : Message) → host.master ≡ running →
     runs (takes_if_running host running message).0 ≡ true → runs host ≡ true
 takes-runs host None message is so = so

@@ -298,10 +298,6 @@ stop-brought safe earlier name life node.TheOutside = tt
 stop-brought safe earlier name life (node.TheCoordinator c) = tt
 stop-brought safe earlier name life (node.TheHost host) = stop-brought-host safe earlier name life host host.master
 
--- the life of which so many works are left
-cut-life : (setup : Setup) (name : NodeName) (k : ℕ) (deeds : List Deed) → Life
-cut-life setup name k deeds = life_of name (new_life setup name) (are_left k deeds)
-
 record Falls' (setup : Setup) (name : NodeName) (k : ℕ) (process : Process) (deeds : List Deed) : Type 0 where
   well : Well setup name (record { life = remade setup name (take k process.life.journal); safe = process.safe })
       (are_left k deeds

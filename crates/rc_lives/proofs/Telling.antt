@@ -37,9 +37,6 @@ in-said message deed [] at its = absurd at
 in-said message deed (one ∷ deeds) (inl e) its = In-left message one.sent (said_by deeds) (subst (λ (d : Deed). In message d.sent) e its)
 in-said message deed (one ∷ deeds) (inr rest) its = In-right message one.sent (said_by deeds) (in-said message deed deeds rest its)
 
-life_now : Setup → NodeName → List Deed → Life
-life_now setup name done = life_of name (new_life setup name) (own name done)
-
 pub record Told (setup : Setup) (done : List Deed) : Type 0 where
   pub steps : List Step
   pub apart : TakenApart setup steps

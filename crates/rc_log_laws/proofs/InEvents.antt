@@ -119,9 +119,6 @@ not-coordinator e = cc
 not-outside : {X : Type 0} {m : ServerId} → Outside ≡ Server m → X
 not-outside e = cc
 
-outside-coordinator : {X : Type 0} → Outside ≡ AtCoordinator → X
-outside-coordinator e = cc
-
 module _ (world : World) (one : Event) (good : GoodWorld world) where
   -- what a master says is in its server's name
   takes-from : (i : ℕ) (master : Master) (given message : Message) → (world.hosts i).master ≡ Some master → In given world.sent →
