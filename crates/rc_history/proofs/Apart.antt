@@ -207,10 +207,10 @@ comes-from {setup} {steps} (event ∷ rest) apart legal =
     let after : replay setup (events_by (steps ++ step ∷ [])) ≡ world.step w event =
     after-push setup steps step ∙ ap (world.step w) named in
     let follows = step-follows {setup = setup} {steps = steps} event {job = job.0}
-        (apart-history {setup = setup} {steps = steps} apart) job.1 parts.0 in
+    (apart-history {setup = setup} {steps = steps} apart) job.1 parts.0 in
     subst (ComesOfSteps setup) (ap (λ l. l ++ rest) pushed ∙ append_assoc (events_by steps) (event ∷ []) rest)
     (comes-from {setup = setup} {steps = (steps ++ step ∷ [])} rest
-        (taken_apart-push {setup = setup} {steps = steps} {step = step} apart follows)
+    (taken_apart-push {setup = setup} {steps = steps} {step = step} apart follows)
     (ap (λ (v : World). is_legal_from v rest) after ∙ parts.1))
 
 pub history-comes : (setup : Setup) (events : List Event) → is_legal setup events ≡ true → ComesOfSteps setup events

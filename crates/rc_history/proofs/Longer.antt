@@ -59,7 +59,7 @@ sent-starts w [] = starts-same {xs = w.sent}
 sent-starts w (event ∷ events) =
     let more = sent_more-step w event in
     starts-through {xs = (replay_from (step w event) events).sent} {ys = (step w event).sent} {zs = w.sent}
-        (sent-starts (step w event) events)
+    (sent-starts (step w event) events)
     (record { rest = more.0; same = more.1 })
 
 pub longer-sent : (setup : Setup) (longer shorter : List Event) → StartsWith longer shorter →

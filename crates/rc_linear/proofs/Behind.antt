@@ -139,7 +139,7 @@ module _ (setup : Setup) (past rest : List Event) where
         there = covered new.sent new.masters new.hosts new.coordinator all_new.good m plan.rows
             (subst (λ (k : ServerId). PlanIs new.sent new.masters new.coordinator k plan.rows) of_m
             (accepted-is {sent = new.sent} {masters = new.masters} {hosts = new.hosts} {c = new.coordinator}
-                all_new.good {plan = plan} accepted))
+            all_new.good {plan = plan} accepted))
             ack.seg ack.offset w.entry w.safe w.holds
 
         stood : (one : Entry) × (slice_get (log_in (old.masters m).log there.seg) there.offset ≡ Some one)
@@ -160,7 +160,7 @@ module _ (setup : Setup) (past rest : List Event) where
         by (inr more) =
             let less : there.other.version < w.entry.version =
             logs-rise new.sent new.masters new.hosts new.coordinator all_new m {term = w.entry.term} ack.seg ack.offset
-                there.seg there.offset
+            there.seg there.offset
             w.entry there.other w.holds there.holds before
             (record { term_one = there.term; term_other = refl; table = there.table; key = there.key }) in
             absurd (omega (arith, less, more))

@@ -138,7 +138,7 @@ module _ (setup : Setup) (early gap rest : List Event) (m x : ServerId) (some_x 
             × (in_range grant.range one.table one.key ≡ true)
         at = at-point new.sent new.masters new.hosts new.coordinator (all_new setup early gap) MayFree
             (covers-anyhow new.sent new.masters new.hosts new.coordinator (all_new setup early gap)) one.table one.key
-                f.index {one = f.one} f.at
+            f.index {one = f.one} f.at
 
         h_holds : in_range h.grant.range one.table one.key ≡ true
         h_holds = subst (λ k. in_range h.grant.range one.table k ≡ true) keys

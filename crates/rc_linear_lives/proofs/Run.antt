@@ -110,7 +110,7 @@ it-is-a-write = record {
   request = asked
       (deed_of TheOutside ((at_moment setup run (first_of is_ask run)).at TheOutside).life (Ask (id 0 1) (Write 7 5 (Some (codes "a")))))
       (done-at {all = setup} {happenings = run} {number = (first_of is_ask run)} {name = TheOutside}
-          {work = (Ask (id 0 1) (Write 7 5 (Some (codes "a"))))} refl refl)
+      {work = (Ask (id 0 1) (Write 7 5 (Some (codes "a"))))} refl refl)
       (inl refl);
   response = refl;
   first = not-left-before;

@@ -430,4 +430,4 @@ first-cut {name} {k} {life} (deed ∷ deeds) named within early lived =
         let here = over-here name {k = k} life deed.work {rests = deed.rests} lived.0.rests (leb-false deed.rests k e) within early in
         skip {name = name} {k = k} {long = life} {short = life} {deed = deed} {deeds = deeds} (leb-false deed.rests k e)
         (over-next {name = name} {k = k} life.node {journal = life.journal} {started = life.started} deed.work
-            {deeds = deeds} named here.0 here.1 (omega arith) lived.1)
+        {deeds = deeds} named here.0 here.1 (omega arith) lived.1)

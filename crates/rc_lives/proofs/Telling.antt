@@ -148,9 +148,9 @@ pub told-from : {setup : Setup} (safe : NodeName → ℕ) {done : List Deed} (mo
 told-from {setup} safe {done} [] {told} brought lived = further-none {setup = setup} {done = done} {told = told}
 told-from {setup} safe {done} (deed ∷ more) {told} brought lived =
     let one : Further setup done (deed ∷ []) told = told-push {setup = setup} {safe = safe} {done = done} {deed = deed}
-        {told = told} brought.0 (here (lived deed.node)) in
+    {told = told} brought.0 (here (lived deed.node)) in
     let next : Further setup (done ++ deed ∷ []) more one.told = told-from {setup = setup} safe
-        {done = (done ++ deed ∷ [])} more {told = one.told} brought.1
+    {done = (done ++ deed ∷ [])} more {told = one.told} brought.1
     (λ name. subst (λ l. IsLived name l (own name more)) (sym (life-push setup name done deed))
     (later name (same_node deed.node name) (lived name))) in
     further-both {setup = setup} {done = done} {more = (deed ∷ [])} {last = more} {base = told} one next

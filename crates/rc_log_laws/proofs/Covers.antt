@@ -38,7 +38,7 @@ granted-below {c} good m s {high} (inr told) less valid =
 -- a valid row of a segment has each durable place of it
 pub row-covers : {sent : List Message} {masters : ServerId → Master} {hosts : ℕ → HostNode} {c : Coordinator} → Good sent masters hosts c →
     {m : ServerId} (y : ServerId) {row : Row} → IsCopy sent m (masters m).log y.index y.generation row.seg row.epoch
-        row.closed row.len row.digest →
+    row.closed row.len row.digest →
     is_valid (c.least m) row ≡ true → {o : ℕ} → IsSafe sent m (masters m).log row.seg o → o < row.len
 row-covers {sent} {masters} {c} good {m} y {row} copy valid {o} safe = split row.closed if_closed if_open
   where
@@ -61,7 +61,7 @@ row-covers {sent} {masters} {c} good {m} y {row} copy valid {o} safe = split row
 pub head-not-below : {sent : List Message} {masters : ServerId → Master} {hosts : ℕ → HostNode} {c : Coordinator} →
     Good sent masters hosts c →
     {m : ServerId} (y : ServerId) {row : Row} → IsCopy sent m (masters m).log y.index y.generation row.seg row.epoch
-        row.closed row.len row.digest →
+    row.closed row.len row.digest →
     row.closed ≡ false → is_valid (c.least m) row ≡ true → ((masters m).log.segments row.seg).shut ≡ true → ⊥
 head-not-below {sent} {masters} {c} good {m} y {row} copy open_so valid shut_so =
     by (cases_order row.epoch ((masters m).log.segments row.seg).config.epoch)

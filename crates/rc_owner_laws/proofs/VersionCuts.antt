@@ -64,7 +64,7 @@ module _ (sent : List Message) (masters : ServerId → Master) (hosts : ℕ → 
       by [] e at = absurd at
       by (first ∷ rest) e at =
           let there : slice_get (log_in (masters m).log s) o ≡ Some first = made-is good
-              (HasMade-from sent m s o first (subst (In first) (sym e) (inl refl))) in
+          (HasMade-from sent m s o first (subst (In first) (sym e) (inl refl))) in
           let same : first ≡ entry = cc in
           ap (λ one. one ∷ []) same
 

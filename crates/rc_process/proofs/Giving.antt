@@ -68,9 +68,9 @@ next_with r given bytes = record {
     started = started_next r.process given (r.process.written + length bytes);
     safe = r.process.safe;
     held = r.process.held ++ (
-          cond (is_masters r.process.node given) r.process.started (r.process.written + length bytes),
-          (node_step r.process.node given).1,
-        ) ∷ [];
+      cond (is_masters r.process.node given) r.process.started (r.process.written + length bytes),
+      (node_step r.process.node given).1,
+    ) ∷ [];
     saving = r.process.saving;
   };
   file = r.file ++ bytes;

@@ -162,7 +162,7 @@ module _ (setup : Setup) (past rest : List Event) where
       (one-made old.sent old.masters old.hosts old.coordinator (good-world setup past) one.1 one.2
       ∙ sym (one-made new.sent new.masters new.hosts new.coordinator (good-world setup (past ++ rest))
       (get-log new.sent plan.master (old.masters plan.master).log (new.masters plan.master).log
-          (later-of {m = plan.master}).later s len one.0
+      (later-of {m = plan.master}).later s len one.0
       one.1)
       (record {
         message = one.2.message;

@@ -246,7 +246,7 @@ module _ (setup : Setup) (events more : List Event) where
         there = covered new.sent new.masters new.hosts new.coordinator all_new.good x gone.plan.rows
             (subst (λ (k : ServerId). Rattle.rc_log_laws.proofs.Covers.PlanIs new.sent new.masters new.coordinator k gone.plan.rows) of_x
             (accepted-is {sent = new.sent} {masters = new.masters} {hosts = new.hosts} {c = new.coordinator}
-                all_new.good {plan = gone.plan} accepted))
+            all_new.good {plan = gone.plan} accepted))
             later.seg later.offset w.entry w.safe w.holds
 
         -- what the recovery has there was in the log by then
@@ -264,7 +264,7 @@ module _ (setup : Setup) (events more : List Event) where
         logged_then : In there.other (logged (places_of (old.masters x).log))
         logged_then =
             let within = opened old.sent old.masters old.hosts old.coordinator all_old {m = x} {s = there.seg}
-                there.offset {entry = stood.0} stood.1 in
+            there.offset {entry = stood.0} stood.1 in
             subst (λ (one : Entry). In one (logged (places_of (old.masters x).log))) same_entry
             (In-places (old.masters x).log.segments (old.masters x).log.head there.seg stood.0 within.0 within.1
             (In-get (log_in (old.masters x).log there.seg) there.offset stood.0 stood.1))

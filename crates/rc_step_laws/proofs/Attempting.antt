@@ -184,26 +184,26 @@ pub moved-changed : {sent : List Message} {old new : Coordinator} {messages : Li
     CoordinatorMoved sent old (new, messages)
 moved-changed {sent} {old} {new} {messages} {number} {was} {now} good is_was same current kept apart master undecided
     good_now say = record {
-  good = record {
-    attempts = λ other one numbered. good_of other one (subst (λ attempts. IsNumbered attempts other one) same numbered);
-    servers = apart;
-    current_numbered = λ m. subst (λ (attempts : List Attempt). new.current m ≤ length attempts) (sym same)
-        (subst (λ (table : ServerId → ℕ). table m ≤ length (slice_set old.attempts (number - 1) now)) (sym current)
-        (let was_upto : old.current m ≤ length old.attempts = good.current_numbered m in
-        omega (arith, was_upto, length-set old.attempts (number - 1) now)));
-    current_master = λ m one numbered.
-        of_current m one (subst (λ (table : ServerId → ℕ). IsNumbered (slice_set old.attempts (number - 1) now)
-        (table m) one) current (subst (λ attempts. IsNumbered attempts (new.current m) one) same numbered));
-  };
-  later = record {
-    attempts = λ other one numbered. subst (λ attempts. AttemptLater attempts other one) (sym same) (later other one numbered);
-    crashed = kept.crashed;
-    least = kept.least;
-    least_stays = kept.least_stays;
-  };
-  from = λ message at. (say message at).0;
-  says = λ message at. (say message at).1;
-}
+      good = record {
+        attempts = λ other one numbered. good_of other one (subst (λ attempts. IsNumbered attempts other one) same numbered);
+        servers = apart;
+        current_numbered = λ m. subst (λ (attempts : List Attempt). new.current m ≤ length attempts) (sym same)
+            (subst (λ (table : ServerId → ℕ). table m ≤ length (slice_set old.attempts (number - 1) now)) (sym current)
+            (let was_upto : old.current m ≤ length old.attempts = good.current_numbered m in
+            omega (arith, was_upto, length-set old.attempts (number - 1) now)));
+        current_master = λ m one numbered.
+            of_current m one (subst (λ (table : ServerId → ℕ). IsNumbered (slice_set old.attempts (number - 1) now)
+            (table m) one) current (subst (λ attempts. IsNumbered attempts (new.current m) one) same numbered));
+      };
+      later = record {
+        attempts = λ other one numbered. subst (λ attempts. AttemptLater attempts other one) (sym same) (later other one numbered);
+        crashed = kept.crashed;
+        least = kept.least;
+        least_stays = kept.least_stays;
+      };
+      from = λ message at. (say message at).0;
+      says = λ message at. (say message at).1;
+    }
   where
     same-number : (place other : ℕ) → place ≡ number - 1 → other ≡ place + 1 → number ≡ other
     same-number place other p q = let a : number ≡ is_was.place + 1 = is_was.number_is in omega arith

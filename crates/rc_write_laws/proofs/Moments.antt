@@ -98,8 +98,12 @@ follows-then a b c p q = search arith
 -- the count stays
 follows-more : {old new : Log} → new.durable ≡ old.durable → old.head ≤ new.head →
     ((s : ℕ) → s ≤ old.head → SegmentMore (old.segments s) (new.segments s)) → Follows old new
-follows-more {old} {new} same upto each = record { now = now-more old new upto each; rises = omega (arith, same); count
-    = omega (arith, same) }
+follows-more {old} {new} same upto each = record {
+  now = now-more old new upto each;
+  rises = omega (arith, same);
+  count
+      = omega (arith, same);
+}
 
 follows-put : {log : Log} (seg : ℕ) {segment : Segment} → SegmentMore (log.segments seg) segment →
     Follows log (with_segment seg segment log)
