@@ -32,7 +32,8 @@ def tokens(text, start=0, end=None):
 
 def is_plain(token):
     """Whether a token is an atom by itself: no bracket, no operator, no word of the language, no bound `x.`."""
-    return not (token in OPERATORS or token in WORDS or token[0] in "(){}[],;" or token.endswith(".") and len(token) > 1)
+    is_bound = token.endswith(".") and len(token) > 1
+    return not (is_bound or token in OPERATORS or token in WORDS or token[0] in "(){}[],;")
 
 
 def units(text, start, end):
@@ -80,7 +81,10 @@ def atom(given, at):
         return at
     else:
         after = at + 1
-    while after < len(given) and given[after].start == given[after - 1].end and given[after].text[0] == "." != given[after].text:
+    while after < len(given) and given[after].start == given[after - 1].end and given[after].text.startswith("."):
+        # a field of it, not the point behind what a λ binds
+        if given[after].text == ".":
+            break
         after += 1
     return after
 
@@ -205,9 +209,12 @@ class File:
         """Reads a `module _ (..) where`: what stands in it takes its arguments first, from outside."""
         head = re.search(r"\bwhere[ ]*\n", self.text[unit.start : unit.end])
         if head:
-            given = tokens(self.text, unit.start, unit.start + head.start())
-            opened = [at for at, it in enumerate(given) if it.text == "("]
-            count = sum(len(it.names) for at in opened for it in groups_of(given, at, closed(given, at)) or ())
+            given, at, count = tokens(self.text, unit.start, unit.start + head.start()), 0, 0
+            while at < len(given):
+                after = max(atom(given, at), at + 1)
+                if given[at].text == "(":
+                    count += sum(len(it.names) for it in groups_of(given, at, after) or ())
+                at = after
             self.read(unit.start + head.end(), unit.end, (*sections, (unit.start, count)), within)
 
     def read_clause(self, unit, sections, within, pending):
