@@ -1,7 +1,5 @@
 //! The events of a scenario, one place for each.
 
-use crate::explaining::Section;
-
 /// What there is to say of an event.
 #[derive(Clone, Copy)]
 pub(crate) struct Happening {
@@ -13,18 +11,12 @@ pub(crate) struct Happening {
     pub says: &'static str,
 }
 
-impl Happening {
-    /// Its texts.
-    pub(crate) fn sections(&self) -> [Section; 2] {
-        [
-            ("How it is written", "example", self.example),
-            ("What happens", "says", self.says),
-        ]
-    }
+/// Every event, as `docs/FORMATS.md` lists them.
+pub(crate) fn all_events() -> &'static [Happening] {
+    &EVENTS
 }
 
-/// Every event, as `docs/FORMATS.md` lists them.
-pub(crate) static EVENTS: [Happening; 11] = [
+static EVENTS: [Happening; 11] = [
     Happening {
         name: "start",
         example: r#"{"e":"start","host":0}"#,

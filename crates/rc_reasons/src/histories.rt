@@ -1,7 +1,6 @@
 //! Which servers have run, by the events of a scenario alone.
 
 use rc_reading::ScenarioEvent;
-use rc_types::limits::MAX_HOSTS;
 use rc_types::{Event, ServerId};
 
 /// The servers of one host so far.
@@ -15,20 +14,10 @@ pub struct Host {
     pub since: usize,
 }
 
-impl Host {
-    /// Its newest server, where this is its index.
-    pub(crate) fn newest(&self, index: u8) -> ServerId {
-        ServerId {
-            index,
-            generation: self.generation,
-        }
-    }
-}
-
 /// The servers of all hosts.
 #[derive(Clone, Copy)]
 pub struct History {
-    hosts: [Host; MAX_HOSTS as usize],
+    hosts: [Host; 64],
 }
 
 impl History {
@@ -39,12 +28,12 @@ impl History {
             is_running: false,
             since: 0,
         };
-        let mut history = History {
-            hosts: [none; MAX_HOSTS as usize],
-        };
+        let mut history = History { hosts: [none; 64] };
         for (number, event) in events.iter().enumerate() {
-            if let ScenarioEvent::Core(event) = event {
-                history.take(event, number);
+            match event {
+                ScenarioEvent::Core(Event::Start { host, .. }) => history.start(*host, number),
+                ScenarioEvent::Core(Event::Stop(id)) => history.stop(*id, number),
+                _ => {}
             }
         }
         history
@@ -55,16 +44,17 @@ impl History {
         self.hosts.get(usize::from(index)).copied()
     }
 
-    /// The event of this number happens; perhaps it starts or stops a server.
-    fn take(&mut self, event: &Event, number: usize) {
-        let (index, starts) = match event {
-            Event::Start { host, .. } => (*host, true),
-            Event::Stop(id) => (id.index, false),
-            _ => return,
-        };
+    fn start(&mut self, index: u8, number: usize) {
         if let Some(host) = self.hosts.get_mut(usize::from(index)) {
-            host.generation = host.generation.saturating_add(u32::from(starts));
-            host.is_running = starts;
+            host.generation = host.generation.saturating_add(1);
+            host.is_running = true;
+            host.since = number;
+        }
+    }
+
+    fn stop(&mut self, id: ServerId, number: usize) {
+        if let Some(host) = self.hosts.get_mut(usize::from(id.index)) {
+            host.is_running = false;
             host.since = number;
         }
     }

@@ -8,10 +8,11 @@
 //! one event in each line. Nothing is claimed of the text.
 //!
 //! To be read in this order: `courses`, what is left; `goals`, the line; `trying`, how what is left is played;
-//! `searching`; `saving`, a scenario as text.
+//! `searching`; `saving`, a scenario as text, with its `lines`.
 
 mod courses;
 mod goals;
+mod lines;
 mod saving;
 mod searching;
 mod trying;

@@ -4,6 +4,7 @@
 
 mod changing;
 mod played;
+mod retelling;
 mod standing;
 
 pub use played::Played;

@@ -19,15 +19,16 @@ pub enum Goal {
 impl Goal {
     /// What this word names, with letters that are small or capital, if it names something.
     pub fn of(word: &str) -> Option<Goal> {
-        let is_named = |name: &str| name.eq_ignore_ascii_case(word);
-        if let Some(at) = RULE_NAMES.iter().position(|name| is_named(name)) {
+        if let Some(at) = RULE_NAMES.iter().position(|name| is_named(name, word)) {
             return Some(Goal::Rule(at));
         }
-        let mut events = EventKind::ALL.iter();
-        if let Some(kind) = events.find(|kind| is_named(kind.name())) {
+        if let Some(kind) = EventKind::ALL
+            .iter()
+            .find(|kind| is_named(kind.name(), word))
+        {
             return Some(Goal::Event(*kind));
         }
-        let kind = Kind::ALL.iter().find(|kind| is_named(kind.name()))?;
+        let kind = Kind::ALL.iter().find(|kind| is_named(kind.name(), word))?;
         Some(Goal::Message(*kind))
     }
 
@@ -38,9 +39,15 @@ impl Goal {
     /// Memory was refused.
     pub fn names(alloc: Global) -> Result<Vec<&'static str>, AllocError> {
         let mut names = Vec::new(alloc);
-        names.extend_from_slice(&RULE_NAMES)?;
-        names.extend_from_slice(&EventKind::ALL.map(|kind| kind.name()))?;
-        names.extend_from_slice(&Kind::ALL.map(|kind| kind.name()))?;
+        for name in &RULE_NAMES {
+            names.push(*name)?;
+        }
+        for kind in &EventKind::ALL {
+            names.push(kind.name())?;
+        }
+        for kind in &Kind::ALL {
+            names.push(kind.name())?;
+        }
         Ok(names)
     }
 
@@ -62,6 +69,11 @@ impl Counts {
             Goal::Event(kind) => self.events.get(usize::from(kind.number())),
             Goal::Message(kind) => self.bodies.get(usize::from(kind.number())),
         };
-        count.is_some_and(|count| *count > 0)
+        count.copied().unwrap_or(0) > 0
     }
+}
+
+/// Whether this is the name, with letters that are small or capital.
+fn is_named(name: &str, word: &str) -> bool {
+    name.eq_ignore_ascii_case(word)
 }

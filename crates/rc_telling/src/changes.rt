@@ -1,7 +1,6 @@
 //! How masters and replicas change in the course of a run, as whoever plays it looks it up after each event.
 
-use crate::standing::{ReplicaStanding, phase_name};
-use rc_types::limits::MAX_HOSTS;
+use crate::standing::{MasterStanding, ReplicaStanding};
 use rc_types::{Phase, ServerId};
 use std::alloc::{AllocError, Global};
 
@@ -29,10 +28,8 @@ pub(crate) struct ReplicaChange {
 
 /// All changes, in order.
 pub struct Changes {
-    pub(crate) phases: Vec<PhaseChange>,
-    pub(crate) replicas: Vec<ReplicaChange>,
-    /// What was noted last of each host's master.
-    last: [Option<(ServerId, &'static str)>; MAX_HOSTS as usize],
+    phases: Vec<PhaseChange>,
+    replicas: Vec<ReplicaChange>,
 }
 
 impl Drop for Changes {
@@ -40,7 +37,6 @@ impl Drop for Changes {
         let Changes {
             phases: _,
             replicas: _,
-            last: _,
         } = self;
     }
 }
@@ -51,11 +47,10 @@ impl Changes {
         Changes {
             phases: Vec::new(alloc),
             replicas: Vec::new(alloc),
-            last: [None; MAX_HOSTS as usize],
         }
     }
 
-    /// After this event a master has this phase, perhaps the same as before.
+    /// After this event a master has this phase.
     ///
     /// # Errors
     ///
@@ -67,14 +62,11 @@ impl Changes {
         phase: Phase,
         is_deposed: bool,
     ) -> Result<(), AllocError> {
-        let phase = phase_name(phase, is_deposed);
-        let Some(last) = self.last.get_mut(usize::from(id.index)) else {
-            return Ok(());
-        };
-        let before = last.replace((id, phase));
-        if before.is_none_or(|before| before.0 != id || before.1 != phase) {
-            self.phases.push(PhaseChange { event, id, phase })?;
-        }
+        self.phases.push(PhaseChange {
+            event,
+            id,
+            phase: phase_name(phase, is_deposed),
+        })?;
         Ok(())
     }
 
@@ -95,5 +87,34 @@ impl Changes {
             is_gone,
         })?;
         Ok(())
+    }
+
+    /// The changes of phases, in order.
+    pub(crate) fn phases(&self) -> &[PhaseChange] {
+        self.phases.as_slice()
+    }
+
+    /// The changes of replicas, in order.
+    pub(crate) fn replicas(&self) -> &[ReplicaChange] {
+        self.replicas.as_slice()
+    }
+}
+
+impl MasterStanding {
+    /// The name of its phase, or `deposed`.
+    pub(crate) fn phase_name(&self) -> &'static str {
+        phase_name(self.phase, self.is_deposed)
+    }
+}
+
+/// The name of a master's phase, or `deposed`.
+fn phase_name(phase: Phase, is_deposed: bool) -> &'static str {
+    if is_deposed {
+        return "deposed";
+    }
+    match phase {
+        Phase::Opening => "opening",
+        Phase::Closing => "closing",
+        Phase::Writing => "writing",
     }
 }

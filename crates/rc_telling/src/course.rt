@@ -71,13 +71,8 @@ impl Course {
     fn take(&mut self, event: &Event, at: usize, messages: &[Message]) -> Result<(), AllocError> {
         match event {
             Event::Deliver(number) => {
-                if let (Some(mark), Some(message)) = (
-                    self.delivered.get_mut(*number),
-                    messages.get(*number),
-                ) {
-                    *mark = true;
-                    self.arrive(message);
-                }
+                self.deliver(*number);
+                self.arrive(messages.get(*number));
             }
             Event::Create { table, owner } => self.ask(Early::Create(*table, *owner), *owner),
             Event::Start { .. } => {
@@ -91,10 +86,7 @@ impl Course {
             }
             Event::Suspect(id) => {
                 self.servers.take(event, at)?;
-                self.has_crashes = true;
-                if self.servers.generation(id.index) < id.generation {
-                    self.unstarted = self.unstarted.or(Some(*id));
-                }
+                self.suspect(*id);
             }
             Event::Ask { to, body } => self.request(*to, body),
             _ => {}
@@ -102,14 +94,22 @@ impl Course {
         Ok(())
     }
 
+    /// A message was delivered.
+    fn deliver(&mut self, number: usize) {
+        if let Some(mark) = self.delivered.get_mut(number) {
+            *mark = true;
+        }
+    }
+
     /// A message has arrived.
-    fn arrive(&mut self, message: &Message) {
+    fn arrive(&mut self, message: Option<&Message>) {
+        let Some(message) = message else {
+            return;
+        };
         match &message.body {
             Body::Ready => {
                 if let Addr::Server(id) = message.from {
-                    if let Some(generation) = self.ready.get_mut(usize::from(id.index)) {
-                        *generation = id.generation;
-                    }
+                    self.ready(id);
                 }
             }
             Body::Write { .. } => {
@@ -121,11 +121,26 @@ impl Course {
         }
     }
 
+    /// The coordinator has heard that a server is ready.
+    fn ready(&mut self, id: ServerId) {
+        if let Some(generation) = self.ready.get_mut(usize::from(id.index)) {
+            *generation = id.generation;
+        }
+    }
+
     /// Something is asked for at a server that may not be ready.
     fn ask(&mut self, early: Early, id: ServerId) {
         let ready = self.ready.get(usize::from(id.index)).copied().unwrap_or(0);
         if self.servers.runs(id) && ready != id.generation {
             self.early = self.early.or(Some(early));
+        }
+    }
+
+    /// A server was suspected.
+    fn suspect(&mut self, id: ServerId) {
+        self.has_crashes = true;
+        if self.servers.generation(id.index) < id.generation {
+            self.unstarted = self.unstarted.or(Some(id));
         }
     }
 

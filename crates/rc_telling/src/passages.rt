@@ -14,10 +14,17 @@ pub(crate) struct Passage {
 /// What became of all messages, by number.
 #[derive(Drop)]
 pub(crate) struct Passages {
-    pub(crate) items: Vec<Passage>,
+    items: Vec<Passage>,
 }
 
 impl Passages {
+    /// Of no message yet.
+    pub(crate) fn new(alloc: Global) -> Passages {
+        Passages {
+            items: Vec::new(alloc),
+        }
+    }
+
     /// An event sent so many more messages.
     pub(crate) fn send(
         &mut self,
@@ -36,24 +43,36 @@ impl Passages {
 
     /// An event delivered the message of this number.
     pub(crate) fn deliver(&mut self, number: usize, event: usize) -> Result<(), AllocError> {
-        if let Some(passage) = self.items.get_mut(number) {
-            passage.delivered.push(event)?;
+        match self.items.get_mut(number) {
+            Some(passage) => {
+                passage.delivered.push(event)?;
+                Ok(())
+            }
+            None => Ok(()),
         }
-        Ok(())
+    }
+
+    /// All of them, by number.
+    pub(crate) fn as_slice(&self) -> &[Passage] {
+        self.items.as_slice()
     }
 
     /// Whether the message of this number was delivered before this event.
     pub(crate) fn is_delivered_before(&self, number: usize, event: usize) -> bool {
-        let first = self
-            .items
-            .get(number)
-            .and_then(|passage| passage.delivered.first());
-        first.is_some_and(|first| *first < event)
+        match self.items.get(number) {
+            Some(passage) => match passage.delivered.first() {
+                Some(first) => *first < event,
+                None => false,
+            },
+            None => false,
+        }
     }
 
     /// Whether the message of this number was never delivered.
     pub(crate) fn is_lost(&self, number: usize) -> bool {
-        let passage = self.items.get(number);
-        passage.is_some_and(|passage| passage.delivered.is_empty())
+        match self.items.get(number) {
+            Some(passage) => passage.delivered.is_empty(),
+            None => false,
+        }
     }
 }

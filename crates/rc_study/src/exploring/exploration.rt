@@ -91,9 +91,7 @@ impl Exploration {
     pub fn go_on(&mut self, alloc: Global, steps: usize) -> Result<(), Fault> {
         for _ in 0..steps.min(self.steps.saturating_sub(self.step)) {
             let words = Words::take(&mut self.generator);
-            if let Some(event) = self.event_of(alloc, self.step, words)? {
-                self.take(alloc, &event)?;
-            }
+            self.draw(alloc, self.step, words)?;
             self.step = self.step.saturating_add(1);
         }
         Ok(())
@@ -137,8 +135,13 @@ impl Exploration {
     /// The hosts are started, and a table is created.
     fn open(&mut self, alloc: Global) -> Result<(), Fault> {
         for host in 0..self.roster.hosts() {
-            let kept = Seq::new(alloc);
-            self.take(alloc, &Event::Start { host, kept })?;
+            self.take(
+                alloc,
+                &Event::Start {
+                    host,
+                    kept: Seq::new(alloc),
+                },
+            )?;
         }
         self.rest(alloc)?;
         let owner = self.roster.server(&self.world, 0);
@@ -171,8 +174,7 @@ impl Exploration {
     fn notice(&mut self, event: &Event) -> Result<(), Fault> {
         let sent = self.world.sent();
         self.survey.note(event, sent, self.noticed)?;
-        let counts = self.survey.counts();
-        if self.found.is_none() && self.goal.is_some_and(|goal| counts.has(goal)) {
+        if self.found.is_none() && is_reached(self.goal, self.survey.counts()) {
             self.found = Some(self.world.events().len().saturating_sub(1));
         }
         for number in self.noticed..sent.len() {
@@ -186,6 +188,14 @@ impl Exploration {
         Ok(())
     }
 
+    /// One step, of this number.
+    fn draw(&mut self, alloc: Global, number: usize, words: Words) -> Result<(), Fault> {
+        match self.event_of(alloc, number, words)? {
+            Some(event) => self.take(alloc, &event),
+            None => Ok(()),
+        }
+    }
+
     /// The event that the words choose, if there is one.
     fn event_of(
         &mut self,
@@ -194,11 +204,8 @@ impl Exploration {
         words: Words,
     ) -> Result<Option<Event>, Fault> {
         match self.choice(number, words) {
-            Choice::Write => {
-                let value = format!(in alloc; "{number}")?.into_bytes();
-                Ok(Some(self.write(Some(Shared::from_vec(alloc, value)?), words)))
-            }
-            Choice::Delete => Ok(Some(self.write(None, words))),
+            Choice::Write => self.write(alloc, Some(number), words),
+            Choice::Delete => self.write(alloc, None, words),
             Choice::Read => Ok(Some(self.read(words))),
             Choice::Tick => Ok(Some(Event::Tick(Addr::Server(self.server(words))))),
             Choice::TickCoordinator => Ok(Some(Event::Tick(Addr::Coordinator))),
@@ -253,21 +260,35 @@ impl Exploration {
     /// The server that is to be suspected: every second time one that owns a key, else any.
     fn suspected(&self, words: Words) -> ServerId {
         let owner = self.roster.owner(&self.world, words.target as usize % KEYS);
-        let owner = owner.filter(|_| words.detail % 2 == 0);
-        owner.unwrap_or_else(|| self.server(words))
+        match owner {
+            Some(id) if words.detail % 2 == 0 => id,
+            _ => self.server(words),
+        }
     }
 
-    /// A write of this value at one of the keys, or a deletion. A value is the step's number in decimal digits.
-    fn write(&self, value: Option<Shared<u8>>, words: Words) -> Event {
+    /// A write of one of the keys; its value is the step's number in decimal digits, or it is a deletion.
+    fn write(
+        &self,
+        alloc: Global,
+        value: Option<usize>,
+        words: Words,
+    ) -> Result<Option<Event>, Fault> {
         let key = words.target as usize % KEYS;
-        Event::Ask {
+        let value = match value {
+            Some(number) => Some(Shared::from_vec(
+                alloc,
+                format!(in alloc; "{number}")?.into_bytes(),
+            )?),
+            None => None,
+        };
+        Ok(Some(Event::Ask {
             to: self.roster.asked(&self.world, key, words.detail),
             body: Body::Write {
                 table: self.roster.table(),
                 key: key as u64,
                 value,
             },
-        }
+        }))
     }
 
     /// A read of one of the keys.
@@ -285,8 +306,13 @@ impl Exploration {
     /// A stop of a server that was suspected, and now and then of one that was not.
     fn stop(&self, words: Words) -> Option<Event> {
         let id = self.server(words);
-        let is_spare = words.detail % 4 == 0 && self.roster.can_spare(&self.world);
-        (self.roster.is_suspected(id) || is_spare).then_some(Event::Stop(id))
+        if self.roster.is_suspected(id)
+            || (words.detail % 4 == 0 && self.roster.can_spare(&self.world))
+        {
+            Some(Event::Stop(id))
+        } else {
+            None
+        }
     }
 
     /// A start of a host, mostly with all of its open replicas.
@@ -341,5 +367,13 @@ impl Exploration {
         }
         let table = self.roster.next_table();
         Some(Event::Create { table, owner })
+    }
+}
+
+/// Whether what is to be reached was reached, if anything is to be.
+fn is_reached(goal: Option<Goal>, counts: &Counts) -> bool {
+    match goal {
+        Some(goal) => counts.has(goal),
+        None => false,
     }
 }
