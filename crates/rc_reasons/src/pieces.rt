@@ -84,6 +84,7 @@ pub struct Member {
 pub(crate) struct Walk {
     /// How many lists and objects stand open.
     pub depth: usize,
+    /// Whether it stands in a string.
     pub is_quoted: bool,
     is_escaped: bool,
 }

@@ -235,13 +235,13 @@ fn wrong_part(text: &[u8], value: Piece, want: Want) -> Option<usize> {
 
 /// Where an id is wrong, if it is.
 fn wrong_id(text: &[u8], value: Piece) -> Option<usize> {
+    if value.first(text) != b'[' || item(text, value, 2).is_some() {
+        return Some(value.from);
+    }
     let (first, second) = (item(text, value, 0), item(text, value, 1));
     let (Some(index), Some(generation)) = (first, second) else {
         return Some(value.from);
     };
-    if value.first(text) != b'[' || item(text, value, 2).is_some() {
-        return Some(value.from);
-    }
     if !is_simple(index.text(text), Want::Host) {
         return Some(index.from);
     }

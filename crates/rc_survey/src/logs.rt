@@ -19,6 +19,7 @@ struct Open {
 #[derive(Drop)]
 pub(crate) struct Segment {
     pub(crate) epoch: u16,
+    /// Its members under this epoch, at most `MAX_FACTOR`.
     pub(crate) members: Vec<ServerId>,
     /// The members under the epoch before.
     before: Vec<ServerId>,

@@ -13,7 +13,9 @@ const LEAST: Pair = Pair { seg: 0, epoch: 0 };
 /// What is known of a server that was started.
 #[derive(Drop)]
 pub(crate) struct Server {
+    /// Whether it runs.
     pub(crate) runs: bool,
+    /// Whether the coordinator was told to suspect it.
     pub(crate) is_suspected: bool,
     /// Whether it has learnt that it was replaced.
     pub(crate) is_deposed: bool,

@@ -1,7 +1,7 @@
 //! How masters and replicas change in the course of a run, as whoever plays it looks it up after each event.
 
 use crate::standing::{ReplicaStanding, phase_name};
-use rc_types::limits::MAX_HOSTS;
+use crate::tables::Table;
 use rc_types::{Phase, ServerId};
 use std::alloc::{AllocError, Global};
 
@@ -29,10 +29,12 @@ pub(crate) struct ReplicaChange {
 
 /// All changes, in order.
 pub struct Changes {
+    /// The changes of phases, in order.
     pub(crate) phases: Vec<PhaseChange>,
+    /// The changes of replicas, in order.
     pub(crate) replicas: Vec<ReplicaChange>,
-    /// What was noted last of each host's master.
-    last: [Option<(ServerId, &'static str)>; MAX_HOSTS as usize],
+    /// The master of each host that was noted last, by the host's index, its phase, and whether it was deposed.
+    last: Table<u8, (ServerId, Phase, bool)>,
 }
 
 impl Drop for Changes {
@@ -51,7 +53,7 @@ impl Changes {
         Changes {
             phases: Vec::new(alloc),
             replicas: Vec::new(alloc),
-            last: [None; MAX_HOSTS as usize],
+            last: Table::new(alloc),
         }
     }
 
@@ -67,13 +69,15 @@ impl Changes {
         phase: Phase,
         is_deposed: bool,
     ) -> Result<(), AllocError> {
-        let phase = phase_name(phase, is_deposed);
-        let Some(last) = self.last.get_mut(usize::from(id.index)) else {
-            return Ok(());
-        };
-        let before = last.replace((id, phase));
-        if before.is_none_or(|before| before.0 != id || before.1 != phase) {
-            self.phases.push(PhaseChange { event, id, phase })?;
+        let name = phase_name(phase, is_deposed);
+        let before = self.last.find(id.index);
+        if before.is_none_or(|before| before.0 != id || phase_name(before.1, before.2) != name) {
+            self.last.put(id.index, (id, phase, is_deposed))?;
+            self.phases.push(PhaseChange {
+                event,
+                id,
+                phase: name,
+            })?;
         }
         Ok(())
     }

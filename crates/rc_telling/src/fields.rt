@@ -118,7 +118,7 @@ fn tell_more(pen: &mut Pen, count: usize, told: usize) {
     }
 }
 
-/// What a message says: what clients and servers say to each other.
+/// What a message says: of what clients and servers say to each other here, or else what `tell_segment` tells.
 pub(crate) fn tell_fields(pen: &mut Pen, body: &Body) {
     match body {
         Body::Write { table, key, value } => {

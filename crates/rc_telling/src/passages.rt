@@ -14,6 +14,7 @@ pub(crate) struct Passage {
 /// What became of all messages, by number.
 #[derive(Drop)]
 pub(crate) struct Passages {
+    /// All of them, by number.
     pub(crate) items: Vec<Passage>,
 }
 

@@ -39,6 +39,7 @@ impl Server {
 /// All servers, in order of start.
 #[derive(Drop)]
 pub(crate) struct Servers {
+    /// All of them, in order of start.
     pub(crate) items: Vec<Server>,
     /// The place of each host's newest server.
     newest: [Option<usize>; MAX_HOSTS as usize],

@@ -38,7 +38,9 @@ pub struct Notes {
     pub(crate) turns: Vec<Turn>,
     /// What became of the messages.
     pub(crate) passages: Passages,
+    /// The servers.
     pub(crate) servers: Servers,
+    /// What masters, backups and the coordinator are known to have heard.
     pub(crate) known: Known,
 }
 

@@ -57,8 +57,9 @@ pub(crate) struct Cut {
 impl Cut {
     /// Whether the item at this place is left out.
     pub(crate) fn has(&self, task: Task<'_>, at: usize, item: Item) -> bool {
-        let is_settle = matches!(task.event(item), Some(ScenarioEvent::Settle { .. }));
-        self.from <= at && at < self.to && (!self.settles || is_settle)
+        self.from <= at
+            && at < self.to
+            && (!self.settles || matches!(task.event(item), Some(ScenarioEvent::Settle { .. })))
     }
 }
 
