@@ -1,6 +1,6 @@
 //! Which codes stand in a report, by their names.
 
-use crate::topics::all_topics;
+use crate::topics::TOPICS;
 use rc_pen::{Pen, Piece, Spelling};
 use rc_types::{Body, Message};
 use std::alloc::{AllocError, Global};
@@ -17,12 +17,9 @@ pub fn names_of_codes(alloc: Global, messages: &[Message]) -> Result<String, All
         }
     }
     let mut pen = Pen::new(alloc, Spelling::Plain);
-    for topic in all_topics() {
-        if seen
-            .get(usize::from(topic.code.number()))
-            .copied()
-            .unwrap_or(false)
-        {
+    for topic in &TOPICS {
+        let is_seen = seen.get(usize::from(topic.code.number()));
+        if is_seen.is_some_and(|is_seen| *is_seen) {
             pen.put_all(
                 "refused %: %, %\n",
                 &[

@@ -9,72 +9,61 @@ pub enum Dialect {
     Trace,
 }
 
-const EVENTS: [&str; 11] = [
-    "start", "stop", "suspect", "decide", "tick", "write", "read", "deliver", "settle", "create",
-    "split",
-];
+/// The words of a dialect.
+#[derive(Clone, Copy)]
+pub(crate) struct Words {
+    /// What the whole is called.
+    pub whole: &'static str,
+    /// An example of the whole.
+    pub example: &'static str,
+    /// The member with the list.
+    pub list: &'static str,
+    /// What an item of the list is called.
+    pub item: &'static str,
+    /// The member that names the kind of an item.
+    pub kind: &'static str,
+    /// The kinds of items.
+    pub kinds: &'static [&'static str],
+    /// One of them, as an example.
+    pub first_kind: &'static str,
+}
 
-const TRACED: [&str; 5] = ["place", "append", "ok", "plan", "own"];
+/// The words of a scenario.
+pub(crate) static SCENARIO: Words = Words {
+    whole: "the scenario",
+    example: r#"{"format":1,"factor":2,"segment":8,"events":[]}"#,
+    list: "events",
+    item: "event",
+    kind: "e",
+    kinds: &[
+        "start", "stop", "suspect", "decide", "tick", "write", "read", "deliver", "settle",
+        "create", "split",
+    ],
+    first_kind: "start",
+};
+
+/// The words of a trace.
+static TRACE: Words = Words {
+    whole: "the trace",
+    example: r#"{"format":1,"messages":[]}"#,
+    list: "messages",
+    item: "message",
+    kind: "m",
+    kinds: &["place", "append", "ok", "plan", "own"],
+    first_kind: "place",
+};
 
 impl Dialect {
-    /// What the whole is called.
-    pub fn whole(self) -> &'static str {
+    /// Its words.
+    pub(crate) fn words(self) -> &'static Words {
         match self {
-            Dialect::Scenario => "the scenario",
-            Dialect::Trace => "the trace",
-        }
-    }
-
-    /// An example of the whole.
-    pub(crate) fn example(self) -> &'static str {
-        match self {
-            Dialect::Scenario => { r#"{"format":1,"factor":2,"segment":8,"events":[]}"# }
-            Dialect::Trace => r#"{"format":1,"messages":[]}"#,
-        }
-    }
-
-    /// The member with the list.
-    pub(crate) fn list(self) -> &'static str {
-        match self {
-            Dialect::Scenario => "events",
-            Dialect::Trace => "messages",
-        }
-    }
-
-    /// What an item of the list is called.
-    pub(crate) fn item(self) -> &'static str {
-        match self {
-            Dialect::Scenario => "event",
-            Dialect::Trace => "message",
-        }
-    }
-
-    /// The member that names the kind of an item.
-    pub fn kind(self) -> &'static str {
-        match self {
-            Dialect::Scenario => "e",
-            Dialect::Trace => "m",
-        }
-    }
-
-    /// The kinds of items.
-    pub(crate) fn kinds(self) -> &'static [&'static str] {
-        match self {
-            Dialect::Scenario => &EVENTS,
-            Dialect::Trace => &TRACED,
-        }
-    }
-
-    /// The first of the kinds of items.
-    pub(crate) fn first_kind(self) -> &'static str {
-        match self {
-            Dialect::Scenario => EVENTS[0],
-            Dialect::Trace => TRACED[0],
+            Dialect::Scenario => &SCENARIO,
+            Dialect::Trace => &TRACE,
         }
     }
 
     /// The members of the whole.
-    pub fn members(self, is_second: bool) -> &'static [&'static str] {
+    pub(crate) fn members(self, is_second: bool) -> &'static [&'static str] {
         match self {
             Dialect::Scenario if is_second => {
                 &["format", "factor", "factors", "free", "segment", "events"]

@@ -1,11 +1,10 @@
 //! What is told of a word, or of all, as a JSON document.
 
-use crate::events::{Happening, all_events};
-use crate::explaining::{Explained, explain};
-use crate::kinds::KindText;
+use crate::dialects::SCENARIO;
+use crate::explaining::{Explained, Section, explain};
 use crate::looking::Found;
-use crate::rules::{Rule, first_rules, last_rules};
-use crate::topics::{Topic, all_topics};
+use crate::rules::{FIRST, LAST};
+use crate::topics::{TOPICS, Topic};
 use rc_pen::{Pen, Piece, Spelling};
 use rc_types::Kind;
 use std::alloc::{AllocError, Global};
@@ -38,22 +37,35 @@ pub fn explain_json(alloc: Global, word: Option<&str>) -> Result<Explained, Allo
 fn put_found(pen: &mut Pen, found: &Found) {
     pen.put("{\"format\":1,\"code\":");
     match found.code {
-        Some(topic) => put_topic(pen, &topic),
+        Some(topic) => {
+            put_short(pen, topic);
+            put_sections(pen, &topic.sections());
+        }
         None => pen.put("null"),
     }
     pen.put(",\"message\":");
     match found.kind {
-        Some(kind) => put_kind(pen, &kind),
+        Some(words) => {
+            pen.put_all("{\"name\":\"%\"", &[Piece::Words(words.kind.name())]);
+            put_text(pen, "way", words.way);
+            put_sections(pen, &words.sections());
+        }
         None => pen.put("null"),
     }
     pen.put(",\"event\":");
     match found.event {
-        Some(event) => put_event(pen, &event),
+        Some(event) => {
+            pen.put_all("{\"name\":\"%\"", &[Piece::Words(event.name)]);
+            put_sections(pen, &event.sections());
+        }
         None => pen.put("null"),
     }
     pen.put(",\"rule\":");
     match found.rule {
-        Some(rule) => put_rule(pen, &rule),
+        Some(rule) => {
+            pen.put_all("{\"name\":\"%\"", &[Piece::Words(rule.name)]);
+            put_sections(pen, &rule.sections());
+        }
         None => pen.put("null"),
     }
     pen.put("}\n");
@@ -68,11 +80,11 @@ fn put_text(pen: &mut Pen, name: &str, text: &str) {
     pen.put("\"");
 }
 
-/// A code.
-fn put_topic(pen: &mut Pen, topic: &Topic) {
-    put_short(pen, topic);
-    put_text(pen, "when", topic.when);
-    put_text(pen, "remedy", topic.remedy);
+/// Texts, each as a member, and the end of their object.
+fn put_sections(pen: &mut Pen, sections: &[Section]) {
+    for (_, member, text) in sections {
+        put_text(pen, *member, *text);
+    }
     pen.put("}");
 }
 
@@ -83,37 +95,10 @@ fn put_short(pen: &mut Pen, topic: &Topic) {
     put_text(pen, "short", topic.short);
 }
 
-/// A kind of message.
-fn put_kind(pen: &mut Pen, words: &KindText) {
-    pen.put_all("{\"name\":\"%\"", &[Piece::Words(words.kind.name())]);
-    put_text(pen, "way", words.way);
-    put_text(pen, "has", words.has);
-    put_text(pen, "says", words.says);
-    put_text(pen, "then", words.then);
-    pen.put("}");
-}
-
-/// An event of a scenario.
-fn put_event(pen: &mut Pen, event: &Happening) {
-    pen.put_all("{\"name\":\"%\"", &[Piece::Words(event.name)]);
-    put_text(pen, "example", event.example);
-    put_text(pen, "says", event.says);
-    pen.put("}");
-}
-
-/// A rule that can be broken.
-fn put_rule(pen: &mut Pen, rule: &Rule) {
-    pen.put_all("{\"name\":\"%\"", &[Piece::Words(rule.name)]);
-    put_text(pen, "keeps", rule.keeps);
-    put_text(pen, "without", rule.without);
-    put_text(pen, "example", rule.example);
-    pen.put("}");
-}
-
 /// The codes, and the names of the rest.
 fn put_list(pen: &mut Pen) {
     pen.put("{\"format\":1,\"codes\":[");
-    for (at, topic) in all_topics().iter().enumerate() {
+    for (at, topic) in TOPICS.iter().enumerate() {
         pen.put_either(at > 0, ",", "");
         put_short(pen, topic);
         pen.put("}");
@@ -123,11 +108,11 @@ fn put_list(pen: &mut Pen) {
         put_name(pen, at, kind.name());
     }
     pen.put("],\"events\":[");
-    for (at, event) in all_events().iter().enumerate() {
-        put_name(pen, at, event.name);
+    for (at, name) in SCENARIO.kinds.iter().enumerate() {
+        put_name(pen, at, *name);
     }
     pen.put("],\"rules\":[");
-    for (at, rule) in first_rules().iter().chain(last_rules()).enumerate() {
+    for (at, rule) in FIRST.iter().chain(&LAST).enumerate() {
         put_name(pen, at, rule.name);
     }
     pen.put("]}\n");

@@ -1,5 +1,7 @@
 //! The events of a scenario, one place for each.
 
+use crate::explaining::Section;
+
 /// What there is to say of an event.
 #[derive(Clone, Copy)]
 pub(crate) struct Happening {
@@ -11,12 +13,18 @@ pub(crate) struct Happening {
     pub says: &'static str,
 }
 
-/// Every event, as `docs/FORMATS.md` lists them.
-pub(crate) fn all_events() -> &'static [Happening] {
-    &EVENTS
+impl Happening {
+    /// Its texts.
+    pub(crate) fn sections(&self) -> [Section; 2] {
+        [
+            ("How it is written", "example", self.example),
+            ("What happens", "says", self.says),
+        ]
+    }
 }
 
-static EVENTS: [Happening; 11] = [
+/// Every event, as `docs/FORMATS.md` lists them.
+pub(crate) static EVENTS: [Happening; 11] = [
     Happening {
         name: "start",
         example: r#"{"e":"start","host":0}"#,

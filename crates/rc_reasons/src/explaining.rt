@@ -1,11 +1,10 @@
 //! The text that is told of a word, or of all.
 
-use crate::events::{Happening, all_events};
-use crate::kinds::KindText;
+use crate::dialects::SCENARIO;
 use crate::looking::Found;
 use crate::names::nearest;
-use crate::rules::{Rule, first_rules, last_rules};
-use crate::topics::{Topic, all_topics};
+use crate::rules::{FIRST, LAST};
+use crate::topics::{TOPICS, Topic};
 use rc_pen::{Pen, Piece, Spelling};
 use rc_types::Kind;
 use std::alloc::{AllocError, Global};
@@ -15,6 +14,9 @@ const WIDTH: usize = 80;
 
 /// How long the longest name of a code is.
 const LONGEST: usize = 15;
+
+/// A text, with its title and with the name of its member in a JSON document in front.
+pub(crate) type Section = (&'static str, &'static str, &'static str);
 
 /// What there is to say of a word.
 #[derive(Drop)]
@@ -38,7 +40,7 @@ pub fn explain(alloc: Global, word: Option<&str>) -> Result<Explained, AllocErro
             if is_known {
                 tell_found(&mut pen, &found);
             } else {
-                tell_unknown(alloc, &mut pen, word);
+                tell_unknown(alloc, &mut pen, word)?;
             }
         }
     }
@@ -50,56 +52,79 @@ pub fn explain(alloc: Global, word: Option<&str>) -> Result<Explained, AllocErro
 
 /// What there is to say of all that a word names, with an empty line between.
 fn tell_found(pen: &mut Pen, found: &Found) {
-    let mut told = false;
     if let Some(topic) = found.code {
-        tell_topic(pen, &topic);
-        told = true;
+        let (number, name) = (
+            Piece::U8(topic.code.number()),
+            Piece::Words(topic.code.name()),
+        );
+        pen.put_all("F% %: %\n", &[number, name, Piece::Words(topic.short)]);
+        tell_sections(pen, &topic.sections());
     }
-    if let Some(kind) = found.kind {
+    let mut told = found.code.is_some();
+    if let Some(words) = found.kind {
         pen.put_either(told, "\n", "");
-        tell_kind(pen, &kind);
+        pen.put_all(
+            "%, a message %\n",
+            &[Piece::Words(words.kind.name()), Piece::Words(words.way)],
+        );
+        tell_sections(pen, &words.sections());
         told = true;
     }
     if let Some(event) = found.event {
         pen.put_either(told, "\n", "");
-        tell_event(pen, &event);
+        pen.put_all("%, an event of a scenario\n", &[Piece::Words(event.name)]);
+        tell_sections(pen, &event.sections());
         told = true;
     }
     if let Some(rule) = found.rule {
+        let name = Piece::Words(rule.name);
         pen.put_either(told, "\n", "");
-        tell_rule(pen, &rule);
+        pen.put_all("%, a rule that can be broken\n", &[name]);
+        tell_sections(pen, &rule.sections());
+        pen.put_all("\nTo see it\n  ./ramseg --without % run ", &[name]);
+        if rule.example.is_empty() {
+            pen.put("FILE\n");
+        } else {
+            pen.put_all("examples/broken/%.json\n", &[name]);
+        }
+    }
+}
+
+/// Those of these texts that there are, each below its title.
+fn tell_sections(pen: &mut Pen, sections: &[Section]) {
+    for (title, _, text) in sections {
+        if !text.is_empty() {
+            pen.put_all("\n%\n", &[Piece::Words(*title)]);
+            let mut column = 0usize;
+            for word in text.split_whitespace() {
+                column = tell_word(pen, word, column);
+            }
+            pen.put("\n");
+        }
     }
 }
 
 /// That a word names nothing, and what may have been meant.
-fn tell_unknown(alloc: Global, pen: &mut Pen, word: &str) {
+fn tell_unknown(alloc: Global, pen: &mut Pen, word: &str) -> Result<(), AllocError> {
     pen.put("error: '");
     pen.put(word);
     pen.put("' is no code, message, event or rule");
-    match nearest_of_all(alloc, word) {
-        Ok(Some(near)) => pen.put_all("; did you mean '%'?", &[Piece::Words(near)]),
-        Ok(None) => {}
-        Err(error) => pen.take(Err(error)),
+    if let Some(near) = nearest_of_all(alloc, word)? {
+        pen.put_all("; did you mean '%'?", &[Piece::Words(near)]);
     }
     pen.put("\n\n`ramseg explain` lists them.\n");
+    Ok(())
 }
 
 /// The nearest of all names, if one is near.
 fn nearest_of_all(alloc: Global, word: &str) -> Result<Option<&'static str>, AllocError> {
     let mut names = Vec::new(alloc);
-    for topic in all_topics() {
+    for topic in &TOPICS {
         names.push(topic.code.name())?;
     }
-    for kind in &Kind::ALL {
-        names.push(kind.name())?;
-    }
-    for event in all_events() {
-        names.push(event.name)?;
-    }
-    for rule in first_rules() {
-        names.push(rule.name)?;
-    }
-    for rule in last_rules() {
+    names.extend_from_slice(&Kind::ALL.map(|kind| kind.name()))?;
+    names.extend_from_slice(SCENARIO.kinds)?;
+    for rule in FIRST.iter().chain(&LAST) {
         names.push(rule.name)?;
     }
     nearest(alloc, word, names.as_slice())
@@ -107,7 +132,7 @@ fn nearest_of_all(alloc: Global, word: &str) -> Result<Option<&'static str>, All
 
 /// A line for each code, and the names of the rest.
 fn tell_list(pen: &mut Pen) {
-    for topic in all_topics() {
+    for topic in &TOPICS {
         tell_line(pen, topic);
     }
     pen.put("\nMessages\n");
@@ -117,15 +142,12 @@ fn tell_list(pen: &mut Pen) {
     }
     pen.put("\n\nEvents\n");
     column = 0;
-    for event in all_events() {
-        column = tell_word(pen, event.name, column);
+    for name in SCENARIO.kinds {
+        column = tell_word(pen, *name, column);
     }
     pen.put("\n\nRules that can be broken\n");
     column = 0;
-    for rule in first_rules() {
-        column = tell_word(pen, rule.name, column);
-    }
-    for rule in last_rules() {
+    for rule in FIRST.iter().chain(&LAST) {
         column = tell_word(pen, rule.name, column);
     }
     pen.put(
@@ -147,77 +169,6 @@ fn tell_line(pen: &mut Pen, topic: &Topic) {
         pen.put(" ");
     }
     pen.put_all("  %\n", &[Piece::Words(topic.short)]);
-}
-
-/// What there is to say of a code.
-fn tell_topic(pen: &mut Pen, topic: &Topic) {
-    pen.put_all(
-        "F% %: %\n\nWhen it comes\n",
-        &[
-            Piece::U8(topic.code.number()),
-            Piece::Words(topic.code.name()),
-            Piece::Words(topic.short),
-        ],
-    );
-    tell_wrapped(pen, topic.when);
-    pen.put("\nWhat to do\n");
-    tell_wrapped(pen, topic.remedy);
-}
-
-/// What there is to say of a kind of message.
-fn tell_kind(pen: &mut Pen, words: &KindText) {
-    pen.put_all(
-        "%, a message %\n\nWhat it has\n",
-        &[Piece::Words(words.kind.name()), Piece::Words(words.way)],
-    );
-    tell_wrapped(pen, words.has);
-    pen.put("\nWhat it says\n");
-    tell_wrapped(pen, words.says);
-    pen.put("\nWhat comes of it\n");
-    tell_wrapped(pen, words.then);
-}
-
-/// What there is to say of an event.
-fn tell_event(pen: &mut Pen, event: &Happening) {
-    pen.put_all(
-        "%, an event of a scenario\n\nHow it is written\n  %\n\nWhat happens\n",
-        &[Piece::Words(event.name), Piece::Words(event.example)],
-    );
-    tell_wrapped(pen, event.says);
-}
-
-/// What there is to say of a rule that can be broken.
-fn tell_rule(pen: &mut Pen, rule: &Rule) {
-    pen.put_all(
-        "%, a rule that can be broken\n\nThe rule\n",
-        &[Piece::Words(rule.name)],
-    );
-    tell_wrapped(pen, rule.keeps);
-    pen.put("\nWithout it\n");
-    tell_wrapped(pen, rule.without);
-    let is_shown = !rule.example.is_empty();
-    if is_shown {
-        pen.put("\nThe example\n");
-        tell_wrapped(pen, rule.example);
-    }
-    pen.put_all(
-        "\nTo see it\n  ./ramseg --without % run ",
-        &[Piece::Words(rule.name)],
-    );
-    if is_shown {
-        pen.put_all("examples/broken/%.json\n", &[Piece::Words(rule.name)]);
-    } else {
-        pen.put("FILE\n");
-    }
-}
-
-/// The words in lines that begin with two spaces.
-fn tell_wrapped(pen: &mut Pen, words: &str) {
-    let mut column = 0usize;
-    for word in words.split_whitespace() {
-        column = tell_word(pen, word, column);
-    }
-    pen.put("\n");
 }
 
 /// A word, where the line has so many columns already, or in a new line; gives how many that then has.

@@ -4,7 +4,7 @@ use crate::dialects::{Dialect, may_be_absent};
 use crate::pieces::{Member, Members, Piece, item};
 use crate::showing::{ask_for_nearest, show, show_quoted, tell_names, tell_place};
 use crate::syntax::tell_text_fault;
-use crate::values::{Want, Wrong, tell_want, unquoted, wrong_in};
+use crate::values::{Want, Wrong, tell_want, wrong_in};
 use rc_pen::{Pen, Piece as Told, Spelling};
 use rc_types::Kind;
 use std::alloc::{AllocError, Global};
@@ -17,76 +17,35 @@ pub fn reason_of_fault(
     place: usize,
 ) -> Result<String, AllocError> {
     let mut pen = Pen::new(alloc, Spelling::Plain);
+    let input = Input {
+        alloc,
+        dialect,
+        text,
+    };
     match place {
         0 => tell_text_fault(alloc, dialect, text, &mut pen),
-        1 => tell_whole_fault(alloc, dialect, text, &mut pen),
-        _ => tell_item_fault(alloc, dialect, text, place - 2, &mut pen),
+        1 => tell_whole_fault(input, &mut pen),
+        _ => tell_item_fault(input, place - 2, &mut pen),
     }
     pen.say("\n`ramseg explain F17` says what the place stands for.\n");
     pen.end()
 }
 
-/// Why what stands round the list is wrong.
-fn tell_whole_fault(alloc: Global, dialect: Dialect, text: &[u8], pen: &mut Pen) {
-    let whole = Piece::all(text);
-    if whole.first(text) == b'{' {
-        let found = Members::of(text, whole);
-        tell_outer_fault(alloc, dialect, text, &found, pen);
-    } else {
-        tell_place(pen, text, whole.from);
-        pen.say_all(
-            "% has to be an object, as %",
-            &[Told::Words(dialect.whole()), Told::Words(dialect.example())],
-        );
-    }
-}
-
-/// Why the outermost object is wrong, which has these members.
-fn tell_outer_fault(alloc: Global, dialect: Dialect, text: &[u8], found: &Members, pen: &mut Pen) {
-    let whole = Piece::all(text);
-    let is_first = is_first(dialect, text, found);
-    if is_first && has_second_alone(text, found) {
-        tell_place(pen, text, whole.from);
-        pen.say("the members \"factors\" and \"free\" belong to format 2; this is \"format\":1");
-        return;
-    }
-    let object = Object {
-        whole,
-        name: Name::Whole(dialect),
-        kind: dialect.list(),
-        wanted: dialect.members(!is_first),
-        first: "",
-    };
-    tell_members_fault(alloc, text, &object, found, pen);
-}
-
-/// Whether this is a scenario of format 1.
-fn is_first(dialect: Dialect, text: &[u8], found: &Members) -> bool {
-    match found.named(text, "format") {
-        Some(member) => { matches!(dialect, Dialect::Scenario) && member.value.text(text) == "1" }
-        None => false,
-    }
-}
-
-/// Whether there is a member that format 2 alone has.
-fn has_second_alone(text: &[u8], found: &Members) -> bool {
-    found.named(text, "factors").is_some() || found.named(text, "free").is_some()
-}
-
-/// What an object is called.
+/// A text that is wrong.
 #[derive(Clone, Copy)]
-enum Name<'a> {
-    /// The whole of this dialect.
-    Whole(Dialect),
-    /// The item of this number, of this kind.
-    Item(Dialect, usize, &'a str),
+struct Input<'a> {
+    alloc: Global,
+    dialect: Dialect,
+    text: &'a [u8],
 }
 
 /// An object whose members are looked at.
 #[derive(Clone, Copy)]
 struct Object<'a> {
+    input: Input<'a>,
     whole: Piece,
-    name: Name<'a>,
+    /// Its number, if it is an item.
+    number: Option<usize>,
     kind: &'a str,
     /// The names of its members.
     wanted: &'static [&'static str],
@@ -94,124 +53,108 @@ struct Object<'a> {
     first: &'static str,
 }
 
+/// Why what stands round the list is wrong.
+fn tell_whole_fault(input: Input<'_>, pen: &mut Pen) {
+    let words = input.dialect.words();
+    let whole = Piece::all(input.text);
+    if whole.first(input.text) != b'{' {
+        tell_place(pen, input.text, whole.from);
+        pen.say_all(
+            "% has to be an object, as %",
+            &[Told::Words(words.whole), Told::Words(words.example)],
+        );
+        return;
+    }
+    let found = Members::of(input.text, whole);
+    let is_first = is_first(input, &found);
+    let has_second = |name: &str| found.named(input.text, name).is_some();
+    if is_first && (has_second("factors") || has_second("free")) {
+        tell_place(pen, input.text, whole.from);
+        pen.say("the members \"factors\" and \"free\" belong to format 2; this is \"format\":1");
+        return;
+    }
+    let object = Object {
+        input,
+        whole,
+        number: None,
+        kind: words.list,
+        wanted: input.dialect.members(!is_first),
+        first: "",
+    };
+    tell_members_fault(&object, &found, pen);
+}
+
+/// Whether this is a scenario of format 1.
+fn is_first(input: Input<'_>, found: &Members) -> bool {
+    let format = found.named(input.text, "format");
+    matches!(input.dialect, Dialect::Scenario)
+        && format.is_some_and(|member| member.value.text(input.text) == "1")
+}
+
 /// What the object is called.
 fn tell_name(pen: &mut Pen, object: &Object<'_>) {
-    match object.name {
-        Name::Whole(dialect) => pen.say(dialect.whole()),
-        Name::Item(dialect, number, kind) => {
-            tell_item(pen, dialect, number);
+    match object.number {
+        None => pen.say(object.input.dialect.words().whole),
+        Some(number) => {
+            tell_item(pen, object.input, number);
             pen.say(" (");
-            pen.say(kind);
+            pen.say(object.kind);
             pen.say(")");
         }
     }
 }
 
 /// An item, by its number.
-fn tell_item(pen: &mut Pen, dialect: Dialect, number: usize) {
-    pen.say_all("% %", &[Told::Words(dialect.item()), Told::Size(number)]);
+fn tell_item(pen: &mut Pen, input: Input<'_>, number: usize) {
+    let item = Told::Words(input.dialect.words().item);
+    pen.say_all("% %", &[item, Told::Size(number)]);
 }
 
 /// Tells of the first member that is strange, missing or wrong.
-fn tell_members_fault(
-    alloc: Global,
-    text: &[u8],
-    object: &Object<'_>,
-    found: &Members,
-    pen: &mut Pen,
-) {
-    if let Some(member) = strange_member(text, object, found.as_slice()) {
-        tell_strange(alloc, text, object, &member, pen);
-    } else if !tell_first_fault(alloc, text, object, found, pen) {
-        tell_place(pen, text, object.whole.from);
-        tell_name(pen, object);
-        pen.say(" is wrong");
-    }
-}
-
-/// The first member that the object does not have.
-fn strange_member(text: &[u8], object: &Object<'_>, found: &[Member]) -> Option<Member> {
-    for member in found {
-        if !is_member(object, member.name.text(text)) {
-            return Some(*member);
+fn tell_members_fault(object: &Object<'_>, found: &Members, pen: &mut Pen) {
+    let text = object.input.text;
+    for member in found.as_slice() {
+        let name = member.name.text(text);
+        if !object.wanted.iter().any(|wanted| *wanted == name) && name != object.first {
+            tell_strange(object, member, pen);
+            return;
         }
     }
-    None
-}
-
-/// Whether the object has a member of this name.
-fn is_member(object: &Object<'_>, name: &str) -> bool {
-    for other in object.wanted {
-        if *other == name {
-            return true;
-        }
-    }
-    name == object.first
-}
-
-/// Tells of the first member that is missing or wrong, and gives whether one is.
-fn tell_first_fault(
-    alloc: Global,
-    text: &[u8],
-    object: &Object<'_>,
-    found: &Members,
-    pen: &mut Pen,
-) -> bool {
     for wanted in object.wanted {
-        if tell_member_fault(alloc, text, object, found, wanted, pen) {
-            return true;
+        let want = Want::of(object.kind, wanted);
+        let is_told = match found.named(text, wanted) {
+            Some(member) => tell_if_wrong(object, &member, want, pen),
+            None => tell_absent(object, *wanted, want, pen),
+        };
+        if is_told {
+            return;
         }
     }
-    false
-}
-
-/// Tells what is wrong with the member of this name, and gives whether something is.
-fn tell_member_fault(
-    alloc: Global,
-    text: &[u8],
-    object: &Object<'_>,
-    found: &Members,
-    wanted: &'static str,
-    pen: &mut Pen,
-) -> bool {
-    let want = Want::of(object.kind, wanted);
-    match found.named(text, wanted) {
-        Some(member) => tell_if_wrong(alloc, text, object, &member, want, pen),
-        None => tell_absent(text, object, wanted, want, pen),
-    }
+    tell_place(pen, text, object.whole.from);
+    tell_name(pen, object);
+    pen.say(" is wrong");
 }
 
 /// Tells what is wrong with a member that has to be this, and gives whether something is.
-fn tell_if_wrong(
-    alloc: Global,
-    text: &[u8],
-    object: &Object<'_>,
-    member: &Member,
-    want: Want,
-    pen: &mut Pen,
-) -> bool {
-    match wrong_in(text, member.value, want) {
-        Some(wrong) => {
-            tell_wrong(pen, text, object, member, &wrong);
-            tell_meant(alloc, text, &wrong, pen);
-            true
-        }
-        None => false,
+fn tell_if_wrong(object: &Object<'_>, member: &Member, want: Want, pen: &mut Pen) -> bool {
+    let Some(wrong) = wrong_in(object.input.text, member.value, want) else {
+        return false;
+    };
+    tell_wrong(pen, object, member, &wrong);
+    if let Want::Name = wrong.want {
+        let spelt = wrong.shown.unquoted(object.input.text);
+        let names = Kind::ALL.map(|kind| kind.name());
+        ask_for_nearest(object.input.alloc, pen, spelt, &names);
     }
+    true
 }
 
 /// Tells that a member is absent, unless it may be; gives whether it has told that.
-fn tell_absent(
-    text: &[u8],
-    object: &Object<'_>,
-    wanted: &'static str,
-    want: Want,
-    pen: &mut Pen,
-) -> bool {
+fn tell_absent(object: &Object<'_>, wanted: &'static str, want: Want, pen: &mut Pen) -> bool {
     if may_be_absent(wanted) {
         return false;
     }
-    tell_place(pen, text, object.whole.from);
+    tell_place(pen, object.input.text, object.whole.from);
     tell_name(pen, object);
     pen.say_all(" lacks the member \"%\": ", &[Told::Words(wanted)]);
     tell_want(pen, want);
@@ -219,24 +162,21 @@ fn tell_absent(
 }
 
 /// Tells of a member that does not belong here.
-fn tell_strange(alloc: Global, text: &[u8], object: &Object<'_>, member: &Member, pen: &mut Pen) {
+fn tell_strange(object: &Object<'_>, member: &Member, pen: &mut Pen) {
+    let text = object.input.text;
     tell_place(pen, text, member.name.from.saturating_sub(1));
     tell_name(pen, object);
     pen.say(" has no member ");
     show_quoted(pen, text, member.name);
     let spelt = member.name.text(text);
-    tell_nearest(alloc, pen, spelt, "; its members are", object.wanted);
-}
-
-/// Asks whether the nearest of these names was meant, or tells all of them.
-fn tell_nearest(alloc: Global, pen: &mut Pen, spelt: &str, before: &str, names: &[&'static str]) {
-    if !ask_for_nearest(alloc, pen, spelt, names) {
-        tell_names(pen, before, names);
+    if !ask_for_nearest(object.input.alloc, pen, spelt, object.wanted) {
+        tell_names(pen, "; its members are", object.wanted);
     }
 }
 
 /// Tells of a value that is not what it has to be.
-fn tell_wrong(pen: &mut Pen, text: &[u8], object: &Object<'_>, member: &Member, wrong: &Wrong) {
+fn tell_wrong(pen: &mut Pen, object: &Object<'_>, member: &Member, wrong: &Wrong) {
+    let text = object.input.text;
     let is_whole = wrong.shown.from == member.value.from;
     tell_place(pen, text, wrong.at);
     tell_name(pen, object);
@@ -248,120 +188,82 @@ fn tell_wrong(pen: &mut Pen, text: &[u8], object: &Object<'_>, member: &Member, 
     tell_want(pen, wrong.want);
 }
 
-/// Asks whether another name was meant.
-fn tell_meant(alloc: Global, text: &[u8], wrong: &Wrong, pen: &mut Pen) {
-    if let Want::Name = wrong.want {
-        let spelt = unquoted(wrong.shown.text(text)).unwrap_or("");
-        match names_of_kinds(alloc) {
-            Ok(names) => {
-                ask_for_nearest(alloc, pen, spelt, names.as_slice());
-            }
-            Err(error) => pen.take(Err(error)),
-        }
-    }
-}
-
-/// The names of all kinds of messages.
-fn names_of_kinds(alloc: Global) -> Result<Vec<&'static str>, AllocError> {
-    let mut names = Vec::with_capacity(alloc, Kind::ALL.len())?;
-    for kind in Kind::ALL.iter() {
-        names.push(kind.name())?;
-    }
-    Ok(names)
-}
-
 /// The item of this number.
 pub(crate) fn item_of(dialect: Dialect, text: &[u8], number: usize) -> Option<Piece> {
-    match list_of(dialect, text) {
-        Some(list) => item(text, list, number),
-        None => None,
-    }
+    item(text, list_of(dialect, text)?, number)
 }
 
 /// The list of items.
 pub(crate) fn list_of(dialect: Dialect, text: &[u8]) -> Option<Piece> {
-    match Members::of(text, Piece::all(text)).named(text, dialect.list()) {
-        Some(member) => Some(member.value),
-        None => None,
-    }
+    let found = Members::of(text, Piece::all(text));
+    Some(found.named(text, dialect.words().list)?.value)
 }
 
 /// Why an item of the list is wrong.
-fn tell_item_fault(alloc: Global, dialect: Dialect, text: &[u8], number: usize, pen: &mut Pen) {
-    match item_of(dialect, text, number) {
-        Some(whole) if whole.first(text) == b'{' => {
-            tell_object_fault(alloc, dialect, text, number, whole, pen);
+fn tell_item_fault(input: Input<'_>, number: usize, pen: &mut Pen) {
+    match item_of(input.dialect, input.text, number) {
+        Some(whole) if whole.first(input.text) == b'{' => {
+            tell_object_fault(input, number, whole, pen);
         }
-        Some(whole) => tell_no_object(pen, dialect, text, number, whole),
+        Some(whole) => {
+            let words = input.dialect.words();
+            tell_place(pen, input.text, whole.from);
+            tell_item(pen, input, number);
+            pen.say(" is ");
+            show(pen, input.text, whole);
+            pen.say_all(
+                "; expected an object, as {\"%\":\"%\", ..}",
+                &[Told::Words(words.kind), Told::Words(words.first_kind)],
+            );
+        }
         None => {
-            tell_item(pen, dialect, number);
+            tell_item(pen, input, number);
             pen.say(" is wrong");
         }
     }
 }
 
-/// An item is no object.
-fn tell_no_object(pen: &mut Pen, dialect: Dialect, text: &[u8], number: usize, whole: Piece) {
-    tell_place(pen, text, whole.from);
-    tell_item(pen, dialect, number);
-    pen.say(" is ");
-    show(pen, text, whole);
-    pen.say_all(
-        "; expected an object, as {\"%\":\"%\", ..}",
-        &[
-            Told::Words(dialect.kind()),
-            Told::Words(dialect.first_kind()),
-        ],
-    );
-}
-
 /// Why an item is wrong that is an object.
-fn tell_object_fault(
-    alloc: Global,
-    dialect: Dialect,
-    text: &[u8],
-    number: usize,
-    whole: Piece,
-    pen: &mut Pen,
-) {
-    let found = Members::of(text, whole);
-    let Some(member) = found.named(text, dialect.kind()) else {
-        tell_no_kind(pen, dialect, text, number, whole);
+fn tell_object_fault(input: Input<'_>, number: usize, whole: Piece, pen: &mut Pen) {
+    let words = input.dialect.words();
+    let found = Members::of(input.text, whole);
+    let Some(member) = found.named(input.text, words.kind) else {
+        tell_place(pen, input.text, whole.from);
+        tell_item(pen, input, number);
+        pen.say_all(
+            " lacks the member \"%\", which says what it is",
+            &[Told::Words(words.kind)],
+        );
+        tell_names(pen, ":", words.kinds);
         return;
     };
-    let kind = unquoted(member.value.text(text)).unwrap_or("");
-    let wanted = dialect.members_of(kind);
+    let kind = member.value.unquoted(input.text);
+    let wanted = input.dialect.members_of(kind);
     if wanted.is_empty() {
-        tell_strange_kind(pen, dialect, text, number, &member);
-        tell_nearest(alloc, pen, kind, "; these are:", dialect.kinds());
+        tell_strange_kind(input, number, &member, pen);
         return;
     }
     let object = Object {
+        input,
         whole,
-        name: Name::Item(dialect, number, kind),
+        number: Some(number),
         kind,
         wanted,
-        first: dialect.kind(),
+        first: words.kind,
     };
-    tell_members_fault(alloc, text, &object, &found, pen);
-}
-
-/// An item does not say what it is.
-fn tell_no_kind(pen: &mut Pen, dialect: Dialect, text: &[u8], number: usize, whole: Piece) {
-    tell_place(pen, text, whole.from);
-    tell_item(pen, dialect, number);
-    pen.say_all(
-        " lacks the member \"%\", which says what it is",
-        &[Told::Words(dialect.kind())],
-    );
-    tell_names(pen, ":", dialect.kinds());
+    tell_members_fault(&object, &found, pen);
 }
 
 /// An item is of a kind that is not known.
-fn tell_strange_kind(pen: &mut Pen, dialect: Dialect, text: &[u8], number: usize, member: &Member) {
-    tell_place(pen, text, member.value.from);
-    tell_item(pen, dialect, number);
-    pen.say_all(": \"%\" is ", &[Told::Words(dialect.kind())]);
-    show(pen, text, member.value);
-    pen.say_all(", which is no kind of %", &[Told::Words(dialect.item())]);
+fn tell_strange_kind(input: Input<'_>, number: usize, member: &Member, pen: &mut Pen) {
+    let words = input.dialect.words();
+    tell_place(pen, input.text, member.value.from);
+    tell_item(pen, input, number);
+    pen.say_all(": \"%\" is ", &[Told::Words(words.kind)]);
+    show(pen, input.text, member.value);
+    pen.say_all(", which is no kind of %", &[Told::Words(words.item)]);
+    let kind = member.value.unquoted(input.text);
+    if !ask_for_nearest(input.alloc, pen, kind, words.kinds) {
+        tell_names(pen, "; these are:", words.kinds);
+    }
 }

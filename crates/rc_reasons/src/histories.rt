@@ -1,6 +1,7 @@
 //! Which servers have run, by the events of a scenario alone.
 
 use rc_reading::ScenarioEvent;
+use rc_types::limits::MAX_HOSTS;
 use rc_types::{Event, ServerId};
 
 /// The servers of one host so far.
@@ -14,10 +15,20 @@ pub struct Host {
     pub since: usize,
 }
 
+impl Host {
+    /// Its newest server, where this is its index.
+    pub(crate) fn newest(&self, index: u8) -> ServerId {
+        ServerId {
+            index,
+            generation: self.generation,
+        }
+    }
+}
+
 /// The servers of all hosts.
 #[derive(Clone, Copy)]
 pub struct History {
-    hosts: [Host; 64],
+    hosts: [Host; MAX_HOSTS as usize],
 }
 
 impl History {
@@ -28,12 +39,12 @@ impl History {
             is_running: false,
             since: 0,
         };
-        let mut history = History { hosts: [none; 64] };
+        let mut history = History {
+            hosts: [none; MAX_HOSTS as usize],
+        };
         for (number, event) in events.iter().enumerate() {
-            match event {
-                ScenarioEvent::Core(Event::Start { host, .. }) => history.start(*host, number),
-                ScenarioEvent::Core(Event::Stop(id)) => history.stop(*id, number),
-                _ => {}
+            if let ScenarioEvent::Core(event) = event {
+                history.take(event, number);
             }
         }
         history
@@ -44,17 +55,16 @@ impl History {
         self.hosts.get(usize::from(index)).copied()
     }
 
-    fn start(&mut self, index: u8, number: usize) {
+    /// The event of this number happens; perhaps it starts or stops a server.
+    fn take(&mut self, event: &Event, number: usize) {
+        let (index, starts) = match event {
+            Event::Start { host, .. } => (*host, true),
+            Event::Stop(id) => (id.index, false),
+            _ => return,
+        };
         if let Some(host) = self.hosts.get_mut(usize::from(index)) {
-            host.generation = host.generation.saturating_add(1);
-            host.is_running = true;
-            host.since = number;
-        }
-    }
-
-    fn stop(&mut self, id: ServerId, number: usize) {
-        if let Some(host) = self.hosts.get_mut(usize::from(id.index)) {
-            host.is_running = false;
+            host.generation = host.generation.saturating_add(u32::from(starts));
+            host.is_running = starts;
             host.since = number;
         }
     }

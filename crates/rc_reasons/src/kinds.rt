@@ -1,5 +1,6 @@
 //! What there is to say of the kinds of messages, one place for each.
 
+use crate::explaining::Section;
 use rc_types::Kind;
 
 /// What there is to say of a kind of message.
@@ -17,12 +18,19 @@ pub(crate) struct KindText {
     pub then: &'static str,
 }
 
-/// Every kind, as `docs/PROTOCOL.md` lists them in "Messages".
-pub(crate) fn all_kinds() -> &'static [KindText] {
-    &KINDS
+impl KindText {
+    /// Its texts.
+    pub(crate) fn sections(&self) -> [Section; 3] {
+        [
+            ("What it has", "has", self.has),
+            ("What it says", "says", self.says),
+            ("What comes of it", "then", self.then),
+        ]
+    }
 }
 
-static KINDS: [KindText; Kind::ALL.len()] = [
+/// Every kind, as `docs/PROTOCOL.md` lists them in "Messages".
+pub(crate) static KINDS: [KindText; Kind::ALL.len()] = [
     KindText {
         kind: Kind::Write,
         way: "from outside to a master",

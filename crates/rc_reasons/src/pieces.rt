@@ -1,5 +1,7 @@
 //! Pieces of a JSON text, found by its brackets, commas and quotes alone.
 
+use crate::values::unquoted;
+
 /// A piece of a text: where it begins, and where it ends.
 #[derive(Clone, Copy)]
 pub struct Piece {
@@ -33,6 +35,11 @@ impl Piece {
         std::str::from_utf8(self.of(text)).unwrap_or("")
     }
 
+    /// What stands between the quotes of the text that it is, or nothing.
+    pub(crate) fn unquoted(self, text: &[u8]) -> &str {
+        unquoted(self.text(text)).unwrap_or("")
+    }
+
     /// Its first byte, or 0.
     pub fn first(self, text: &[u8]) -> u8 {
         self.of(text).first().copied().unwrap_or(0)
@@ -41,9 +48,11 @@ impl Piece {
     /// The piece without the blanks at its ends.
     pub(crate) fn trimmed(self, text: &[u8]) -> Piece {
         let bytes = self.of(text);
+        let before = bytes.iter().position(|byte| !is_blank(*byte));
+        let after = bytes.iter().rev().position(|byte| !is_blank(*byte));
         Piece {
-            from: self.from.saturating_add(blanks_before(bytes)),
-            to: self.to.saturating_sub(blanks_after(bytes)),
+            from: self.from.saturating_add(before.unwrap_or(bytes.len())),
+            to: self.to.saturating_sub(after.unwrap_or(bytes.len())),
         }
     }
 
@@ -61,29 +70,6 @@ fn is_blank(byte: u8) -> bool {
     matches!(byte, b' ' | b'\t' | b'\n' | b'\r')
 }
 
-/// With how many blanks the bytes begin.
-fn blanks_before(bytes: &[u8]) -> usize {
-    for (count, byte) in bytes.iter().enumerate() {
-        if !is_blank(*byte) {
-            return count;
-        }
-    }
-    bytes.len()
-}
-
-/// With how many blanks the bytes end.
-fn blanks_after(bytes: &[u8]) -> usize {
-    for count in 0..bytes.len() {
-        let place = bytes.len().saturating_sub(count).saturating_sub(1);
-        if let Some(byte) = bytes.get(place) {
-            if !is_blank(*byte) {
-                return count;
-            }
-        }
-    }
-    bytes.len()
-}
-
 /// A member of an object.
 #[derive(Clone, Copy)]
 pub struct Member {
@@ -95,14 +81,17 @@ pub struct Member {
 
 /// Where a walk along a text stands.
 #[derive(Clone, Copy)]
-struct Walk {
-    depth: usize,
-    is_quoted: bool,
+pub(crate) struct Walk {
+    /// How many lists and objects stand open.
+    pub depth: usize,
+    /// Whether it stands in a string.
+    pub is_quoted: bool,
     is_escaped: bool,
 }
 
 impl Walk {
-    fn new() -> Walk {
+    /// At the beginning.
+    pub(crate) fn new() -> Walk {
         Walk {
             depth: 0,
             is_quoted: false,
@@ -111,28 +100,17 @@ impl Walk {
     }
 
     /// The walk goes on past this byte.
-    fn past(self, byte: u8) -> Walk {
+    pub(crate) fn past(&mut self, byte: u8) {
         if self.is_quoted {
-            return Walk {
-                is_quoted: self.is_escaped || byte != b'"',
-                is_escaped: !self.is_escaped && byte == b'\\',
-                ..self
-            };
+            self.is_quoted = self.is_escaped || byte != b'"';
+            self.is_escaped = !self.is_escaped && byte == b'\\';
+            return;
         }
         match byte {
-            b'"' => Walk {
-                is_quoted: true,
-                ..self
-            },
-            b'[' | b'{' => Walk {
-                depth: self.depth.saturating_add(1),
-                ..self
-            },
-            b']' | b'}' => Walk {
-                depth: self.depth.saturating_sub(1),
-                ..self
-            },
-            _ => self,
+            b'"' => self.is_quoted = true,
+            b'[' | b'{' => self.depth = self.depth.saturating_add(1),
+            b']' | b'}' => self.depth = self.depth.saturating_sub(1),
+            _ => {}
         }
     }
 
@@ -169,7 +147,7 @@ impl ItemWalk {
         } else {
             None
         };
-        self.walk = self.walk.past(byte);
+        self.walk.past(byte);
         self.at = self.at.saturating_add(1);
         ended
     }
@@ -182,11 +160,7 @@ impl ItemWalk {
         }
         .trimmed(text);
         self.from = self.at.saturating_add(1);
-        if item.from < item.to {
-            Some(item)
-        } else {
-            None
-        }
+        (item.from < item.to).then_some(item)
     }
 }
 
@@ -216,32 +190,25 @@ pub struct Members {
     count: usize,
 }
 
-/// A piece with nothing in it.
-const NOTHING: Piece = Piece { from: 0, to: 0 };
-
 impl Members {
     /// Those of this object.
     pub fn of(text: &[u8], whole: Piece) -> Members {
+        let nothing = Piece { from: 0, to: 0 };
         let none = Member {
-            name: NOTHING,
-            value: NOTHING,
+            name: nothing,
+            value: nothing,
         };
         let mut found = Members {
             kept: [none; MOST_MEMBERS],
             count: 0,
         };
-        found.keep_all(text, whole);
-        found
-    }
-
-    /// Keeps those of this object.
-    fn keep_all(&mut self, text: &[u8], whole: Piece) {
         let mut walk = ItemWalk::of(whole);
         for byte in whole.of(text) {
             if let Some(item) = walk.past(text, *byte) {
-                self.keep(text, member_in(text, item));
+                found.keep(text, member_in(text, item));
             }
         }
+        found
     }
 
     /// Keeps one more member, in place of the last one of its name, if that is not the first one.
@@ -255,16 +222,9 @@ impl Members {
 
     /// The place of the last member of this name, if that is not the first one; else the next place.
     fn place_for(&self, text: &[u8], name: Piece) -> usize {
-        let mut is_known = false;
-        for (place, other) in self.as_slice().iter().enumerate() {
-            if other.name.of(text) == name.of(text) {
-                if is_known {
-                    return place;
-                }
-                is_known = true;
-            }
-        }
-        self.count
+        let members = self.as_slice().iter().enumerate();
+        let mut alike = members.filter(|(_, other)| other.name.of(text) == name.of(text));
+        alike.nth(1).map_or(self.count, |(place, _)| place)
     }
 
     /// They.
@@ -275,13 +235,10 @@ impl Members {
 
     /// The last member of this name: it is the one that counts.
     pub fn named(&self, text: &[u8], name: &str) -> Option<Member> {
-        let mut last = None;
-        for member in self.as_slice() {
-            if member.name.of(text) == name.as_bytes() {
-                last = Some(*member);
-            }
-        }
-        last
+        let mut members = self.as_slice().iter().rev();
+        members
+            .find(|member| member.name.of(text) == name.as_bytes())
+            .copied()
     }
 }
 
@@ -293,7 +250,7 @@ pub(crate) fn member_in(text: &[u8], item: Piece) -> Member {
         if *byte == b':' && !walk.is_quoted {
             break;
         }
-        walk = walk.past(*byte);
+        walk.past(*byte);
         colon = colon.saturating_add(1);
     }
     let name = Piece {
@@ -314,12 +271,7 @@ pub(crate) fn member_in(text: &[u8], item: Piece) -> Member {
 pub(crate) fn line_and_column(text: &[u8], at: usize) -> (usize, usize) {
     let mut line = 1usize;
     let mut column = 1usize;
-    for byte in (Piece {
-        from: 0,
-        to: at.min(text.len()),
-    })
-    .of(text)
-    {
+    for byte in text.iter().take(at) {
         if *byte == b'\n' {
             line = line.saturating_add(1);
             column = 1;

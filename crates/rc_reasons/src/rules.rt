@@ -1,5 +1,7 @@
 //! The rules that can be broken, one place for each: `wrong/code/NAME.edit` breaks it.
 
+use crate::explaining::Section;
+
 /// What there is to say of a rule.
 #[derive(Clone, Copy)]
 pub(crate) struct Rule {
@@ -13,17 +15,19 @@ pub(crate) struct Rule {
     pub example: &'static str,
 }
 
+impl Rule {
+    /// Its texts.
+    pub(crate) fn sections(&self) -> [Section; 3] {
+        [
+            ("The rule", "keeps", self.keeps),
+            ("Without it", "without", self.without),
+            ("The example", "example", self.example),
+        ]
+    }
+}
+
 /// The rules that can be broken, by names in order: the first half of them.
-pub(crate) fn first_rules() -> &'static [Rule] {
-    &FIRST
-}
-
-/// And those behind them. One table of all is more than the prover takes at a time.
-pub(crate) fn last_rules() -> &'static [Rule] {
-    &LAST
-}
-
-static FIRST: [Rule; 22] = [
+pub(crate) static FIRST: [Rule; 22] = [
     Rule {
         name: "acknowledges_again",
         keeps: "A write is acknowledged once.",
@@ -170,7 +174,8 @@ static FIRST: [Rule; 22] = [
     },
 ];
 
-static LAST: [Rule; 22] = [
+/// And those behind them. One table of all is more than the prover takes at a time.
+pub(crate) static LAST: [Rule; 22] = [
     Rule {
         name: "frees_undurable",
         keeps: "An entry is outdated only by a durable entry of its key with a greater version.",

@@ -17,23 +17,15 @@ pub(crate) fn tell_place(pen: &mut Pen, text: &[u8], at: usize) {
     );
 }
 
-/// Shows a piece of the text, or the front of it.
+/// Shows a piece of the text, or the front of it, with a blank in place of each character that moves the pen.
 pub(crate) fn show(pen: &mut Pen, text: &[u8], piece: Piece) {
     for (place, character) in piece.text(text).chars().enumerate() {
         if place == SHOWN {
             pen.say("..");
             return;
         }
-        pen.letter(shown(character));
-    }
-}
-
-/// The character, or a blank in place of one that moves the pen.
-fn shown(character: char) -> char {
-    if character.is_control() {
-        ' '
-    } else {
-        character
+        let moves = character.is_control();
+        pen.letter(if moves { ' ' } else { character });
     }
 }
 
@@ -60,14 +52,9 @@ pub(crate) fn ask_for_nearest(
     names: &[&'static str],
 ) -> bool {
     match nearest(alloc, spelt, names) {
-        Ok(Some(near)) => {
-            pen.say_all("; did you mean \"%\"?", &[Told::Words(near)]);
-            true
-        }
-        Ok(None) => false,
-        Err(error) => {
-            pen.take(Err(error));
-            true
-        }
+        Ok(None) => return false,
+        Ok(Some(near)) => pen.say_all("; did you mean \"%\"?", &[Told::Words(near)]),
+        Err(error) => pen.take(Err(error)),
     }
+    true
 }

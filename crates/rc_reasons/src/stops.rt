@@ -2,10 +2,9 @@
 
 use crate::dialects::Dialect;
 use crate::faults::item_of;
-use crate::histories::{History, Host};
-use crate::pieces::{Members, Piece};
+use crate::histories::History;
+use crate::pieces::Members;
 use crate::showing::tell_place;
-use crate::values::unquoted;
 use rc_pen::{Pen, Piece as Told, Spelling};
 use rc_reading::{ReadFault, ScenarioEvent, read_scenario};
 use rc_types::limits::MAX_EVENTS;
@@ -27,45 +26,32 @@ pub fn reason_of_stop(
     pen.end()
 }
 
-/// Names the event, and where it stands.
+/// Names the event, its kind, and where it stands.
 fn tell_event(text: &[u8], number: usize, pen: &mut Pen) {
-    match item_of(Dialect::Scenario, text, number) {
-        Some(whole) => tell_kind(text, number, whole, pen),
-        None => pen.say_all("event %: ", &[Told::Size(number)]),
-    }
-}
-
-/// Names the event that stands here.
-fn tell_kind(text: &[u8], number: usize, whole: Piece, pen: &mut Pen) {
+    let Some(whole) = item_of(Dialect::Scenario, text, number) else {
+        pen.say_all("event %: ", &[Told::Size(number)]);
+        return;
+    };
+    let kind = Members::of(text, whole).named(text, "e");
     tell_place(pen, text, whole.from);
     pen.say_all("event % (", &[Told::Size(number)]);
-    pen.say(kind_of(text, whole));
+    pen.say(kind.map_or("", |member| member.value.unquoted(text)));
     pen.say("): ");
-}
-
-/// The kind of an event.
-fn kind_of(text: &[u8], whole: Piece) -> &str {
-    match Members::of(text, whole).named(text, "e") {
-        Some(member) => unquoted(member.value.text(text)).unwrap_or(""),
-        None => "",
-    }
 }
 
 /// Says why the event of this number was not possible.
 fn tell_stop(alloc: Global, text: &[u8], number: usize, sent: usize, pen: &mut Pen) {
     match read_scenario(alloc, text) {
-        Ok(scenario) => tell_stop_in(scenario.events.as_slice(), number, sent, pen),
+        Ok(scenario) => {
+            let events = scenario.events.as_slice();
+            let history = History::of(&events[..number.min(events.len())]);
+            match events.get(number) {
+                Some(ScenarioEvent::Core(event)) => tell_cause(event, &history, sent, pen),
+                _ => tell_limit(pen),
+            }
+        }
         Err(ReadFault::OutOfMemory) => pen.take(Err(AllocError)),
         Err(ReadFault::BadInput(_)) => pen.say("it is not possible"),
-    }
-}
-
-/// Says why the event of this number was not possible, of these.
-fn tell_stop_in(events: &[ScenarioEvent], number: usize, sent: usize, pen: &mut Pen) {
-    let history = History::of(&events[..number.min(events.len())]);
-    match events.get(number) {
-        Some(ScenarioEvent::Core(event)) => tell_cause(event, &history, sent, pen),
-        _ => tell_limit(pen),
     }
 }
 
@@ -107,7 +93,7 @@ fn tell_running(index: u8, history: &History, pen: &mut Pen) {
             "host % runs already, as %, since event %; it can start again once that is stopped",
             &[
                 Told::U8(index),
-                Told::Id(newest(index, host)),
+                Told::Id(host.newest(index)),
                 Told::Size(host.since),
             ],
         ),
@@ -115,31 +101,14 @@ fn tell_running(index: u8, history: &History, pen: &mut Pen) {
     }
 }
 
-/// The newest server of a host.
-fn newest(index: u8, host: Host) -> ServerId {
-    ServerId {
-        index,
-        generation: host.generation,
-    }
-}
-
-/// A server that is to stop or to tick does not run.
+/// A server that is to stop or to tick does not run: what runs on its host, or ran last.
 fn tell_absent(id: ServerId, history: &History, pen: &mut Pen) {
-    match history.host(id.index) {
-        Some(host) if host.is_running && host.generation == id.generation => tell_limit(pen),
-        Some(host) => {
-            pen.say_all(
-                "% does not run: host %",
-                &[Told::Id(id), Told::U8(id.index)],
-            );
-            tell_instead(id.index, host, pen);
-        }
-        None => tell_limit(pen),
+    let Some(host) = history.host(id.index) else {
+        return tell_limit(pen);
+    };
+    if host.is_running && host.generation == id.generation {
+        return tell_limit(pen);
     }
-}
-
-/// What runs on a host, or ran last.
-fn tell_instead(index: u8, host: Host, pen: &mut Pen) {
     let form = if host.generation == 0 {
         " has never been started"
     } else if host.is_running {
@@ -148,7 +117,11 @@ fn tell_instead(index: u8, host: Host, pen: &mut Pen) {
         " ran last as %, which event % stopped"
     };
     pen.say_all(
+        "% does not run: host %",
+        &[Told::Id(id), Told::U8(id.index)],
+    );
+    pen.say_all(
         form,
-        &[Told::Id(newest(index, host)), Told::Size(host.since)],
+        &[Told::Id(host.newest(id.index)), Told::Size(host.since)],
     );
 }

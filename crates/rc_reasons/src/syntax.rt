@@ -1,7 +1,7 @@
 //! What may be wrong where a text is no JSON.
 
 use crate::dialects::Dialect;
-use crate::pieces::Piece;
+use crate::pieces::{Piece, Walk};
 use crate::showing::tell_place;
 use rc_pen::{Pen, Piece as Told};
 use rc_reading::limits::MOST_BYTES;
@@ -21,35 +21,26 @@ const ESCAPE: &str = "JSON has no such escape; a backslash itself is written \\\
 
 /// Why the bytes are no JSON text.
 pub(crate) fn tell_text_fault(alloc: Global, dialect: Dialect, text: &[u8], pen: &mut Pen) {
+    let words = dialect.words();
     if text.len() > MOST_BYTES {
-        tell_too_long(dialect, pen);
+        pen.say_all(
+            "% has more than % bytes",
+            &[Told::Words(words.whole), Told::Size(MOST_BYTES)],
+        );
     } else if Piece::all(text).of(text).is_empty() {
         pen.say_all(
             "the input is empty; expected an object, as %",
-            &[Told::Words(dialect.example())],
+            &[Told::Words(words.example)],
         );
     } else {
-        tell_bytes_fault(alloc, text, pen);
-    }
-}
-
-/// Why bytes are no JSON text.
-fn tell_bytes_fault(alloc: Global, text: &[u8], pen: &mut Pen) {
-    match std::str::from_utf8(text) {
-        Ok(characters) => tell_json_fault(alloc, text, characters, pen),
-        Err(error) => {
-            tell_place(pen, text, error.valid_up_to());
-            pen.say("the bytes are not UTF-8 from here on");
+        match std::str::from_utf8(text) {
+            Ok(characters) => tell_json_fault(alloc, text, characters, pen),
+            Err(error) => {
+                tell_place(pen, text, error.valid_up_to());
+                pen.say("the bytes are not UTF-8 from here on");
+            }
         }
     }
-}
-
-/// The text has too many bytes.
-fn tell_too_long(dialect: Dialect, pen: &mut Pen) {
-    pen.say_all(
-        "% has more than % bytes",
-        &[Told::Words(dialect.whole()), Told::Size(MOST_BYTES)],
-    );
 }
 
 /// Why characters are no JSON text.
@@ -86,10 +77,7 @@ fn fault_in_text(text: &[u8], start: usize) -> Option<(usize, &'static str)> {
         return None;
     }
     let mut escaped = false;
-    for (at, byte) in text.iter().enumerate() {
-        if at <= start {
-            continue;
-        }
+    for (at, byte) in text.iter().enumerate().skip(start.saturating_add(1)) {
         match byte {
             0..=31 => return Some((at, CONTROL)),
             _ if escaped && !b"\"\\/bfnrtu".contains(byte) => return Some((at, ESCAPE)),
@@ -102,20 +90,13 @@ fn fault_in_text(text: &[u8], start: usize) -> Option<(usize, &'static str)> {
 
 /// The first bracket, outside of quotes, with which more than 127 lists and objects stand open.
 fn first_too_deep(text: &[u8]) -> Option<usize> {
-    let (mut depth, mut quoted, mut escaped) = (0usize, false, false);
+    let mut walk = Walk::new();
     for (at, byte) in text.iter().enumerate() {
-        if quoted {
-            quoted = escaped || *byte != b'"';
-            escaped = !escaped && *byte == b'\\';
-            continue;
+        let opens = !walk.is_quoted && matches!(byte, b'[' | b'{');
+        if opens && walk.depth >= MAX_DEPTH {
+            return Some(at);
         }
-        match byte {
-            b'"' => quoted = true,
-            b'[' | b'{' if depth >= MAX_DEPTH => return Some(at),
-            b'[' | b'{' => depth = depth.saturating_add(1),
-            b']' | b'}' => depth = depth.saturating_sub(1),
-            _ => {}
-        }
+        walk.past(*byte);
     }
     None
 }

@@ -1,5 +1,6 @@
 //! The codes, one place for each.
 
+use crate::explaining::Section;
 use rc_types::Code;
 
 /// What there is to say of a code.
@@ -15,12 +16,18 @@ pub(crate) struct Topic {
     pub remedy: &'static str,
 }
 
-/// Every code, in order. "Refusals" in `docs/PROTOCOL.md` has the rules.
-pub(crate) fn all_topics() -> &'static [Topic] {
-    &TOPICS
+impl Topic {
+    /// Its texts.
+    pub(crate) fn sections(&self) -> [Section; 2] {
+        [
+            ("When it comes", "when", self.when),
+            ("What to do", "remedy", self.remedy),
+        ]
+    }
 }
 
-static TOPICS: [Topic; 21] = [
+/// Every code, in order. "Refusals" in `docs/PROTOCOL.md` has the rules.
+pub(crate) static TOPICS: [Topic; 21] = [
     Topic {
         code: Code::OutOfMemory,
         short: "memory was refused",

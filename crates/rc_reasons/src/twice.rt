@@ -37,58 +37,32 @@ fn tell_twice_in_items(alloc: Global, text: &[u8], list: Piece, pen: &mut Pen) {
 /// Tells of the first member of this object that comes twice, and gives whether one does.
 fn tell_twice(alloc: Global, text: &[u8], whole: Piece, pen: &mut Pen) -> bool {
     match second(alloc, text, whole) {
+        Ok(None) => return false,
         Ok(Some(member)) => {
-            tell_second(text, &member, pen);
-            true
+            pen.say("hint: ");
+            tell_place(pen, text, member.name.from.saturating_sub(1));
+            pen.say("the member ");
+            show_quoted(pen, text, member.name);
+            pen.say(" comes twice in this object; the last one counts\n");
         }
-        Ok(None) => false,
-        Err(error) => {
-            pen.take(Err(error));
-            true
-        }
+        Err(error) => pen.take(Err(error)),
     }
-}
-
-/// Tells of a member that comes twice.
-fn tell_second(text: &[u8], member: &Member, pen: &mut Pen) {
-    pen.say("hint: ");
-    tell_place(pen, text, member.name.from.saturating_sub(1));
-    pen.say("the member ");
-    show_quoted(pen, text, member.name);
-    pen.say(" comes twice in this object; the last one counts\n");
+    true
 }
 
 /// The first member of this object whose name stands before it already.
 fn second(alloc: Global, text: &[u8], whole: Piece) -> Result<Option<Member>, AllocError> {
-    let mut found = Vec::new(alloc);
-    second_in(text, whole, &mut found)
-}
-
-/// The first member of this object whose name stands before it already; those before it are added to these.
-fn second_in(
-    text: &[u8],
-    whole: Piece,
-    found: &mut Vec<Member>,
-) -> Result<Option<Member>, AllocError> {
+    let mut found: Vec<Member> = Vec::new(alloc);
     let mut walk = ItemWalk::of(whole);
     for byte in whole.of(text) {
         if let Some(item) = walk.past(text, *byte) {
             let member = member_in(text, item);
-            if has_name(text, found.as_slice(), &member) {
+            let name = member.name.of(text);
+            if found.iter().any(|other| other.name.of(text) == name) {
                 return Ok(Some(member));
             }
             found.push(member)?;
         }
     }
     Ok(None)
-}
-
-/// Whether one of these members has this one's name.
-fn has_name(text: &[u8], found: &[Member], member: &Member) -> bool {
-    for other in found {
-        if other.name.of(text) == member.name.of(text) {
-            return true;
-        }
-    }
-    false
 }

@@ -46,6 +46,8 @@ pub enum Want {
     List,
 }
 
+const FACTOR: Want = Want::Whole(1, MAX_FACTOR as u64);
+
 const WORD: Want = Want::Whole(0, u32::MAX as u64);
 
 const LONG: Want = Want::Whole(0, u64::MAX);
@@ -62,13 +64,6 @@ impl Want {
             "id" | "to" | "owner" | "from" | "of" => Want::Id,
             "value" => Want::Value,
             "free" => Want::Flag,
-            _ => Want::of_list(member),
-        }
-    }
-
-    /// What the member of this name has to be that may be a list, else a number.
-    fn of_list(member: &str) -> Want {
-        match member {
             "kept" => Want::Kept,
             "kinds" => Want::Names,
             "hosts" => Want::Hosts,
@@ -76,14 +71,7 @@ impl Want {
             "events" | "messages" => Want::List,
             "rows" => Want::Rows,
             "entries" => Want::Entries,
-            _ => Want::of_number(member),
-        }
-    }
-
-    /// What the member of this name has to be that is a number.
-    fn of_number(member: &str) -> Want {
-        match member {
-            "factor" => Want::Whole(1, MAX_FACTOR as u64),
+            "factor" => FACTOR,
             "segment" => Want::Whole(1, MAX_SEGMENT as u64),
             "seg" => Want::Whole(0, 65_535),
             "key" | "at" | "lo" | "hi" | "version" => LONG,
@@ -96,7 +84,7 @@ impl Want {
         match self {
             Want::Names => Some(Want::Name),
             Want::Hosts => Some(Want::Host),
-            Want::Factors => Some(Want::Whole(1, MAX_FACTOR as u64)),
+            Want::Factors => Some(FACTOR),
             Want::Kept => Some(Want::Replica),
             Want::Rows => Some(Want::Row),
             Want::Entries => Some(Want::Entry),
@@ -177,29 +165,24 @@ pub struct Wrong {
 
 /// What is wrong with a value, if it isn't what it has to be.
 pub(crate) fn wrong_in(text: &[u8], value: Piece, want: Want) -> Option<Wrong> {
-    match (want, want.item()) {
-        (Want::List, _) if value.first(text) == b'[' => None,
-        (Want::List, _) => Some(wrong_whole(value, want)),
-        (_, None) => wrong_item(text, value, want),
-        (_, Some(item)) if value.first(text) == b'[' => wrong_items(text, value, want, item),
-        _ => Some(wrong_whole(value, want)),
-    }
-}
-
-/// A value that is wrong from its beginning.
-fn wrong_whole(value: Piece, want: Want) -> Wrong {
-    Wrong {
+    let wrong = Wrong {
         at: value.from,
         shown: value,
         want,
+    };
+    match (want, want.item()) {
+        (Want::List, _) => (value.first(text) != b'[').then_some(wrong),
+        (_, None) => wrong_item(text, value, want),
+        (_, Some(item)) if value.first(text) == b'[' => wrong_items(text, wrong, item),
+        _ => Some(wrong),
     }
 }
 
-/// What is wrong with a list of such items.
-fn wrong_items(text: &[u8], value: Piece, want: Want, item: Want) -> Option<Wrong> {
+/// What is wrong with a list of such items; this, where there are too many.
+fn wrong_items(text: &[u8], whole: Wrong, item: Want) -> Option<Wrong> {
     let mut count = 0usize;
-    let mut walk = ItemWalk::of(value);
-    for byte in value.of(text) {
+    let mut walk = ItemWalk::of(whole.shown);
+    for byte in whole.shown.of(text) {
         if let Some(part) = walk.past(text, *byte) {
             let wrong = wrong_item(text, part, item);
             if wrong.is_some() {
@@ -208,27 +191,20 @@ fn wrong_items(text: &[u8], value: Piece, want: Want, item: Want) -> Option<Wron
             count = count.saturating_add(1);
         }
     }
-    if count > want.most_items() {
-        Some(wrong_whole(value, want))
-    } else {
-        None
-    }
+    (count > whole.want.most_items()).then_some(whole)
 }
 
 /// What is wrong with a value that is to be no list of any length.
 fn wrong_item(text: &[u8], value: Piece, want: Want) -> Option<Wrong> {
-    let at = match want {
-        Want::Replica | Want::Row | Want::Entry => wrong_list(text, value, want.parts()),
-        _ => wrong_part(text, value, want),
+    let at = match want.parts() {
+        [] => wrong_part(text, value, want)?,
+        parts => wrong_list(text, value, parts)?,
     };
-    match at {
-        Some(at) => Some(Wrong {
-            at,
-            shown: value,
-            want,
-        }),
-        None => None,
-    }
+    Some(Wrong {
+        at,
+        shown: value,
+        want,
+    })
 }
 
 /// Where a list of these parts is wrong, if it is.
@@ -245,15 +221,7 @@ fn wrong_list(text: &[u8], value: Piece, parts: &[Want]) -> Option<usize> {
             return wrong;
         }
     }
-    wrong_rest(text, value, parts.len())
-}
-
-/// Where a list is wrong that has more than so many items.
-fn wrong_rest(text: &[u8], value: Piece, count: usize) -> Option<usize> {
-    match item(text, value, count) {
-        Some(_) => Some(value.from),
-        None => None,
-    }
+    item(text, value, parts.len()).map(|_| value.from)
 }
 
 /// Where an id or a simple value is wrong, if it is.
@@ -261,33 +229,24 @@ fn wrong_part(text: &[u8], value: Piece, want: Want) -> Option<usize> {
     match want {
         Want::Addr if value.text(text) == "\"c\"" => None,
         Want::Id | Want::Addr => wrong_id(text, value),
-        _ if is_simple(value.text(text), want) => None,
-        _ => Some(value.from),
+        _ => (!is_simple(value.text(text), want)).then_some(value.from),
     }
 }
 
 /// Where an id is wrong, if it is.
 fn wrong_id(text: &[u8], value: Piece) -> Option<usize> {
-    if value.first(text) != b'[' {
+    if value.first(text) != b'[' || item(text, value, 2).is_some() {
         return Some(value.from);
     }
-    match (item(text, value, 0), item(text, value, 1)) {
-        (Some(index), Some(generation)) if item(text, value, 2).is_none() => {
-            wrong_pair(text, index, generation)
-        }
-        _ => Some(value.from),
-    }
-}
-
-/// Where an id of these two is wrong, if it is.
-fn wrong_pair(text: &[u8], index: Piece, generation: Piece) -> Option<usize> {
+    let (first, second) = (item(text, value, 0), item(text, value, 1));
+    let (Some(index), Some(generation)) = (first, second) else {
+        return Some(value.from);
+    };
     if !is_simple(index.text(text), Want::Host) {
         return Some(index.from);
     }
-    if !is_simple(generation.text(text), Want::Whole(1, u64::from(u32::MAX))) {
-        return Some(generation.from);
-    }
-    None
+    let is_right = is_whole(generation.text(text), 1, u64::from(u32::MAX));
+    (!is_right).then_some(generation.from)
 }
 
 /// Whether a value without parts is what it has to be.
@@ -305,44 +264,22 @@ fn is_simple(value: &str, want: Want) -> bool {
 
 /// Whether the value is written with digits alone, and says a number of this range.
 fn is_whole(value: &str, least: u64, most: u64) -> bool {
-    match value.parse::<u64>() {
-        Ok(number) => least <= number && number <= most && has_digits_alone(value),
-        Err(_) => false,
-    }
-}
-
-/// Whether the value is written with digits alone.
-fn has_digits_alone(value: &str) -> bool {
-    for byte in value.as_bytes() {
-        if !byte.is_ascii_digit() {
-            return false;
-        }
-    }
-    true
+    let number = value.parse::<u64>();
+    number.is_ok_and(|number| least <= number && number <= most)
+        && value.bytes().all(|byte| byte.is_ascii_digit())
 }
 
 /// Whether the value is a text of pairs of small hexadecimal digits.
 fn is_hex(value: &str) -> bool {
-    match unquoted(value) {
-        Some(digits) => digits.len() % 2 == 0 && has_hex_alone(digits),
-        None => false,
-    }
-}
-
-/// Whether these are small hexadecimal digits alone.
-fn has_hex_alone(digits: &str) -> bool {
-    for byte in digits.as_bytes() {
-        if !matches!(byte, b'0'..=b'9' | b'a'..=b'f') {
-            return false;
-        }
-    }
-    true
+    unquoted(value).is_some_and(|digits| {
+        digits.len() % 2 == 0
+            && digits
+                .bytes()
+                .all(|byte| matches!(byte, b'0'..=b'9' | b'a'..=b'f'))
+    })
 }
 
 /// What stands between the quotes of a text.
 pub(crate) fn unquoted(value: &str) -> Option<&str> {
-    match value.strip_prefix('"') {
-        Some(rest) => rest.strip_suffix('"'),
-        None => None,
-    }
+    value.strip_prefix('"')?.strip_suffix('"')
 }

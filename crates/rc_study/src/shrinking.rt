@@ -8,11 +8,10 @@
 //! one event in each line. Nothing is claimed of the text.
 //!
 //! To be read in this order: `courses`, what is left; `goals`, the line; `trying`, how what is left is played;
-//! `searching`; `saving`, a scenario as text, with its `lines`.
+//! `searching`; `saving`, a scenario as text.
 
 mod courses;
 mod goals;
-mod lines;
 mod saving;
 mod searching;
 mod trying;

@@ -4,7 +4,6 @@
 
 mod changing;
 mod played;
-mod retelling;
 mod standing;
 
 pub use played::Played;

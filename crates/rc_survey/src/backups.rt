@@ -1,6 +1,7 @@
 //! The rules that a backup reaches.
 
 use crate::answers::stored_in;
+use crate::counts::more;
 use crate::replicas::Replica;
 use crate::rules::Rule;
 use crate::surveying::Survey;
@@ -18,17 +19,12 @@ pub(crate) struct Kept {
 impl Survey {
     /// A Place, an Append or a Close has come to a backup that runs.
     pub(crate) fn store(&mut self, kept: Kept, body: &Body, answer: &[Message]) {
-        match stored_in(answer) {
-            Some(now) => self.stored(kept, body, now),
-            None => self.unanswered(kept, body),
-        }
-    }
-
-    /// It was not answered.
-    fn unanswered(&mut self, kept: Kept, body: &Body) {
-        if self.servers.has_fenced(kept.backup, kept.master) {
+        let freed = (kept.backup, kept.master, kept.seg);
+        if let Some(now) = stored_in(answer) {
+            self.stored(kept, body, now);
+        } else if self.servers.has_fenced(kept.backup, kept.master) {
             self.at_fence(kept.master, body);
-        } else if self.freed.has(kept.backup, kept.master, kept.seg) {
+        } else if self.freed.contains(&freed) {
             self.counts.reach(Rule::FreedMark);
         } else {
             self.counts.reach(Rule::AppendWithoutReplica);
@@ -37,56 +33,46 @@ impl Survey {
 
     /// It has come to a backup that has fenced the master.
     fn at_fence(&mut self, master: ServerId, body: &Body) {
-        self.counts.fenced = self.counts.fenced.saturating_add(1);
-        if !self.servers.is_suspected(master) {
-            return;
-        }
-        self.counts.reach(match body {
+        more(&mut self.counts.fenced);
+        let rule = match body {
             Body::Place { .. } => Rule::FenceDropsPlace,
             Body::Append { .. } => Rule::FenceDropsAppend,
             _ => Rule::FenceDropsClose,
-        });
+        };
+        let is_suspected = self.servers.is_suspected(master);
+        self.reach_if(is_suspected, rule);
     }
 
     /// It was answered that the replica is now so.
     fn stored(&mut self, kept: Kept, body: &Body, now: Replica) {
         match body {
             Body::Place { epoch, closed, .. } => {
-                self.counts
-                    .reach_if(now.epoch > *epoch, Rule::PlaceBelowEpoch);
+                self.reach_if(now.epoch > *epoch, Rule::PlaceBelowEpoch);
                 let is_new = now.epoch == *epoch && *epoch > 0;
-                self.counts.reach_if(now.closed && !*closed && is_new, Rule::PlaceAtClosedReplica);
+                let stays_closed = now.closed && !*closed && is_new;
+                self.reach_if(stays_closed, Rule::PlaceAtClosedReplica);
             }
             Body::Append {
                 offset,
                 entries,
                 ..
-            } => self.appended(kept, *offset, entries.len(), now),
-            _ => self.counts.reach_if(!now.closed, Rule::CloseAtOtherLength),
-        }
-    }
-
-    /// So many entries were to be appended at this place.
-    fn appended(&mut self, kept: Kept, offset: usize, count: usize, now: Replica) {
-        self.counts
-            .reach_if(now.closed, Rule::AppendAtClosedReplica);
-        self.counts
-            .reach_if(now.len < offset, Rule::AppendAboveLength);
-        let Some(segment) = self.servers.segment(kept.master, kept.seg) else {
-            return;
-        };
-        if let Some(before) = segment.open_at(kept.backup.index) {
-            self.counts.reach_if(
-                before.len >= offset.saturating_add(count),
-                Rule::AppendOfKnownEntries,
-            );
+            } => {
+                self.reach_if(now.closed, Rule::AppendAtClosedReplica);
+                self.reach_if(now.len < *offset, Rule::AppendAboveLength);
+                let end = offset.saturating_add(entries.len());
+                let segment = self.servers.segment(kept.master, kept.seg);
+                let before = segment.and_then(|segment| segment.open_at(kept.backup.index));
+                let is_known = before.is_some_and(|before| before.len >= end);
+                self.reach_if(is_known, Rule::AppendOfKnownEntries);
+            }
+            _ => self.reach_if(!now.closed, Rule::CloseAtOtherLength),
         }
     }
 
     /// A Gather has come to a backup that runs.
     pub(crate) fn gather(&mut self, backup: ServerId, master: ServerId) -> Result<(), AllocError> {
         let again = self.servers.fence(backup, master)?;
-        self.counts.reach_if(again, Rule::GatherAgain);
+        self.reach_if(again, Rule::GatherAgain);
         Ok(())
     }
 
@@ -94,8 +80,7 @@ impl Survey {
     pub(crate) fn fetch(&mut self, len: usize, answer: &[Message]) {
         for message in answer {
             if let Body::Data { entries, .. } = &message.body {
-                self.counts
-                    .reach_if(entries.len() < len, Rule::DataLeavesOut);
+                self.reach_if(entries.len() < len, Rule::DataLeavesOut);
             }
         }
     }
@@ -106,9 +91,10 @@ impl Survey {
             self.counts.reach(Rule::FreeAtFence);
             return Ok(());
         }
-        self.freed.add(kept.backup, kept.master, kept.seg)?;
-        self.servers
-            .drop_open(kept.backup.index, kept.master, kept.seg);
+        self.freed.insert((kept.backup, kept.master, kept.seg))?;
+        if let Some(segment) = self.servers.segment_mut(kept.master, kept.seg) {
+            segment.lose(kept.backup.index);
+        }
         Ok(())
     }
 
@@ -120,12 +106,9 @@ impl Survey {
     ) -> Result<(), AllocError> {
         self.servers.start(host)?;
         let restart = self.servers.keep(host, kept)?;
-        self.counts
-            .reach_if(restart.keeps_named, Rule::RestartKeepsNamed);
-        self.counts
-            .reach_if(restart.drops_unnamed, Rule::RestartDropsUnnamed);
-        self.counts
-            .reach_if(restart.keeps_closed, Rule::RestartKeepsClosed);
+        self.reach_if(restart.keeps_named, Rule::RestartKeepsNamed);
+        self.reach_if(restart.drops_unnamed, Rule::RestartDropsUnnamed);
+        self.reach_if(restart.keeps_closed, Rule::RestartKeepsClosed);
         Ok(())
     }
 }

@@ -16,52 +16,44 @@ impl Survey {
     ) -> Result<(), AllocError> {
         match body {
             Body::Enlist => {
-                let stale = is_refused(answer, Code::StaleGeneration);
-                self.counts.reach_if(stale, Rule::EnlistRefused);
-                self.counts
-                    .reach_if(gathers(answer), Rule::EnlistBeginsAttempt);
+                let is_stale = is_refused(answer, Code::StaleGeneration);
+                self.reach_if(is_stale, Rule::EnlistRefused);
+                self.reach_if(gathers(answer), Rule::EnlistBeginsAttempt);
             }
             Body::Commit { seg, epoch } => {
                 let pair = Pair {
                     seg: *seg,
                     epoch: *epoch,
                 };
-                self.commit(from, pair, answer);
+                if is_refused(answer, Code::Deposed) {
+                    self.counts.reach(Rule::CommitOfCrashed);
+                } else if pair < self.servers.least_of(from) {
+                    self.counts.reach(Rule::LeastPairStays);
+                }
             }
-            Body::Recovered { attempt, .. } => self.recovered(*attempt, answer),
-            Body::Replicas { attempt, rows } => return self.replicas(*attempt, rows),
+            Body::Recovered { attempt, .. } => {
+                let is_stale = is_refused(answer, Code::StaleAttempt) && self.is_replaced(*attempt);
+                self.reach_if(is_stale, Rule::RecoveredOfReplacedAttempt);
+            }
+            Body::Replicas { attempt, rows } => self.replicas(*attempt, rows)?,
             _ => {}
         }
         Ok(())
     }
 
-    /// A pair was to be committed.
-    fn commit(&mut self, from: ServerId, pair: Pair, answer: &[Message]) {
-        if is_refused(answer, Code::Deposed) {
-            self.counts.reach(Rule::CommitOfCrashed);
-        } else if pair < self.servers.least_of(from) {
-            self.counts.reach(Rule::LeastPairStays);
-        }
-    }
-
-    /// A part was recovered.
-    fn recovered(&mut self, attempt: u32, answer: &[Message]) {
-        if is_refused(answer, Code::StaleAttempt) && self.is_replaced(attempt) {
-            self.counts.reach(Rule::RecoveredOfReplacedAttempt);
-        }
-    }
-
     /// A backup has answered what it holds.
     fn replicas(&mut self, attempt: u32, rows: &Seq<Row>) -> Result<(), AllocError> {
-        let Some(known) = self.recoveries.attempt(attempt) else {
-            return Ok(());
-        };
-        let least = self.servers.least_of(known.master);
         if self.is_replaced(attempt) {
             self.counts.reach(Rule::AnswerOfReplacedAttempt);
             return Ok(());
         }
-        self.recoveries.answer(attempt, rows, least)
+        if let Some(known) = self.recoveries.attempt_mut(attempt) {
+            let least = self.servers.least_of(known.master);
+            for row in rows.as_slice() {
+                known.answer(row, least)?;
+            }
+        }
+        Ok(())
     }
 
     /// Whether the attempt was replaced by a later one of the same master.
@@ -69,10 +61,8 @@ impl Survey {
         let Some(known) = self.recoveries.attempt(attempt) else {
             return false;
         };
-        match self.servers.attempt_for(known.master) {
-            Some(newest) => newest > attempt,
-            None => false,
-        }
+        let server = self.servers.get(known.master);
+        server.is_some_and(|server| server.attempt.is_some_and(|newest| newest > attempt))
     }
 
     /// A recovery was decided.

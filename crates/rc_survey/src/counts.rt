@@ -4,17 +4,30 @@ use crate::rules::{RULES, Rule};
 use rc_types::{Body, Event, EventKind, Kind, Message};
 
 /// How many kinds of events there are.
-pub(crate) const EVENTS: usize = EventKind::ALL.len();
+const EVENTS: usize = EventKind::ALL.len();
 
 /// How many kinds of messages there are.
-pub(crate) const BODIES: usize = Kind::ALL.len();
+const BODIES: usize = Kind::ALL.len();
 
 /// How many codes there are, and one more, for their numbers begin at 1. One beyond it would not be counted: a new
 /// code raises it.
-pub(crate) const CODES: usize = 22;
+const CODES: usize = 22;
 
 /// How many outcomes are counted by name.
 pub(crate) const OUTCOMES: usize = 9;
+
+/// Their names.
+pub(crate) const OUTCOME_NAMES: [&str; OUTCOMES] = [
+    "acknowledged",
+    "rolls",
+    "epochs-committed",
+    "members-replaced",
+    "fenced-writes",
+    "zombie-acknowledgements",
+    "parts-recovered",
+    "most-owners",
+    "segments-freed",
+];
 
 /// What is counted of a run, or of several.
 #[derive(Clone, Copy)]
@@ -129,36 +142,28 @@ impl Counts {
 
     /// How many rules were reached.
     pub(crate) fn rules(&self) -> u64 {
-        let mut count = 0;
-        for rule in &self.rules {
-            if *rule > 0 {
-                more(&mut count);
-            }
-        }
-        count
+        self.rules.iter().filter(|count| **count > 0).count() as u64
     }
 
-    /// What came of the events, by name.
-    pub(crate) fn outcomes(&self) -> [(&'static str, u64); OUTCOMES] {
+    /// What came of the events, in the order of its names.
+    pub(crate) fn outcomes(&self) -> [u64; OUTCOMES] {
         [
-            ("acknowledged", self.bodies[Kind::WriteOk as usize]),
-            ("rolls", self.reached(Rule::Roll)),
-            ("epochs-committed", self.epochs),
-            ("members-replaced", self.reached(Rule::MemberReplaced)),
-            ("fenced-writes", self.fenced),
-            ("zombie-acknowledgements", self.zombies),
-            ("parts-recovered", self.recovered),
-            ("most-owners", self.owners),
-            ("segments-freed", self.bodies[Kind::Free as usize]),
+            self.bodies[Kind::WriteOk as usize],
+            self.reached(Rule::Roll),
+            self.epochs,
+            self.reached(Rule::MemberReplaced),
+            self.fenced,
+            self.zombies,
+            self.recovered,
+            self.owners,
+            self.bodies[Kind::Free as usize],
         ]
     }
 }
 
 /// The sum of these.
 fn sum(counts: &[u64]) -> u64 {
-    let mut all = 0u64;
-    for count in counts {
-        all = all.saturating_add(*count);
-    }
-    all
+    counts
+        .iter()
+        .fold(0u64, |all, count| all.saturating_add(*count))
 }

@@ -19,16 +19,15 @@ pub enum Goal {
 impl Goal {
     /// What this word names, with letters that are small or capital, if it names something.
     pub fn of(word: &str) -> Option<Goal> {
-        if let Some(at) = RULE_NAMES.iter().position(|name| is_named(name, word)) {
+        let is_named = |name: &str| name.eq_ignore_ascii_case(word);
+        if let Some(at) = RULE_NAMES.iter().position(|name| is_named(name)) {
             return Some(Goal::Rule(at));
         }
-        if let Some(kind) = EventKind::ALL
-            .iter()
-            .find(|kind| is_named(kind.name(), word))
-        {
+        let mut events = EventKind::ALL.iter();
+        if let Some(kind) = events.find(|kind| is_named(kind.name())) {
             return Some(Goal::Event(*kind));
         }
-        let kind = Kind::ALL.iter().find(|kind| is_named(kind.name(), word))?;
+        let kind = Kind::ALL.iter().find(|kind| is_named(kind.name()))?;
         Some(Goal::Message(*kind))
     }
 
@@ -39,15 +38,9 @@ impl Goal {
     /// Memory was refused.
     pub fn names(alloc: Global) -> Result<Vec<&'static str>, AllocError> {
         let mut names = Vec::new(alloc);
-        for name in &RULE_NAMES {
-            names.push(*name)?;
-        }
-        for kind in &EventKind::ALL {
-            names.push(kind.name())?;
-        }
-        for kind in &Kind::ALL {
-            names.push(kind.name())?;
-        }
+        names.extend_from_slice(&RULE_NAMES)?;
+        names.extend_from_slice(&EventKind::ALL.map(|kind| kind.name()))?;
+        names.extend_from_slice(&Kind::ALL.map(|kind| kind.name()))?;
         Ok(names)
     }
 
@@ -69,11 +62,6 @@ impl Counts {
             Goal::Event(kind) => self.events.get(usize::from(kind.number())),
             Goal::Message(kind) => self.bodies.get(usize::from(kind.number())),
         };
-        count.copied().unwrap_or(0) > 0
+        count.is_some_and(|count| *count > 0)
     }
-}
-
-/// Whether this is the name, with letters that are small or capital.
-fn is_named(name: &str, word: &str) -> bool {
-    name.eq_ignore_ascii_case(word)
 }

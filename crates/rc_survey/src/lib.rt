@@ -7,7 +7,7 @@
 //!
 //! To be read in this order: `rules` and `counts`; `servers`, `replicas`, `logs` and `recoveries`, what is noted;
 //! `answers`, what a step sent; `backups`, `masters` and `coordinators`, the rules by who takes the event; `surveying`;
-//! `telling`, `runs` and `sums`, the lines of it; `goals`, what a run is to reach.
+//! `telling`, the lines of it; `goals`, what a run is to reach.
 #![tactic(auto)]
 
 mod answers;
@@ -20,13 +20,11 @@ mod masters;
 mod recoveries;
 mod replicas;
 mod rules;
-mod runs;
 mod servers;
-mod sums;
 mod surveying;
 mod telling;
 
 pub use counts::Counts;
 pub use goals::Goal;
-pub use sums::Sum;
 pub use surveying::Survey;
+pub use telling::Sum;

@@ -4,56 +4,7 @@ use crate::replicas::Replica;
 use rc_types::{ServerId, Shared};
 use std::alloc::{AllocError, Global};
 use std::collections::HashMap;
-
-/// How many members a segment can have.
-const MEMBERS: usize = 5;
-
-/// No server has this id.
-const NOBODY: ServerId = ServerId {
-    index: 0,
-    generation: 0,
-};
-
-/// Some servers.
-#[derive(Clone, Copy)]
-struct Group {
-    ids: [ServerId; MEMBERS],
-    count: usize,
-}
-
-impl Group {
-    /// Nobody.
-    fn new() -> Group {
-        Group {
-            ids: [NOBODY; MEMBERS],
-            count: 0,
-        }
-    }
-
-    /// They.
-    fn as_slice(&self) -> &[ServerId] {
-        let (ids, _) = self.ids.split_at(self.count.min(MEMBERS));
-        ids
-    }
-
-    /// Whether it is one of them.
-    fn has(&self, id: ServerId) -> bool {
-        for member in self.as_slice() {
-            if *member == id {
-                return true;
-            }
-        }
-        false
-    }
-
-    /// It is one of them too.
-    fn add(&mut self, id: ServerId) {
-        if self.count < MEMBERS {
-            self.ids[self.count] = id;
-            self.count = self.count.saturating_add(1);
-        }
-    }
-}
+use std::mem::replace;
 
 /// An open replica of a segment.
 #[derive(Clone, Copy)]
@@ -68,94 +19,68 @@ struct Open {
 #[derive(Drop)]
 pub(crate) struct Segment {
     pub(crate) epoch: u16,
-    members: Group,
+    /// Its members under this epoch, at most `MAX_FACTOR`.
+    pub(crate) members: Vec<ServerId>,
     /// The members under the epoch before.
-    before: Group,
+    before: Vec<ServerId>,
     /// The epoch under which a Close was last sent.
     closing: Option<u16>,
     /// Whether an entry of a recovered log was appended to it.
-    replayed: bool,
+    pub(crate) replayed: bool,
     /// Its open replicas, one on each of some hosts.
     open: Vec<Open>,
 }
 
 impl Segment {
-    /// It is opened at a first backup.
-    fn new(alloc: Global, epoch: u16, backup: ServerId) -> Segment {
-        let mut members = Group::new();
-        members.add(backup);
-        Segment {
-            epoch,
-            members,
-            before: Group::new(),
-            closing: None,
-            replayed: false,
-            open: Vec::new(alloc),
-        }
-    }
-
-    /// Whether it is a member.
-    pub(crate) fn has_member(&self, id: ServerId) -> bool {
-        self.members.has(id)
-    }
-
-    /// Its members.
-    pub(crate) fn members(&self) -> &[ServerId] {
-        self.members.as_slice()
-    }
-
     /// It is placed at a backup, after it was opened.
-    fn place(&mut self, backup: ServerId, epoch: u16, closed: bool) -> Placing {
+    fn place(
+        &mut self,
+        alloc: Global,
+        backup: ServerId,
+        epoch: u16,
+        closed: bool,
+    ) -> Result<Placing, AllocError> {
         let changes = epoch > self.epoch;
         if changes {
             self.epoch = epoch;
-            self.before = self.members;
-            self.members = Group::new();
-        } else if self.members.has(backup) {
-            return Placing::Other;
+            self.before = replace(&mut self.members, Vec::new(alloc));
+        } else if self.members.contains(&backup) {
+            return Ok(Placing::Other);
         }
-        self.members.add(backup);
-        if closed {
+        self.members.push(backup)?;
+        Ok(if closed {
             Placing::Refill
-        } else if epoch > 0 && !self.before.has(backup) {
+        } else if epoch > 0 && !self.before.contains(&backup) {
             Placing::Replacement
         } else if changes {
             Placing::Change
         } else {
             Placing::Other
-        }
+        })
     }
 
     /// It is closed: whether it was so under an earlier epoch.
     pub(crate) fn close(&mut self) -> bool {
-        match self.closing.replace(self.epoch) {
-            Some(epoch) => epoch < self.epoch,
-            None => false,
-        }
-    }
-
-    /// An entry of a recovered log was appended to it.
-    pub(crate) fn replay(&mut self) {
-        self.replayed = true;
+        let last = self.closing.replace(self.epoch);
+        last.is_some_and(|epoch| epoch < self.epoch)
     }
 
     /// What the host has told last of its open replica.
     pub(crate) fn open_at(&self, host: u8) -> Option<Replica> {
-        for open in &self.open {
-            if open.host == host {
-                return Some(open.replica);
-            }
-        }
-        None
+        let open = self.open.iter().find(|open| open.host == host)?;
+        Some(open.replica)
+    }
+
+    /// The open replica of the host.
+    fn open_at_mut(&mut self, host: u8) -> Option<&mut Open> {
+        self.open.iter_mut().find(|open| open.host == host)
     }
 
     /// The host tells of its open replica: whether it does so first.
     pub(crate) fn open(&mut self, host: u8, replica: Replica) -> Result<bool, AllocError> {
-        for open in self.open.iter_mut() {
-            if open.host == host {
-                open.replica = replica;
-                return Ok(false);
-            }
+        if let Some(open) = self.open_at_mut(host) {
+            open.replica = replica;
+            return Ok(false);
         }
         self.open.push(Open {
             host,
@@ -174,23 +99,20 @@ impl Segment {
 
     /// At this start of the host its replica is named among those that are kept: whether it has an open one.
     pub(crate) fn name(&mut self, host: u8, start: usize) -> bool {
-        for open in self.open.iter_mut() {
-            if open.host == host {
+        match self.open_at_mut(host) {
+            Some(open) => {
                 open.named = start;
-                return true;
+                true
             }
+            None => false,
         }
-        false
     }
 
     /// Whether the host has an open replica that was named at this start.
     pub(crate) fn is_named(&self, host: u8, start: usize) -> bool {
-        for open in &self.open {
-            if open.host == host {
-                return open.named == start;
-            }
-        }
-        false
+        self.open
+            .iter()
+            .any(|open| open.host == host && open.named == start)
     }
 }
 
@@ -253,23 +175,28 @@ impl Log {
         epoch: u16,
         closed: bool,
     ) -> Result<Placing, AllocError> {
+        let alloc = self.alloc;
         if let Some(segment) = self.segment_mut(seg) {
-            return Ok(segment.place(backup, epoch, closed));
+            return segment.place(alloc, backup, epoch, closed);
         }
-        self.segments.push(Segment::new(self.alloc, epoch, backup))?;
+        let mut members = Vec::new(alloc);
+        members.push(backup)?;
+        self.segments.push(Segment {
+            epoch,
+            members,
+            before: Vec::new(alloc),
+            closing: None,
+            replayed: false,
+            open: Vec::new(alloc),
+        })?;
         Ok(Placing::Head)
     }
 
     /// Whether one of these segments has an entry of a recovered log.
     pub(crate) fn has_replayed(&self, digest: &Shared<u16>) -> bool {
-        for seg in digest.as_slice() {
-            if let Some(segment) = self.segment(*seg) {
-                if segment.replayed {
-                    return true;
-                }
-            }
-        }
-        false
+        digest.as_slice().iter().any(|seg| self
+            .segment(*seg)
+            .is_some_and(|segment| segment.replayed))
     }
 
     /// This version of a key is appended.

@@ -14,7 +14,12 @@ impl Survey {
                 self.refused(master, *table, *key, answer);
                 self.read(master, *table, *key, answer);
             }
-            Body::Stored { seg, epoch, .. } => self.told(master, *seg, *epoch, answer),
+            Body::Stored { seg, epoch, .. } => {
+                let segment = self.servers.segment(master, *seg);
+                let is_old = segment.is_some_and(|segment| *epoch < segment.epoch);
+                self.reach_if(is_old, Rule::StoredOfOldEpoch);
+                self.reach_if(acknowledged(answer) > 1, Rule::AcknowledgedTogether);
+            }
             Body::CommitOk { seg, epoch } => self.committed(master, *seg, *epoch),
             _ => {}
         }
@@ -23,35 +28,22 @@ impl Survey {
     /// A request was answered: perhaps refused, by a deposed master or where the key is to be recovered.
     fn refused(&mut self, master: ServerId, table: u32, key: u64, answer: &[Message]) {
         let code = refusal_in(answer);
+        let server = self.servers.get(master);
         if code == Code::Deposed.number() {
             self.counts.reach(Rule::DeposedRefuses);
-        } else if code == Code::NotOwner.number() {
-            if let Some(server) = self.servers.get(master) {
-                self.counts
-                    .reach_if(server.awaits(table, key), Rule::ReadBeforeGranted);
-            }
+        } else if code == Code::NotOwner.number()
+            && server.is_some_and(|server| server.awaits(table, key))
+        {
+            self.counts.reach(Rule::ReadBeforeGranted);
         }
     }
 
     /// A key was read, perhaps while a newer version of it is not durable.
     fn read(&mut self, master: ServerId, table: u32, key: u64, answer: &[Message]) {
-        if let Some(version) = version_read(answer) {
-            if let Some(server) = self.servers.get(master) {
-                let newest = server.log.version(table, key);
-                self.counts
-                    .reach_if(version < newest, Rule::ReadBeforeStored);
-            }
+        if let (Some(version), Some(server)) = (version_read(answer), self.servers.get(master)) {
+            let is_older = version < server.log.version(table, key);
+            self.reach_if(is_older, Rule::ReadBeforeStored);
         }
-    }
-
-    /// A member has told of a segment.
-    fn told(&mut self, master: ServerId, seg: u16, epoch: u16, answer: &[Message]) {
-        if let Some(segment) = self.servers.segment(master, seg) {
-            self.counts
-                .reach_if(epoch < segment.epoch, Rule::StoredOfOldEpoch);
-        }
-        self.counts
-            .reach_if(acknowledged(answer) > 1, Rule::AcknowledgedTogether);
     }
 
     /// An epoch of a segment is committed.
@@ -59,11 +51,10 @@ impl Survey {
         let Some(server) = self.servers.get(master) else {
             return;
         };
-        if let Some(segment) = server.log.segment(seg) {
-            if epoch > 0 && epoch == segment.epoch && !server.is_deposed {
-                self.counts.reach(Rule::EpochCommitted);
-            }
-        }
+        let segment = server.log.segment(seg);
+        let is_current = segment.is_some_and(|segment| epoch == segment.epoch);
+        let is_later = epoch > 0 && is_current && !server.is_deposed;
+        self.reach_if(is_later, Rule::EpochCommitted);
     }
 
     /// A list has come to a master that runs.
@@ -77,10 +68,11 @@ impl Survey {
         let Some(server) = self.servers.get_mut(master) else {
             return;
         };
-        if !server.list(version) {
+        if version <= server.list {
             self.counts.reach(Rule::StaleList);
             return;
         }
+        server.list = version;
         let head = server.log.head();
         let Some(segment) = server.log.segment(head) else {
             return;
@@ -89,9 +81,8 @@ impl Survey {
             return;
         }
         for (id, up) in rows.as_slice() {
-            if !*up && segment.has_member(*id) {
-                self.counts.reach(Rule::NoReplacement);
-            }
+            let is_lost = !*up && segment.members.contains(id);
+            self.counts.reach_if(is_lost, Rule::NoReplacement);
         }
     }
 }

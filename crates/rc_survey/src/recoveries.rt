@@ -1,6 +1,6 @@
 //! What is known of recoveries: what was answered in their attempts, and the parts of their plans.
 
-use rc_types::{KeyRange, Pair, Part, Row, Seq, ServerId};
+use rc_types::{KeyRange, Pair, Part, Row, ServerId};
 use std::alloc::{AllocError, Global};
 use std::collections::HashMap;
 
@@ -32,13 +32,17 @@ pub(crate) struct Attempt {
 }
 
 impl Attempt {
-    /// A row was answered, where this is the least pair.
-    fn answer(&mut self, pair: Pair, closed: bool, least: Pair) -> Result<(), AllocError> {
-        if !closed && pair < least {
+    /// A row was answered, where this is the least pair of the master.
+    pub(crate) fn answer(&mut self, row: &Row, least: Pair) -> Result<(), AllocError> {
+        let pair = Pair {
+            seg: row.seg,
+            epoch: row.epoch,
+        };
+        if !row.closed && pair < least {
             self.has_stale = true;
             return Ok(());
         }
-        let at = pair.seg as usize;
+        let at = row.seg as usize;
         for _ in self.found.len()..at.saturating_add(1) {
             self.found.push(Found {
                 open: false,
@@ -46,18 +50,16 @@ impl Attempt {
             })?;
         }
         if let Some(found) = self.found.get_mut(at) {
-            found.open = found.open || !closed;
-            found.closed = found.closed || closed;
+            found.open = found.open || !row.closed;
+            found.closed = found.closed || row.closed;
         }
         Ok(())
     }
 
     /// Whether both a closed row and a valid open one of this segment were answered.
     pub(crate) fn has_both(&self, seg: u16) -> bool {
-        match self.found.get(seg as usize) {
-            Some(found) => found.open && found.closed,
-            None => false,
-        }
+        let found = self.found.get(seg as usize);
+        found.is_some_and(|found| found.open && found.closed)
     }
 }
 
@@ -104,28 +106,14 @@ impl Recoveries {
         self.attempts.get(&attempt)
     }
 
-    /// Rows were answered in this attempt, where this is the least pair of its master.
-    pub(crate) fn answer(
-        &mut self,
-        attempt: u32,
-        rows: &Seq<Row>,
-        least: Pair,
-    ) -> Result<(), AllocError> {
-        if let Some(attempt) = self.attempts.get_mut(&attempt) {
-            for row in rows.as_slice() {
-                let pair = Pair {
-                    seg: row.seg,
-                    epoch: row.epoch,
-                };
-                attempt.answer(pair, row.closed, least)?;
-            }
-        }
-        Ok(())
+    /// What is known of an attempt.
+    pub(crate) fn attempt_mut(&mut self, attempt: u32) -> Option<&mut Attempt> {
+        self.attempts.get_mut(&attempt)
     }
 
     /// A part was given to a recovery master: whether that is the first time.
     pub(crate) fn give(&mut self, master: ServerId, part: Part) -> Result<bool, AllocError> {
-        if self.parts.contains_key(&part.term) {
+        if self.has_part(part.term) {
             return Ok(false);
         }
         let given = Given {
@@ -168,10 +156,6 @@ impl Recoveries {
 
     /// The most owners that one of the keys has had.
     pub(crate) fn owners(&self) -> u64 {
-        let mut most = 0u64;
-        for count in &self.owners {
-            most = most.max(*count);
-        }
-        most
+        self.owners.iter().copied().max().unwrap_or(0)
     }
 }

@@ -4,7 +4,7 @@
 use crate::logs::{Log, Segment};
 use rc_types::{Pair, Part, ServerId};
 use std::alloc::{AllocError, Global};
-use std::collections::HashMap;
+use std::collections::HashSet;
 use std::mem::replace;
 
 /// No pair is below it.
@@ -13,72 +13,28 @@ const LEAST: Pair = Pair { seg: 0, epoch: 0 };
 /// What is known of a server that was started.
 #[derive(Drop)]
 pub(crate) struct Server {
-    runs: bool,
+    /// Whether it runs.
+    pub(crate) runs: bool,
+    /// Whether the coordinator was told to suspect it.
     pub(crate) is_suspected: bool,
+    /// Whether it has learnt that it was replaced.
     pub(crate) is_deposed: bool,
     /// The greatest version of a list that it was given.
-    list: u32,
+    pub(crate) list: u32,
     /// The least pair of its log.
-    least: Pair,
+    pub(crate) least: Pair,
     /// The newest attempt to recover it.
-    attempt: Option<u32>,
+    pub(crate) attempt: Option<u32>,
     /// The parts of plans that it was given and that were not granted.
-    waiting: Vec<Part>,
+    pub(crate) waiting: Vec<Part>,
     /// What it has sent of its segments.
     pub(crate) log: Log,
 }
 
 impl Server {
-    /// It was just started.
-    fn new(alloc: Global) -> Server {
-        Server {
-            runs: true,
-            is_suspected: false,
-            is_deposed: false,
-            list: 0,
-            least: LEAST,
-            attempt: None,
-            waiting: Vec::new(alloc),
-            log: Log::new(alloc),
-        }
-    }
-
-    /// It is given a list of this version: whether that is a greater one than it had.
-    pub(crate) fn list(&mut self, version: u32) -> bool {
-        let is_newer = version > self.list;
-        self.list = self.list.max(version);
-        is_newer
-    }
-
-    /// This pair of its log is committed.
-    pub(crate) fn commit(&mut self, pair: Pair) {
-        self.least = self.least.max(pair);
-    }
-
-    /// An attempt to recover it has begun: whether it replaces an earlier one.
-    pub(crate) fn recover(&mut self, attempt: u32) -> bool {
-        self.attempt.replace(attempt).is_some()
-    }
-
-    /// It is given a part of a plan.
-    pub(crate) fn await_part(&mut self, part: Part) -> Result<(), AllocError> {
-        self.waiting.push(part)?;
-        Ok(())
-    }
-
-    /// The part of this term was granted.
-    pub(crate) fn grant(&mut self, term: u32) {
-        self.waiting.retain(|part| part.term != term);
-    }
-
     /// Whether it was given a part with this key that was not granted.
     pub(crate) fn awaits(&self, table: u32, key: u64) -> bool {
-        for part in &self.waiting {
-            if part.range.holds(table, key) {
-                return true;
-            }
-        }
-        false
+        self.waiting.iter().any(|part| part.range.holds(table, key))
     }
 }
 
@@ -98,7 +54,7 @@ struct Host {
 pub(crate) struct Servers {
     alloc: Global,
     hosts: Vec<Host>,
-    fences: HashMap<(ServerId, ServerId), ()>,
+    fences: HashSet<(ServerId, ServerId)>,
 }
 
 impl Servers {
@@ -107,7 +63,7 @@ impl Servers {
         Servers {
             alloc,
             hosts: Vec::new(alloc),
-            fences: HashMap::new(alloc),
+            fences: HashSet::new(alloc),
         }
     }
 
@@ -122,17 +78,24 @@ impl Servers {
             })?;
         }
         if let Some(known) = self.hosts.get_mut(at) {
-            known.servers.push(Server::new(self.alloc))?;
+            known.servers.push(Server {
+                runs: true,
+                is_suspected: false,
+                is_deposed: false,
+                list: 0,
+                least: LEAST,
+                attempt: None,
+                waiting: Vec::new(self.alloc),
+                log: Log::new(self.alloc),
+            })?;
         }
         Ok(())
     }
 
     /// How often the host was started.
     pub(crate) fn starts(&self, host: u8) -> usize {
-        match self.hosts.get(host as usize) {
-            Some(known) => known.servers.len(),
-            None => 0,
-        }
+        let known = self.hosts.get(host as usize);
+        known.map_or(0, |known| known.servers.len())
     }
 
     /// What is known of a server, if it was started.
@@ -157,64 +120,24 @@ impl Servers {
         self.get_mut(master)?.log.segment_mut(seg)
     }
 
-    /// The server stops.
-    pub(crate) fn stop(&mut self, id: ServerId) {
-        if let Some(server) = self.get_mut(id) {
-            server.runs = false;
-        }
-    }
-
-    /// Whether the server runs.
-    pub(crate) fn is_running(&self, id: ServerId) -> bool {
-        match self.get(id) {
-            Some(server) => server.runs,
-            None => false,
-        }
-    }
-
-    /// The server is suspected.
-    pub(crate) fn suspect(&mut self, id: ServerId) {
-        if let Some(server) = self.get_mut(id) {
-            server.is_suspected = true;
-        }
-    }
-
     /// Whether the server was suspected.
     pub(crate) fn is_suspected(&self, id: ServerId) -> bool {
-        match self.get(id) {
-            Some(server) => server.is_suspected,
-            None => false,
-        }
-    }
-
-    /// The server learns that it was replaced.
-    pub(crate) fn depose(&mut self, id: ServerId) {
-        if let Some(server) = self.get_mut(id) {
-            server.is_deposed = true;
-        }
+        self.get(id).is_some_and(|server| server.is_suspected)
     }
 
     /// The least pair of the server's log.
     pub(crate) fn least_of(&self, id: ServerId) -> Pair {
-        match self.get(id) {
-            Some(server) => server.least,
-            None => LEAST,
-        }
-    }
-
-    /// The newest attempt to recover the server, if there is one.
-    pub(crate) fn attempt_for(&self, id: ServerId) -> Option<u32> {
-        self.get(id)?.attempt
+        self.get(id).map_or(LEAST, |server| server.least)
     }
 
     /// The backup fences the master: whether it has done so already.
     pub(crate) fn fence(&mut self, backup: ServerId, master: ServerId) -> Result<bool, AllocError> {
-        Ok(self.fences.insert((backup, master), ())?.is_some())
+        Ok(!self.fences.insert((backup, master))?)
     }
 
     /// Whether the backup has fenced the master.
     pub(crate) fn has_fenced(&self, backup: ServerId, master: ServerId) -> bool {
-        self.fences.contains_key(&(backup, master))
+        self.fences.contains(&(backup, master))
     }
 
     /// The host has told of a closed replica.
@@ -226,10 +149,8 @@ impl Servers {
 
     /// Whether the host has told of a closed replica.
     pub(crate) fn has_closed(&self, host: u8) -> bool {
-        match self.hosts.get(host as usize) {
-            Some(known) => known.has_closed,
-            None => false,
-        }
+        let known = self.hosts.get(host as usize);
+        known.is_some_and(|known| known.has_closed)
     }
 
     /// The host has told of an open replica of which it has not told before.
@@ -242,9 +163,10 @@ impl Servers {
 
     /// The replicas of which the host has told that they are open, others from now on.
     pub(crate) fn take_open(&mut self, host: u8) -> Vec<(ServerId, u16)> {
+        let none = Vec::new(self.alloc);
         match self.hosts.get_mut(host as usize) {
-            Some(known) => replace(&mut known.open, Vec::new(self.alloc)),
-            None => Vec::new(self.alloc),
+            Some(known) => replace(&mut known.open, none),
+            None => none,
         }
     }
 }

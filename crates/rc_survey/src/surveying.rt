@@ -1,23 +1,24 @@
 //! The survey of a run, event by event.
 
-use crate::answers::is_coordinators;
 use crate::backups::Kept;
-use crate::counts::Counts;
+use crate::counts::{Counts, more};
 use crate::logs::Placing;
 use crate::recoveries::Recoveries;
-use crate::replicas::{Freed, Replica};
+use crate::replicas::Replica;
 use crate::rules::Rule;
 use crate::servers::Servers;
 use rc_types::{
     Addr, Body, Code, Entry, Event, KeyRange, Message, Pair, Part, Seq, ServerId, Shared,
 };
 use std::alloc::{AllocError, Global};
+use std::collections::HashSet;
 
 /// What a run has reached so far, and what has to be known of it to see more.
 pub struct Survey {
     pub(crate) counts: Counts,
     pub(crate) servers: Servers,
-    pub(crate) freed: Freed,
+    /// By backup, master and segment: what was freed.
+    pub(crate) freed: HashSet<(ServerId, ServerId, u16)>,
     pub(crate) recoveries: Recoveries,
 }
 
@@ -47,7 +48,7 @@ impl Survey {
         Survey {
             counts: Counts::new(),
             servers: Servers::new(alloc),
-            freed: Freed::new(alloc),
+            freed: HashSet::new(alloc),
             recoveries: Recoveries::new(alloc),
         }
     }
@@ -55,6 +56,11 @@ impl Survey {
     /// What was reached.
     pub fn counts(&self) -> &Counts {
         &self.counts
+    }
+
+    /// This rule was reached, if this holds.
+    pub(crate) fn reach_if(&mut self, holds: bool, rule: Rule) {
+        self.counts.reach_if(holds, rule);
     }
 
     /// One more event: of all messages that were sent, it has sent those from this number on.
@@ -70,9 +76,12 @@ impl Survey {
     ) -> Result<(), AllocError> {
         let (before, answer) = sent.split_at(first.min(sent.len()));
         self.counts.event(event);
-        let delivered = delivered_by(event, before);
-        let step = step_of(event, delivered);
+        let delivered = match event {
+            Event::Deliver(number) => before.get(*number),
+            _ => None,
+        };
         self.happen(event, delivered, answer)?;
+        let step = step_of(event, delivered);
         for message in answer {
             self.counts.message(message);
             self.learn(step, message)?;
@@ -87,14 +96,24 @@ impl Survey {
         delivered: Option<&Message>,
         answer: &[Message],
     ) -> Result<(), AllocError> {
-        if let Some(message) = delivered {
-            return self.delivery(message, answer);
-        }
         match event {
-            Event::Tick(_) => self.counts.reach_if(!answer.is_empty(), Rule::TickRepeats),
+            Event::Deliver(_) => {
+                if let Some(message) = delivered {
+                    self.delivery(message, answer)?;
+                }
+            }
+            Event::Tick(_) => self.reach_if(!answer.is_empty(), Rule::TickRepeats),
             Event::Start { host, kept } => self.start(*host, kept)?,
-            Event::Stop(id) => self.servers.stop(*id),
-            Event::Suspect(id) => self.servers.suspect(*id),
+            Event::Stop(id) => {
+                if let Some(server) = self.servers.get_mut(*id) {
+                    server.runs = false;
+                }
+            }
+            Event::Suspect(id) => {
+                if let Some(server) = self.servers.get_mut(*id) {
+                    server.is_suspected = true;
+                }
+            }
             Event::Decide(_) => self.decide(answer),
             _ => {}
         }
@@ -104,66 +123,60 @@ impl Survey {
     /// What a delivery has reached.
     fn delivery(&mut self, message: &Message, answer: &[Message]) -> Result<(), AllocError> {
         match (message.to, message.from) {
-            (Addr::Server(to), from) if self.servers.is_running(to) => {
-                self.at_server(to, from, message, answer)
+            (Addr::Server(to), _) => {
+                let server = self.servers.get(to);
+                if server.is_some_and(|server| server.runs) {
+                    self.at_server(to, message, answer)?;
+                }
             }
-            (Addr::Coordinator, Addr::Server(from)) => self.report(from, &message.body, answer),
-            _ => Ok(()),
+            (Addr::Coordinator, Addr::Server(from)) => self.report(from, &message.body, answer)?,
+            _ => {}
         }
+        Ok(())
     }
 
     /// What a delivery to a server that runs has reached.
     fn at_server(
         &mut self,
         to: ServerId,
-        from: Addr,
         message: &Message,
         answer: &[Message],
     ) -> Result<(), AllocError> {
-        match &message.body {
-            Body::Place { seg, .. } | Body::Append { seg, .. } | Body::Close { seg, .. } => {
-                if let Some(kept) = kept_at(to, from, *seg) {
-                    self.store(kept, &message.body, answer);
+        match (message.from, &message.body) {
+            (
+                Addr::Server(master),
+                Body::Place { seg, .. } | Body::Append { seg, .. } | Body::Close { seg, .. },
+            ) => self.store(kept_at(to, master, *seg), &message.body, answer),
+            (Addr::Server(master), Body::Free { seg }) => self.free(kept_at(to, master, *seg))?,
+            (_, Body::Gather { master, .. }) => self.gather(to, *master)?,
+            (_, Body::Fetch { len, .. }) => self.fetch(*len, answer),
+            (_, Body::List { version, rows }) => self.list(to, *version, rows, answer),
+            (
+                Addr::Coordinator,
+                Body::Refused {
+                    code: Code::Deposed,
+                },
+            ) => {
+                if let Some(server) = self.servers.get_mut(to) {
+                    server.is_deposed = true;
                 }
-                Ok(())
             }
-            Body::Free { seg } => match kept_at(to, from, *seg) {
-                Some(kept) => self.free(kept),
-                None => Ok(()),
-            },
-            Body::Gather { master, .. } => self.gather(to, *master),
-            Body::Fetch { len, .. } => {
-                self.fetch(*len, answer);
-                Ok(())
-            }
-            Body::List { version, rows } => {
-                self.list(to, *version, rows, answer);
-                Ok(())
-            }
-            Body::Refused {
-                code: Code::Deposed,
-            } if is_coordinators(message) => {
-                self.servers.depose(to);
-                Ok(())
-            }
-            body => {
-                self.ask(to, body, answer);
-                Ok(())
-            }
+            (_, body) => self.ask(to, body, answer),
         }
+        Ok(())
     }
 
     /// What a message that was sent tells.
     fn learn(&mut self, step: Step, message: &Message) -> Result<(), AllocError> {
         match (message.from, message.to) {
-            (Addr::Server(from), Addr::Server(to)) => self.learn_between(step, from, to, message),
-            (Addr::Server(from), _) => {
-                self.learn_of_server(step, from, message);
-                Ok(())
+            (Addr::Server(from), Addr::Server(to)) => {
+                self.learn_between(step, from, to, &message.body)?;
             }
-            (Addr::Coordinator, Addr::Server(to)) => self.learn_of_coordinator(to, message),
-            _ => Ok(()),
+            (Addr::Server(from), _) => self.learn_of_server(step, from, &message.body),
+            (Addr::Coordinator, Addr::Server(to)) => self.learn_of_coordinator(to, &message.body)?,
+            _ => {}
         }
+        Ok(())
     }
 
     /// What a message from a server to another one tells.
@@ -172,9 +185,9 @@ impl Survey {
         step: Step,
         from: ServerId,
         to: ServerId,
-        message: &Message,
+        body: &Body,
     ) -> Result<(), AllocError> {
-        match &message.body {
+        match body {
             Body::Place {
                 seg,
                 epoch,
@@ -182,53 +195,26 @@ impl Survey {
                 closed,
                 ..
             } => {
-                let placing = self.place(from, to, *seg, *epoch, *closed)?;
-                self.placed(step, placing, from, *seg, *epoch, digest);
-                Ok(())
+                if let Some(server) = self.servers.get_mut(from) {
+                    let placing = server.log.place(to, *seg, *epoch, *closed)?;
+                    self.placed(step, placing, from, *seg, *epoch, digest);
+                }
             }
-            Body::Append { seg, entries, .. } => self.append(step, from, *seg, entries),
+            Body::Append { seg, entries, .. } => self.append(step, from, *seg, entries)?,
             Body::Close { seg, .. } => {
-                self.close(from, *seg);
-                Ok(())
+                if let Some(segment) = self.servers.segment_mut(from, *seg) {
+                    self.counts
+                        .reach_if(segment.close(), Rule::CloseUnderNewEpoch);
+                }
             }
-            Body::Stored {
-                seg,
-                epoch,
-                len,
-                closed,
-            } => {
-                let replica = Replica {
-                    epoch: *epoch,
-                    len: *len,
-                    closed: *closed,
-                };
-                self.servers.tell(from.index, to, *seg, replica)
+            Body::Stored { seg, .. } => {
+                if let Some(replica) = Replica::told_in(body) {
+                    self.servers.tell(from.index, to, *seg, replica)?;
+                }
             }
-            _ => Ok(()),
+            _ => {}
         }
-    }
-
-    /// A master places a segment at a backup: what that is.
-    fn place(
-        &mut self,
-        master: ServerId,
-        backup: ServerId,
-        seg: u16,
-        epoch: u16,
-        closed: bool,
-    ) -> Result<Placing, AllocError> {
-        match self.servers.get_mut(master) {
-            Some(server) => server.log.place(backup, seg, epoch, closed),
-            None => Ok(Placing::Other),
-        }
-    }
-
-    /// A master closes a segment.
-    fn close(&mut self, master: ServerId, seg: u16) {
-        if let Some(segment) = self.servers.segment_mut(master, seg) {
-            self.counts
-                .reach_if(segment.close(), Rule::CloseUnderNewEpoch);
-        }
+        Ok(())
     }
 
     /// A master has placed a segment.
@@ -244,24 +230,21 @@ impl Survey {
         let Some(server) = self.servers.get(master) else {
             return;
         };
+        let counts = &mut self.counts;
         match placing {
             Placing::Head if seg > 1 => {
-                self.counts.reach(Rule::Roll);
-                self.counts
-                    .reach_if(step != Step::Write, Rule::RollByReplay);
-                self.counts
-                    .reach_if(server.log.has_replayed(digest), Rule::DigestWithReplayed);
-                self.counts
-                    .reach_if(digest.len() < seg as usize, Rule::LeftOutOfDigest);
+                counts.reach(Rule::Roll);
+                counts.reach_if(step != Step::Write, Rule::RollByReplay);
+                counts.reach_if(server.log.has_replayed(digest), Rule::DigestWithReplayed);
+                counts.reach_if(digest.len() < seg as usize, Rule::LeftOutOfDigest);
             }
-            Placing::Replacement => self.counts.reach(Rule::MemberReplaced),
-            Placing::Refill => self.counts.reach(Rule::Refill),
+            Placing::Replacement => counts.reach(Rule::MemberReplaced),
+            Placing::Refill => counts.reach(Rule::Refill),
             _ => {}
         }
         if let Placing::Change | Placing::Replacement = placing {
-            self.counts.reach_if(epoch > 1, Rule::SecondChange);
-            self.counts
-                .reach_if(seg < server.log.head(), Rule::ChangeWhileClosing);
+            counts.reach_if(epoch > 1, Rule::SecondChange);
+            counts.reach_if(seg < server.log.head(), Rule::ChangeWhileClosing);
         }
     }
 
@@ -279,10 +262,8 @@ impl Survey {
         let Some(server) = self.servers.get_mut(master) else {
             return Ok(());
         };
-        if step != Step::Write {
-            if let Some(segment) = server.log.segment_mut(seg) {
-                segment.replay();
-            }
+        if let Some(segment) = server.log.segment_mut(seg) {
+            segment.replayed = segment.replayed || step != Step::Write;
         }
         for entry in entries.as_slice() {
             server.log.append(entry.table, entry.key, entry.version)?;
@@ -291,23 +272,22 @@ impl Survey {
     }
 
     /// What a message from a server to the outside or to the coordinator tells.
-    fn learn_of_server(&mut self, step: Step, from: ServerId, message: &Message) {
-        match &message.body {
+    fn learn_of_server(&mut self, step: Step, from: ServerId, body: &Body) {
+        match body {
             Body::WriteOk {
                 seg,
                 term,
                 version,
                 ..
             } => {
-                let replayed = *version > 1 && self.recoveries.has_part(*term);
-                self.counts.reach_if(replayed, Rule::VersionGoesOn);
+                let is_replayed = *version > 1 && self.recoveries.has_part(*term);
+                self.reach_if(is_replayed, Rule::VersionGoesOn);
                 if self.servers.is_suspected(from) {
                     self.zombie(from, *seg);
                 }
             }
             Body::Recovered { .. } => {
-                self.counts
-                    .reach_if(step == Step::Stored, Rule::RecoveredWhenStored);
+                self.reach_if(step == Step::Stored, Rule::RecoveredWhenStored);
             }
             _ => {}
         }
@@ -315,36 +295,30 @@ impl Survey {
 
     /// A master that was suspected has acknowledged a write: perhaps before each member has fenced it.
     fn zombie(&mut self, master: ServerId, seg: u16) {
-        self.counts.zombies = self.counts.zombies.saturating_add(1);
-        let Some(segment) = self.servers.segment(master, seg) else {
-            return;
-        };
-        let mut fenced = true;
-        for member in segment.members() {
-            fenced = fenced && self.servers.has_fenced(*member, master);
+        more(&mut self.counts.zombies);
+        if let Some(segment) = self.servers.segment(master, seg) {
+            let has_open = segment
+                .members
+                .iter()
+                .any(|member| !self.servers.has_fenced(*member, master));
+            self.reach_if(has_open, Rule::ZombieAcknowledges);
         }
-        self.counts.reach_if(!fenced, Rule::ZombieAcknowledges);
     }
 
     /// What a message from the coordinator to a server tells.
-    fn learn_of_coordinator(&mut self, to: ServerId, message: &Message) -> Result<(), AllocError> {
-        match &message.body {
-            Body::Gather { attempt, master } => {
-                if self.recoveries.gather(*attempt, *master)? {
-                    self.attempt(*attempt, *master);
-                }
-            }
-            Body::Plan { parts, .. } => return self.plan(to, parts),
+    fn learn_of_coordinator(&mut self, to: ServerId, body: &Body) -> Result<(), AllocError> {
+        match body {
+            Body::Gather { attempt, master } => self.attempt(*attempt, *master)?,
+            Body::Plan { parts, .. } => self.plan(to, parts)?,
             Body::CommitOk { seg, epoch } => {
                 if *epoch > 0 {
-                    self.counts.epochs = self.counts.epochs.saturating_add(1);
+                    more(&mut self.counts.epochs);
                 }
-                let pair = Pair {
-                    seg: *seg,
-                    epoch: *epoch,
-                };
                 if let Some(server) = self.servers.get_mut(to) {
-                    server.commit(pair);
+                    server.least = server.least.max(Pair {
+                        seg: *seg,
+                        epoch: *epoch,
+                    });
                 }
             }
             Body::Own { range, term, .. } => self.own(range, *term),
@@ -353,22 +327,24 @@ impl Survey {
         Ok(())
     }
 
-    /// An attempt to recover the master has begun.
-    fn attempt(&mut self, attempt: u32, master: ServerId) {
-        if let Some(server) = self.servers.get_mut(master) {
-            self.counts
-                .reach_if(server.recover(attempt), Rule::AttemptReplaced);
+    /// An attempt to recover the master asks a server; perhaps it has just begun.
+    fn attempt(&mut self, attempt: u32, master: ServerId) -> Result<(), AllocError> {
+        if self.recoveries.gather(attempt, master)? {
+            if let Some(server) = self.servers.get_mut(master) {
+                let replaces = server.attempt.replace(attempt).is_some();
+                self.reach_if(replaces, Rule::AttemptReplaced);
+            }
         }
+        Ok(())
     }
 
     /// A plan was sent to a recovery master.
     fn plan(&mut self, to: ServerId, parts: &Seq<Part>) -> Result<(), AllocError> {
         for part in parts.as_slice() {
-            self.counts
-                .reach_if(part.range.lo > 0, Rule::SplitRangeRecovered);
+            self.reach_if(part.range.lo > 0, Rule::SplitRangeRecovered);
             if self.recoveries.give(to, *part)? {
                 if let Some(server) = self.servers.get_mut(to) {
-                    server.await_part(*part)?;
+                    server.waiting.push(*part)?;
                 }
             }
         }
@@ -379,32 +355,21 @@ impl Survey {
     fn own(&mut self, range: &KeyRange, term: u32) {
         self.recoveries.own(range, term);
         if let Some(master) = self.recoveries.grant(term) {
-            self.counts.recovered = self.counts.recovered.saturating_add(1);
+            more(&mut self.counts.recovered);
             if let Some(server) = self.servers.get_mut(master) {
-                server.grant(term);
+                server.waiting.retain(|part| part.term != term);
             }
         }
         self.counts.owners = self.counts.owners.max(self.recoveries.owners());
     }
 }
 
-/// The master's segment at the backup, if a server sent it.
-fn kept_at(backup: ServerId, from: Addr, seg: u16) -> Option<Kept> {
-    match from {
-        Addr::Server(master) => Some(Kept {
-            backup,
-            master,
-            seg,
-        }),
-        _ => None,
-    }
-}
-
-/// The message that the event delivers, of those that were sent before, if it delivers one.
-fn delivered_by<'a>(event: &Event, before: &'a [Message]) -> Option<&'a Message> {
-    match event {
-        Event::Deliver(number) => before.get(*number),
-        _ => None,
+/// The master's segment at the backup.
+fn kept_at(backup: ServerId, master: ServerId, seg: u16) -> Kept {
+    Kept {
+        backup,
+        master,
+        seg,
     }
 }
 

@@ -1,6 +1,7 @@
 //! How masters and replicas change in the course of a run, as whoever plays it looks it up after each event.
 
-use crate::standing::{MasterStanding, ReplicaStanding};
+use crate::standing::{ReplicaStanding, phase_name};
+use crate::tables::Table;
 use rc_types::{Phase, ServerId};
 use std::alloc::{AllocError, Global};
 
@@ -28,8 +29,12 @@ pub(crate) struct ReplicaChange {
 
 /// All changes, in order.
 pub struct Changes {
-    phases: Vec<PhaseChange>,
-    replicas: Vec<ReplicaChange>,
+    /// The changes of phases, in order.
+    pub(crate) phases: Vec<PhaseChange>,
+    /// The changes of replicas, in order.
+    pub(crate) replicas: Vec<ReplicaChange>,
+    /// The master of each host that was noted last, by the host's index, its phase, and whether it was deposed.
+    last: Table<u8, (ServerId, Phase, bool)>,
 }
 
 impl Drop for Changes {
@@ -37,6 +42,7 @@ impl Drop for Changes {
         let Changes {
             phases: _,
             replicas: _,
+            last: _,
         } = self;
     }
 }
@@ -47,10 +53,11 @@ impl Changes {
         Changes {
             phases: Vec::new(alloc),
             replicas: Vec::new(alloc),
+            last: Table::new(alloc),
         }
     }
 
-    /// After this event a master has this phase.
+    /// After this event a master has this phase, perhaps the same as before.
     ///
     /// # Errors
     ///
@@ -62,11 +69,16 @@ impl Changes {
         phase: Phase,
         is_deposed: bool,
     ) -> Result<(), AllocError> {
-        self.phases.push(PhaseChange {
-            event,
-            id,
-            phase: phase_name(phase, is_deposed),
-        })?;
+        let name = phase_name(phase, is_deposed);
+        let before = self.last.find(id.index);
+        if before.is_none_or(|before| before.0 != id || phase_name(before.1, before.2) != name) {
+            self.last.put(id.index, (id, phase, is_deposed))?;
+            self.phases.push(PhaseChange {
+                event,
+                id,
+                phase: name,
+            })?;
+        }
         Ok(())
     }
 
@@ -87,34 +99,5 @@ impl Changes {
             is_gone,
         })?;
         Ok(())
-    }
-
-    /// The changes of phases, in order.
-    pub(crate) fn phases(&self) -> &[PhaseChange] {
-        self.phases.as_slice()
-    }
-
-    /// The changes of replicas, in order.
-    pub(crate) fn replicas(&self) -> &[ReplicaChange] {
-        self.replicas.as_slice()
-    }
-}
-
-impl MasterStanding {
-    /// The name of its phase, or `deposed`.
-    pub(crate) fn phase_name(&self) -> &'static str {
-        phase_name(self.phase, self.is_deposed)
-    }
-}
-
-/// The name of a master's phase, or `deposed`.
-fn phase_name(phase: Phase, is_deposed: bool) -> &'static str {
-    if is_deposed {
-        return "deposed";
-    }
-    match phase {
-        Phase::Opening => "opening",
-        Phase::Closing => "closing",
-        Phase::Writing => "writing",
     }
 }

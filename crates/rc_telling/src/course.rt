@@ -71,8 +71,13 @@ impl Course {
     fn take(&mut self, event: &Event, at: usize, messages: &[Message]) -> Result<(), AllocError> {
         match event {
             Event::Deliver(number) => {
-                self.deliver(*number);
-                self.arrive(messages.get(*number));
+                if let (Some(mark), Some(message)) = (
+                    self.delivered.get_mut(*number),
+                    messages.get(*number),
+                ) {
+                    *mark = true;
+                    self.arrive(message);
+                }
             }
             Event::Create { table, owner } => self.ask(Early::Create(*table, *owner), *owner),
             Event::Start { .. } => {
@@ -86,7 +91,10 @@ impl Course {
             }
             Event::Suspect(id) => {
                 self.servers.take(event, at)?;
-                self.suspect(*id);
+                self.has_crashes = true;
+                if self.servers.generation(id.index) < id.generation {
+                    self.unstarted = self.unstarted.or(Some(*id));
+                }
             }
             Event::Ask { to, body } => self.request(*to, body),
             _ => {}
@@ -94,22 +102,14 @@ impl Course {
         Ok(())
     }
 
-    /// A message was delivered.
-    fn deliver(&mut self, number: usize) {
-        if let Some(mark) = self.delivered.get_mut(number) {
-            *mark = true;
-        }
-    }
-
     /// A message has arrived.
-    fn arrive(&mut self, message: Option<&Message>) {
-        let Some(message) = message else {
-            return;
-        };
+    fn arrive(&mut self, message: &Message) {
         match &message.body {
             Body::Ready => {
                 if let Addr::Server(id) = message.from {
-                    self.ready(id);
+                    if let Some(generation) = self.ready.get_mut(usize::from(id.index)) {
+                        *generation = id.generation;
+                    }
                 }
             }
             Body::Write { .. } => {
@@ -121,26 +121,11 @@ impl Course {
         }
     }
 
-    /// The coordinator has heard that a server is ready.
-    fn ready(&mut self, id: ServerId) {
-        if let Some(generation) = self.ready.get_mut(usize::from(id.index)) {
-            *generation = id.generation;
-        }
-    }
-
     /// Something is asked for at a server that may not be ready.
     fn ask(&mut self, early: Early, id: ServerId) {
         let ready = self.ready.get(usize::from(id.index)).copied().unwrap_or(0);
         if self.servers.runs(id) && ready != id.generation {
             self.early = self.early.or(Some(early));
-        }
-    }
-
-    /// A server was suspected.
-    fn suspect(&mut self, id: ServerId) {
-        self.has_crashes = true;
-        if self.servers.generation(id.index) < id.generation {
-            self.unstarted = self.unstarted.or(Some(id));
         }
     }
 

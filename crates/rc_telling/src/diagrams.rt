@@ -2,7 +2,7 @@
 
 use crate::fields::{tell_event, tell_fields_if_any};
 use crate::silences::tell_silence;
-use crate::story::{Step, Story, Turn};
+use crate::story::{Story, Turn};
 use crate::tables::Table;
 use rc_pen::{Pen, Piece, Spelling};
 use rc_types::{Addr, Event, Kind, Message, ServerId};
@@ -17,9 +17,18 @@ use std::alloc::{AllocError, Global};
 pub fn mermaid(alloc: Global, story: &Story<'_>) -> Result<String, AllocError> {
     let mut pen = Pen::new(alloc, Spelling::Mermaid);
     pen.put("sequenceDiagram\n    participant out as Outside\n    participant c as Coordinator\n");
-    put_servers(&mut pen, alloc, story);
-    for (number, (event, turn)) in story.events.iter().zip(story.notes.turns()).enumerate() {
-        put_turn(&mut pen, story, number, event, turn);
+    put_servers(alloc, &mut pen, story)?;
+    for (number, (event, turn)) in story.events.iter().zip(&story.notes.turns).enumerate() {
+        match event {
+            Event::Ask { .. } => {}
+            Event::Deliver(message) => put_delivery(&mut pen, story, number, *message, turn),
+            _ => put_note(&mut pen, event, turn.started),
+        }
+        for place in turn.step.first..turn.step.end {
+            if let Some(message) = story.messages.get(place) {
+                put_undelivered(&mut pen, story, place, message);
+            }
+        }
     }
     if let Some((place, code)) = story.stopped {
         pen.put_all(
@@ -31,60 +40,31 @@ pub fn mermaid(alloc: Global, story: &Story<'_>) -> Result<String, AllocError> {
 }
 
 /// Each server that was started, and then those that were only named.
-fn put_servers(pen: &mut Pen, alloc: Global, story: &Story<'_>) {
+fn put_servers(alloc: Global, pen: &mut Pen, story: &Story<'_>) -> Result<(), AllocError> {
     let mut named = Table::new(alloc);
-    for server in story.notes.servers().as_slice() {
-        pen.take(named.put_first(server.id, ()));
+    for server in &story.notes.servers.items {
+        named.put_first(server.id, ())?;
     }
     for message in story.messages {
         if let Addr::Server(id) = message.to {
-            pen.take(named.put_first(id, ()));
+            named.put_first(id, ())?;
         }
     }
-    for (id, _) in &named.entries {
-        put_server(pen, *id);
+    for id in named.entries.keys() {
+        put_name(pen, "    participant ", Addr::Server(*id));
+        pen.put_all(" as %\n", &[Piece::Id(*id)]);
     }
-}
-
-/// A server.
-fn put_server(pen: &mut Pen, id: ServerId) {
-    pen.put_all(
-        "    participant s%_% as %\n",
-        &[
-            Piece::U8(id.index),
-            Piece::U32(id.generation),
-            Piece::Id(id),
-        ],
-    );
+    Ok(())
 }
 
 /// These letters, and a node as Mermaid names it.
 fn put_name(pen: &mut Pen, letters: &str, node: Addr) {
-    pen.put(letters);
     match node {
         Addr::Server(id) => {
+            pen.put(letters);
             pen.put_all("s%_%", &[Piece::U8(id.index), Piece::U32(id.generation)]);
         }
-        Addr::Coordinator | Addr::Outside => pen.put_node("", node),
-    }
-}
-
-/// An event, and those messages that it sent which no event delivers.
-fn put_turn(pen: &mut Pen, story: &Story<'_>, number: usize, event: &Event, turn: &Turn) {
-    match event {
-        Event::Ask { .. } => {}
-        Event::Deliver(message) => put_delivery(pen, story, number, *message, turn),
-        _ => put_note(pen, event, turn.started),
-    }
-    put_sent(pen, story, &turn.step);
-}
-
-/// The messages that an event sent and that no event delivers.
-fn put_sent(pen: &mut Pen, story: &Story<'_>, step: &Step) {
-    for place in step.first..step.end {
-        if let Some(message) = story.messages.get(place) {
-            put_undelivered(pen, story, place, message);
-        }
+        Addr::Coordinator | Addr::Outside => pen.put_node(letters, node),
     }
 }
 
@@ -93,7 +73,7 @@ fn put_undelivered(pen: &mut Pen, story: &Story<'_>, place: usize, message: &Mes
     if message.to == Addr::Outside {
         put_arrow(pen, "->>", place, message);
         pen.put("\n");
-    } else if story.notes.passages().is_lost(place) {
+    } else if story.notes.passages.is_lost(place) {
         put_arrow(pen, "-x", place, message);
         pen.put(", never delivered\n");
     }
@@ -107,12 +87,14 @@ fn put_delivery(pen: &mut Pen, story: &Story<'_>, number: usize, message: usize,
     if delivered.to == Addr::Outside {
         return;
     }
-    let arrow = match turn.silence {
-        Some(_) => "-x",
-        None => "->>",
-    };
-    put_arrow(pen, arrow, message, delivered);
-    if story.notes.passages().is_delivered_before(message, number) {
+    let has_effect = turn.silence.is_none();
+    put_arrow(
+        pen,
+        if has_effect { "->>" } else { "-x" },
+        message,
+        delivered,
+    );
+    if story.notes.passages.is_delivered_before(message, number) {
         pen.put(", once more");
     }
     if let Some(silence) = turn.silence {

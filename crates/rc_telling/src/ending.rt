@@ -1,9 +1,9 @@
 //! How things stand at the end of a story: what was never delivered, what the outside was told, who owns which range,
 //! and what was last acknowledged of each key.
 
-use crate::passages::Passages;
 use crate::story::Story;
 use crate::tables::Table;
+use rc_pen::Piece;
 use rc_types::{Addr, Body, KeyRange, Kind, Message};
 use std::alloc::{AllocError, Global};
 
@@ -64,6 +64,19 @@ pub(crate) struct LastGrant {
     pub(crate) owner: Addr,
 }
 
+impl LastGrant {
+    /// All of it, in order.
+    pub(crate) fn pieces(&self) -> [Piece; 5] {
+        [
+            Piece::U32(self.range.table),
+            Piece::U64(self.range.lo),
+            Piece::U64(self.range.hi),
+            Piece::U32(self.term),
+            Piece::Node(self.owner),
+        ]
+    }
+}
+
 /// The newest version of a key that was acknowledged.
 #[derive(Clone, Copy)]
 pub(crate) struct Newest {
@@ -79,62 +92,50 @@ pub(crate) struct Newest {
     pub(crate) by: Addr,
 }
 
-/// How things stand at the end.
-pub(crate) struct Ending {
-    /// What was never delivered to a server or to the coordinator, by kind and addressee.
-    lost: Table<(u8, Addr), Group>,
-    /// What was sent to the outside, by kind.
-    told: Table<(u8, Addr), Group>,
-    grants: Table<(u32, u64, u64), LastGrant>,
-    newest: Table<(u32, u64), Newest>,
-}
-
-impl Drop for Ending {
-    fn drop(self) {
-        let Ending {
-            lost: _,
-            told: _,
-            grants: _,
-            newest: _,
-        } = self;
+impl Newest {
+    /// All of it, in order.
+    pub(crate) fn pieces(&self) -> [Piece; 5] {
+        [
+            Piece::U32(self.table),
+            Piece::U64(self.key),
+            Piece::U64(self.version),
+            Piece::U32(self.term),
+            Piece::Node(self.by),
+        ]
     }
 }
 
+/// How things stand at the end.
+#[derive(Drop)]
+pub(crate) struct Ending {
+    /// What was never delivered to a server or to the coordinator, by kind and addressee.
+    pub(crate) lost: Table<(u8, Addr), Group>,
+    /// What was sent to the outside, by kind.
+    pub(crate) told: Table<(u8, Addr), Group>,
+    /// The last grant of each range, in order of its first one.
+    pub(crate) grants: Table<(u32, u64, u64), LastGrant>,
+    /// The newest acknowledged version of each key, in order of its first one.
+    pub(crate) newest: Table<(u32, u64), Newest>,
+}
+
 impl Ending {
-    /// Of no message yet.
-    pub(crate) fn new(alloc: Global) -> Ending {
-        Ending {
+    /// That of a story.
+    pub(crate) fn of(alloc: Global, story: &Story<'_>) -> Result<Ending, AllocError> {
+        let mut ending = Ending {
             lost: Table::new(alloc),
             told: Table::new(alloc),
             grants: Table::new(alloc),
             newest: Table::new(alloc),
-        }
-    }
-
-    /// Notes all messages of a story.
-    pub(crate) fn note_all(&mut self, story: &Story<'_>) -> Result<(), AllocError> {
-        let passages = story.notes.passages();
+        };
         for (number, message) in story.messages.iter().enumerate() {
-            self.group(passages, number, message)?;
-            self.note(message)?;
+            if message.to == Addr::Outside {
+                count(&mut ending.told, number, message)?;
+            } else if story.notes.passages.is_lost(number) {
+                count(&mut ending.lost, number, message)?;
+            }
+            ending.note(message)?;
         }
-        Ok(())
-    }
-
-    /// Counts a message, where it goes to the outside or was never delivered.
-    fn group(
-        &mut self,
-        passages: &Passages,
-        number: usize,
-        message: &Message,
-    ) -> Result<(), AllocError> {
-        if message.to == Addr::Outside {
-            count(&mut self.told, number, message)
-        } else if passages.is_lost(number) {
-            count(&mut self.lost, number, message)
-        } else {
-            Ok(())
-        }
+        Ok(ending)
     }
 
     /// Notes what a message grants or acknowledges.
@@ -152,38 +153,14 @@ impl Ending {
         }
     }
 
-    /// What was never delivered to a server or to the coordinator, by kind and addressee.
-    pub(crate) fn lost(&self) -> &Table<(u8, Addr), Group> {
-        &self.lost
-    }
-
-    /// What was sent to the outside, by kind.
-    pub(crate) fn told(&self) -> &Table<(u8, Addr), Group> {
-        &self.told
-    }
-
-    /// The last grant of each range, in order of its first one.
-    pub(crate) fn grants(&self) -> &Table<(u32, u64, u64), LastGrant> {
-        &self.grants
-    }
-
     /// Whether a later term has taken a key of its range.
     pub(crate) fn is_passed_on(&self, grant: &LastGrant) -> bool {
-        for other in self.grants.entries.values() {
-            if other.range.table == grant.range.table
+        self.grants.entries.values().any(|other| {
+            other.range.table == grant.range.table
                 && other.term > grant.term
                 && other.range.lo <= grant.range.hi
                 && grant.range.lo <= other.range.hi
-            {
-                return true;
-            }
-        }
-        false
-    }
-
-    /// The newest acknowledged version of each key, in order of its first one.
-    pub(crate) fn newest(&self) -> &Table<(u32, u64), Newest> {
-        &self.newest
+        })
     }
 }
 
@@ -225,19 +202,13 @@ pub(crate) fn count(
     message: &Message,
 ) -> Result<(), AllocError> {
     let place = (Kind::of(&message.body).number(), message.to);
-    let mut group = match groups.find(place) {
-        Some(group) => group,
-        None => Group::of(message),
-    };
+    let mut group = groups.find(place).unwrap_or_else(|| Group::of(message));
     group.add(number);
     groups.put(place, group)
 }
 
 /// How many messages all groups have.
 pub(crate) fn total_of(groups: &Table<(u8, Addr), Group>) -> u64 {
-    let mut total = 0u64;
-    for group in groups.entries.values() {
-        total = total.saturating_add(group.count);
-    }
-    total
+    let groups = groups.entries.values();
+    groups.fold(0u64, |total, group| total.saturating_add(group.count))
 }

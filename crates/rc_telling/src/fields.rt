@@ -1,10 +1,11 @@
 //! Events and messages as text: what they say, in a line.
 
-use crate::kinds::event_name;
 use rc_pen::{Pen, Piece};
 use rc_types::{
-    Body, Code, Entry, Event, Kind, Message, Part, PlanRow, Row, Seq, ServerId, Shared,
+    Body, Breach, Code, Entry, Event, KeyRange, Kind, Message, Part, PlanRow, Row, Seq, ServerId,
+    Shared,
 };
+use std::alloc::Global;
 
 // These hold where lists are not told whole (`Pen::most`).
 
@@ -67,47 +68,58 @@ pub(crate) fn tell_event(pen: &mut Pen, event: &Event, started: Option<ServerId>
     }
 }
 
+/// The name of the event's kind, as scenarios spell it.
+pub(crate) fn event_name(event: &Event) -> &'static str {
+    match event {
+        Event::Ask {
+            body: Body::Read { .. },
+            ..
+        } => "read",
+        Event::Ask { .. } => "write",
+        Event::Deliver(_) => "deliver",
+        Event::Tick(_) => "tick",
+        Event::Stop(_) => "stop",
+        Event::Start { .. } => "start",
+        Event::Suspect(_) => "suspect",
+        Event::Decide(_) => "decide",
+        Event::Create { .. } => "create",
+        Event::Split { .. } => "split",
+    }
+}
+
 /// A start: the host, the new server, and what is kept.
 fn tell_start(pen: &mut Pen, host: u8, kept: &Seq<(ServerId, u16)>, started: Option<ServerId>) {
     pen.number(" host ", u64::from(host));
     if let Some(id) = started {
         pen.id(" as ", id);
     }
-    if !kept.is_empty() {
-        pen.say(" kept");
-    }
-    let most = pen.most(MOST_ROWS);
-    for (id, seg) in kept.as_slice().iter().take(most) {
+    pen.either(kept.is_empty(), "", " kept");
+    tell_first(pen, kept.as_slice(), "", |pen, (id, seg)| {
         pen.say_all(" %:%", &[Piece::Id(*id), Piece::U16(*seg)]);
-    }
-    tell_more(pen, kept.len(), most);
+    });
 }
 
-/// What a message says.
+/// The first of a list, each but the first one behind these letters, and how many more there are.
+fn tell_first<T, F: Fn(&mut Pen, &T)>(pen: &mut Pen, items: &[T], between: &str, tell: F)
+    requires { F.IsAlwaysCallable tell }
+{
+    let most = pen.most(MOST_ROWS);
+    for (place, item) in items.iter().take(most).enumerate() {
+        pen.either(place == 0, "", between);
+        tell(pen, item);
+    }
+    tell_more(pen, items.len(), most);
+}
+
+/// How many more there are than were told.
+fn tell_more(pen: &mut Pen, count: usize, told: usize) {
+    if count > told {
+        pen.say_all(" and % more", &[Piece::Size(count - told)]);
+    }
+}
+
+/// What a message says: of what clients and servers say to each other here, or else what `tell_segment` tells.
 pub(crate) fn tell_fields(pen: &mut Pen, body: &Body) {
-    match body {
-        Body::Write { .. } | Body::Read { .. } | Body::WriteOk { .. } | Body::ReadOk { .. } => {
-            tell_client(pen, body)
-        }
-        Body::Place { .. }
-        | Body::Append { .. }
-        | Body::Close { .. }
-        | Body::Stored { .. }
-        | Body::Commit { .. }
-        | Body::CommitOk { .. }
-        | Body::Free { .. } => tell_segment(pen, body),
-        Body::Gather { .. }
-        | Body::Replicas { .. }
-        | Body::Plan { .. }
-        | Body::Fetch { .. }
-        | Body::Data { .. }
-        | Body::Recovered { .. } => tell_recovery(pen, body),
-        _ => tell_other(pen, body),
-    }
-}
-
-/// What clients and servers say to each other.
-fn tell_client(pen: &mut Pen, body: &Body) {
     match body {
         Body::Write { table, key, value } => {
             tell_key(pen, *table, *key);
@@ -142,18 +154,13 @@ fn tell_client(pen: &mut Pen, body: &Body) {
             pen.number(" version ", *version);
             tell_value(pen, value.as_ref());
         }
-        _ => {}
+        _ => tell_segment(pen, body),
     }
 }
 
 /// A key of a table.
 fn tell_key(pen: &mut Pen, table: u32, key: u64) {
     pen.say_all("table % key %", &[Piece::U32(table), Piece::U64(key)]);
-}
-
-/// A segment and its epoch.
-fn tell_epoch(pen: &mut Pen, seg: u16, epoch: u16) {
-    pen.say_all("seg % epoch %", &[Piece::U16(seg), Piece::U16(epoch)]);
 }
 
 /// What masters, backups and the coordinator say of segments.
@@ -175,7 +182,13 @@ fn tell_segment(pen: &mut Pen, body: &Body) {
             seg,
             offset,
             entries,
-        } => tell_appended(pen, *seg, *offset, entries),
+        } => {
+            pen.say_all(
+                "seg % offset %, ",
+                &[Piece::U16(*seg), Piece::Size(*offset)],
+            );
+            tell_entries(pen, entries);
+        }
         Body::Close { seg, len } => {
             pen.say_all("seg % length %", &[Piece::U16(*seg), Piece::Size(*len)]);
         }
@@ -188,40 +201,29 @@ fn tell_segment(pen: &mut Pen, body: &Body) {
         Body::Commit { seg, epoch } | Body::CommitOk { seg, epoch } => {
             tell_epoch(pen, *seg, *epoch);
         }
-        Body::Free { seg } => pen.number("seg ", u64::from(*seg)),
-        _ => {}
+        _ => tell_recovery(pen, body),
     }
 }
 
-/// What is appended to a segment.
-fn tell_appended(pen: &mut Pen, seg: u16, offset: usize, entries: &Seq<Entry>) {
-    pen.say_all("seg % offset %, ", &[Piece::U16(seg), Piece::Size(offset)]);
-    tell_entries(pen, entries);
+/// A segment and its epoch.
+fn tell_epoch(pen: &mut Pen, seg: u16, epoch: u16) {
+    pen.say_all("seg % epoch %", &[Piece::U16(seg), Piece::U16(epoch)]);
 }
 
 /// How a replica stands.
 fn tell_replica(pen: &mut Pen, seg: u16, epoch: u16, len: usize, closed: bool) {
+    tell_epoch(pen, seg, epoch);
     pen.say_all(
-        "seg % epoch % length %% closed| open|",
-        &[
-            Piece::U16(seg),
-            Piece::U16(epoch),
-            Piece::Size(len),
-            Piece::Flag(closed),
-        ],
+        " length %% closed| open|",
+        &[Piece::Size(len), Piece::Flag(closed)],
     );
-}
-
-/// An attempt to recover a master.
-fn tell_attempt(pen: &mut Pen, attempt: u32, master: ServerId) {
-    pen.say_all("attempt % of %", &[Piece::U32(attempt), Piece::Id(master)]);
 }
 
 /// What is said in a recovery.
 fn tell_recovery(pen: &mut Pen, body: &Body) {
     match body {
         Body::Gather { attempt, master } => tell_attempt(pen, *attempt, *master),
-        Body::Replicas { attempt, rows } => tell_replicas(pen, *attempt, rows),
+        Body::Replicas { attempt, rows } => tell_replicas(pen, *attempt, rows.as_slice()),
         Body::Plan {
             attempt,
             master,
@@ -230,8 +232,7 @@ fn tell_recovery(pen: &mut Pen, body: &Body) {
             parts,
         } => {
             tell_attempt(pen, *attempt, *master);
-            tell_plan(pen, *head, rows);
-            tell_parts(pen, parts);
+            tell_plan(pen, *head, rows.as_slice(), parts.as_slice());
         }
         Body::Fetch {
             attempt,
@@ -241,48 +242,58 @@ fn tell_recovery(pen: &mut Pen, body: &Body) {
             part,
         } => {
             tell_attempt(pen, *attempt, *master);
-            tell_fetched(pen, *seg, *len, part);
+            pen.say_all(
+                " seg % length %, part ",
+                &[Piece::U16(*seg), Piece::Size(*len)],
+            );
+            tell_part(pen, part);
         }
+        Body::Recovered { attempt, term } => {
+            pen.number("attempt ", u64::from(*attempt));
+            pen.number(" term ", u64::from(*term));
+        }
+        _ => tell_other(pen, body),
+    }
+}
+
+/// An attempt to recover a master.
+fn tell_attempt(pen: &mut Pen, attempt: u32, master: ServerId) {
+    pen.say_all("attempt % of %", &[Piece::U32(attempt), Piece::Id(master)]);
+}
+
+/// What is said of the entries of a part, of freed segments, of refusals, of the server list, and of ranges.
+fn tell_other(pen: &mut Pen, body: &Body) {
+    match body {
         Body::Data {
             attempt,
             seg,
             term,
             entries,
         } => {
-            tell_data(pen, *attempt, *seg, *term);
+            pen.number("attempt ", u64::from(*attempt));
+            pen.say_all(" seg % term %, ", &[Piece::U16(*seg), Piece::U32(*term)]);
             tell_entries(pen, entries);
         }
-        Body::Recovered { attempt, term } => {
-            pen.say_all(
-                "attempt % term %",
-                &[Piece::U32(*attempt), Piece::U32(*term)],
-            );
-        }
-        _ => {}
-    }
-}
-
-/// What is said of refusals, of the server list, and of ranges.
-fn tell_other(pen: &mut Pen, body: &Body) {
-    match body {
+        Body::Free { seg } => pen.number("seg ", u64::from(*seg)),
         Body::Refused { code } => tell_code(pen, *code),
-        Body::List { version, rows } => tell_list(pen, *version, rows),
+        Body::List { version, rows } => {
+            pen.number("version ", u64::from(*version));
+            tell_first(pen, rows.as_slice(), "", |pen, (id, up)| {
+                pen.say_all(" %% up| down|", &[Piece::Id(*id), Piece::Flag(*up)]);
+            });
+        }
         Body::Own {
             range,
             term,
             previous,
             attempt,
-        } => pen.say_all(
-            "table % keys %..% term % after % attempt %",
-            &[
-                Piece::U32(range.table),
-                Piece::U64(range.lo),
-                Piece::U64(range.hi),
-                Piece::U32(*term),
-                Piece::U32(*previous),
-                Piece::U32(*attempt),
-            ],
-        ),
+        } => {
+            tell_range(pen, range, *term);
+            pen.say_all(
+                " after % attempt %",
+                &[Piece::U32(*previous), Piece::U32(*attempt)],
+            );
+        }
         Body::SplitOk { table, at } => {
             pen.say_all("table % at %", &[Piece::U32(*table), Piece::U64(*at)]);
         }
@@ -295,14 +306,15 @@ pub(crate) fn tell_code(pen: &mut Pen, code: Code) {
     pen.say_all("% %", &[Piece::Code(code), Piece::Words(code.name())]);
 }
 
-/// Who is on the server list, and who of them is up.
-fn tell_list(pen: &mut Pen, version: u32, rows: &Shared<(ServerId, bool)>) {
-    pen.number("version ", u64::from(version));
-    let most = pen.most(MOST_ROWS);
-    for (id, up) in rows.as_slice().iter().take(most) {
-        pen.say_all(" %% up| down|", &[Piece::Id(*id), Piece::Flag(*up)]);
+/// What the audit finds in a run, in the words of its report.
+pub(crate) fn tell_verdict(alloc: Global, pen: &mut Pen, breach: Option<Breach>) {
+    match breach {
+        None => pen.say("clean"),
+        Some(found) => match format!(in alloc; "{found}") {
+            Ok(text) => pen.say(text.as_str()),
+            Err(refused) => pen.take(Err(refused)),
+        },
     }
-    tell_more(pen, rows.len(), most);
 }
 
 /// The segments of a digest.
@@ -315,99 +327,47 @@ fn tell_digest(pen: &mut Pen, digest: &Shared<u16>) {
     tell_more(pen, digest.len(), most);
 }
 
-/// How many more there are than were told.
-fn tell_more(pen: &mut Pen, count: usize, told: usize) {
-    if count > told {
-        pen.say_all(" and % more", &[Piece::Size(count - told)]);
-    }
-}
-
 /// The replicas that a backup holds.
-fn tell_replicas(pen: &mut Pen, attempt: u32, rows: &Seq<Row>) {
-    pen.say_all(
-        "attempt %, %% replica| replicas|",
-        &[
-            Piece::U32(attempt),
-            Piece::Size(rows.len()),
-            Piece::Flag(rows.len() == 1),
-        ],
-    );
-    let most = pen.most(MOST_ROWS);
-    for (place, row) in rows.as_slice().iter().take(most).enumerate() {
-        tell_row(pen, place, row);
-    }
-    tell_more(pen, rows.len(), most);
+fn tell_replicas(pen: &mut Pen, attempt: u32, rows: &[Row]) {
+    pen.number("attempt ", u64::from(attempt));
+    pen.say(", ");
+    tell_count(pen, rows.len(), " replica", " replicas");
+    pen.either(rows.is_empty(), "", ": ");
+    tell_first(pen, rows, "; ", |pen, row| {
+        tell_replica(pen, row.seg, row.epoch, row.len, row.closed);
+        tell_digest(pen, &row.digest);
+    });
 }
 
-/// One of them.
-fn tell_row(pen: &mut Pen, place: usize, row: &Row) {
-    pen.either(place == 0, ": ", "; ");
-    tell_replica(pen, row.seg, row.epoch, row.len, row.closed);
-    tell_digest(pen, &row.digest);
-}
-
-/// The head and the rows of a plan.
-fn tell_plan(pen: &mut Pen, head: u16, rows: &Seq<PlanRow>) {
+/// A plan: its head, its rows with segment, holder and length, and its parts.
+fn tell_plan(pen: &mut Pen, head: u16, rows: &[PlanRow], parts: &[Part]) {
     pen.say_all(" head % rows", &[Piece::U16(head)]);
-    let most = pen.most(MOST_ROWS);
-    for row in rows.as_slice().iter().take(most) {
-        tell_plan_row(pen, row);
-    }
-    tell_more(pen, rows.len(), most);
-}
-
-/// A row of a plan: segment, holder and length.
-fn tell_plan_row(pen: &mut Pen, row: &PlanRow) {
-    pen.say_all(
-        " %:%:%",
-        &[
-            Piece::U16(row.seg),
-            Piece::Id(row.holder),
-            Piece::Size(row.len),
-        ],
-    );
-}
-
-/// The parts of a plan.
-fn tell_parts(pen: &mut Pen, parts: &Seq<Part>) {
+    tell_first(pen, rows, "", |pen, row| {
+        let (seg, len) = (Piece::U16(row.seg), Piece::Size(row.len));
+        pen.say_all(" %:%:%", &[seg, Piece::Id(row.holder), len]);
+    });
     pen.say(", ");
     tell_count(pen, parts.len(), " part", " parts");
-    let most = pen.most(MOST_ROWS);
-    for (place, part) in parts.as_slice().iter().take(most).enumerate() {
-        pen.either(place == 0, ": ", "; ");
-        tell_part(pen, part);
-    }
-    tell_more(pen, parts.len(), most);
+    pen.either(parts.is_empty(), "", ": ");
+    tell_first(pen, parts, "; ", |pen, part| tell_part(pen, part));
 }
 
 /// One part.
 fn tell_part(pen: &mut Pen, part: &Part) {
+    tell_range(pen, &part.range, part.previous);
+    pen.number(" to ", u64::from(part.term));
+}
+
+/// A range of keys, and the term of an ownership of it.
+fn tell_range(pen: &mut Pen, range: &KeyRange, term: u32) {
     pen.say_all(
-        "table % keys %..% term % to %",
+        "table % keys %..% term %",
         &[
-            Piece::U32(part.range.table),
-            Piece::U64(part.range.lo),
-            Piece::U64(part.range.hi),
-            Piece::U32(part.previous),
-            Piece::U32(part.term),
+            Piece::U32(range.table),
+            Piece::U64(range.lo),
+            Piece::U64(range.hi),
+            Piece::U32(term),
         ],
-    );
-}
-
-/// What is fetched.
-fn tell_fetched(pen: &mut Pen, seg: u16, len: usize, part: &Part) {
-    pen.say_all(
-        " seg % length %, part ",
-        &[Piece::U16(seg), Piece::Size(len)],
-    );
-    tell_part(pen, part);
-}
-
-/// Where data comes from, and for which term.
-fn tell_data(pen: &mut Pen, attempt: u32, seg: u16, term: u32) {
-    pen.say_all(
-        "attempt % seg % term %, ",
-        &[Piece::U32(attempt), Piece::U16(seg), Piece::U32(term)],
     );
 }
 
@@ -417,25 +377,15 @@ fn tell_entries(pen: &mut Pen, entries: &Seq<Entry>) {
     let most = pen.most(MOST_ENTRIES);
     for (place, entry) in entries.as_slice().iter().take(most).enumerate() {
         pen.either(place == 0, ": ", "; ");
-        tell_entry(pen, entry);
+        pen.number("term ", u64::from(entry.term));
+        pen.say(" ");
+        tell_key(pen, entry.table, entry.key);
+        pen.number(" version ", entry.version);
+        tell_value(pen, entry.value.as_ref());
     }
     if entries.len() > most {
         pen.say("; ..");
     }
-}
-
-/// One entry.
-fn tell_entry(pen: &mut Pen, entry: &Entry) {
-    pen.say_all(
-        "term % table % key % version %",
-        &[
-            Piece::U32(entry.term),
-            Piece::U32(entry.table),
-            Piece::U64(entry.key),
-            Piece::U64(entry.version),
-        ],
-    );
-    tell_value(pen, entry.value.as_ref());
 }
 
 /// So many of them.
@@ -446,39 +396,26 @@ fn tell_count(pen: &mut Pen, count: usize, one: &str, many: &str) {
 
 /// A value: as text, where it is short and of plain letters, else as hexadecimal digits; or a deletion.
 fn tell_value(pen: &mut Pen, value: Option<&Shared<u8>>) {
-    match value {
-        None => pen.say(" no value"),
-        Some(value) => {
-            let bytes = value.as_slice();
-            if bytes.len() <= pen.most(MOST_BYTES) && bytes.iter().all(|byte| is_plain(*byte)) {
-                tell_letters(pen, bytes);
-            } else {
-                tell_bytes(pen, bytes);
-            }
+    let Some(value) = value else {
+        pen.say(" no value");
+        return;
+    };
+    let bytes = value.as_slice();
+    let most = pen.most(MOST_BYTES);
+    if bytes.len() <= most && bytes.iter().all(|byte| is_plain(*byte)) {
+        pen.say(" \"");
+        for byte in bytes {
+            pen.letter(*byte as char);
         }
+        pen.say("\"");
+        return;
     }
-}
-
-/// Plain letters between quotation marks.
-fn tell_letters(pen: &mut Pen, bytes: &[u8]) {
-    pen.say(" \"");
-    for byte in bytes {
-        pen.letter(*byte as char);
-    }
-    pen.say("\"");
-}
-
-/// How many bytes there are, and the first of them as hexadecimal digits.
-fn tell_bytes(pen: &mut Pen, bytes: &[u8]) {
     pen.say(" ");
     tell_count(pen, bytes.len(), " byte 0x", " bytes 0x");
-    let most = pen.most(MOST_BYTES);
     for byte in bytes.iter().take(most) {
         pen.byte(*byte);
     }
-    if bytes.len() > most {
-        pen.say("..");
-    }
+    pen.either(bytes.len() > most, "..", "");
 }
 
 /// Whether the byte is a letter that can stand between quotation marks.

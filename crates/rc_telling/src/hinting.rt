@@ -54,47 +54,31 @@ pub fn hints(
     messages: &[Message],
 ) -> Result<String, AllocError> {
     let mut pen = Pen::new(alloc, Spelling::Plain);
-    tell_hints(alloc, factors, events, messages, &mut pen);
-    pen.end()
-}
-
-/// All hints.
-fn tell_hints(
-    alloc: Global,
-    factors: Factors,
-    events: &[Event],
-    messages: &[Message],
-    pen: &mut Pen,
-) {
     let mut course = Course::new(alloc);
-    pen.take(course.take_all(events, messages));
-    tell_early(&course, pen);
-    let waiting = tell_waiting(&course, alloc, pen, messages);
-    if waiting > 0 {
-        tell_lost_own(&course, pen, messages);
+    course.take_all(events, messages)?;
+    tell_early(&course, &mut pen);
+    let waiting = waiting_in(alloc, &course, messages)?;
+    let waits = !waiting.entries.is_empty();
+    if waits {
+        tell_waiting(&mut pen, &waiting);
+        tell_lost_own(&course, &mut pen, messages);
     }
-    tell_unheard(&course, pen);
-    tell_unstarted(&course, pen);
-    tell_few(&course.servers, pen, factors);
+    tell_unheard(&course, &mut pen);
+    if let Some(id) = course.unstarted {
+        pen.say_all(
+            "hint: % was suspected, but had never been started: nothing comes of that\n",
+            &[Piece::Id(id)],
+        );
+    }
+    tell_few(&course.servers, &mut pen, factors);
     if course.has_reads {
-        tell_stale(alloc, pen, messages);
+        tell_stale(alloc, &mut pen, messages)?;
     }
     if course.has_crashes {
-        tell_unrecovered(&course, alloc, pen, messages, waiting > 0);
+        let recoveries = Recoveries::of(alloc, messages, course.delivered.as_slice())?;
+        tell_recoveries(&mut pen, &recoveries, &course.servers, waits);
     }
-}
-
-/// Recoveries that are not at their end, in a run at whose end messages wait, or none does.
-fn tell_unrecovered(
-    course: &Course,
-    alloc: Global,
-    pen: &mut Pen,
-    messages: &[Message],
-    waits: bool,
-) {
-    let mut recoveries = Recoveries::new(alloc);
-    pen.take(recoveries.note_all(messages, course.delivered.as_slice()));
-    tell_recoveries(pen, &recoveries, &course.servers, waits);
+    pen.end()
 }
 
 /// What was asked for before its server was ready.
@@ -113,27 +97,38 @@ fn tell_early(course: &Course, pen: &mut Pen) {
     pen.say(", so it was refused: it takes a settle behind the starts, and enough hosts\n");
 }
 
-/// Messages that wait; gives how many they are.
-fn tell_waiting(course: &Course, alloc: Global, pen: &mut Pen, messages: &[Message]) -> u64 {
-    let mut groups = Table::new(alloc);
-    pen.take(count_waiting(course, &mut groups, messages));
-    let waiting = total_of(&groups);
-    tell_groups(pen, waiting, &groups);
-    waiting
-}
-
-/// Counts the messages that wait, by kind and addressee.
-fn count_waiting(
+/// The messages that wait, by kind and addressee.
+fn waiting_in(
+    alloc: Global,
     course: &Course,
-    groups: &mut Table<(u8, Addr), Group>,
     messages: &[Message],
-) -> Result<(), AllocError> {
+) -> Result<Table<(u8, Addr), Group>, AllocError> {
+    let mut groups = Table::new(alloc);
     for (number, message) in messages.iter().enumerate() {
         if course.waits(number, message) {
-            count(groups, number, message)?;
+            count(&mut groups, number, message)?;
         }
     }
-    Ok(())
+    Ok(groups)
+}
+
+/// How many messages wait, and the first kinds of them.
+fn tell_waiting(pen: &mut Pen, groups: &Table<(u8, Addr), Group>) {
+    pen.number("hint: messages that wait at the end: ", total_of(groups));
+    for (place, group) in groups.entries.values().take(MOST_GROUPS).enumerate() {
+        pen.say(if place == 0 { " (" } else { ", " });
+        pen.say_all(
+            "% % to %",
+            &[
+                Piece::U64(group.count),
+                Piece::Words(group.kind),
+                Piece::Node(group.to),
+            ],
+        );
+    }
+    let has_more = groups.entries.len() > MOST_GROUPS;
+    pen.say(if has_more { ", ..)" } else { ")" });
+    pen.say("; a settle would deliver them\n");
 }
 
 /// The first table whose owner was not told that it has it.
@@ -178,71 +173,22 @@ fn tell_unheard(course: &Course, pen: &mut Pen) {
     pen.say("\n");
 }
 
-/// A server that was suspected and had never run.
-fn tell_unstarted(course: &Course, pen: &mut Pen) {
-    if let Some(id) = course.unstarted {
-        pen.say_all(
-            "hint: % was suspected, but had never been started: nothing comes of that\n",
-            &[Piece::Id(id)],
-        );
-    }
-}
-
 /// Too few hosts for the factor of the first master that has too few.
 fn tell_few(servers: &Servers, pen: &mut Pen, factors: Factors) {
     let up = servers.count_up();
-    for host in 0..MAX_HOSTS {
-        if servers.is_up(host) && up <= usize::from(factors.at(host)) {
-            tell_fewer(pen, up, servers.running(), host, factors.at(host));
-            return;
-        }
+    let lacks = |host: u8| servers.is_up(host) && up <= usize::from(factors.at(host));
+    if let Some(host) = (0..MAX_HOSTS).find(|host| lacks(*host)) {
+        let factor = factors.at(host);
+        pen.say_all(
+            "hint: hosts that run at the end% and were not suspected||: %; with factor % it takes % for the master of \
+             host % to open a segment or to replace a backup\n",
+            &[
+                Piece::Flag(up != servers.running()),
+                Piece::Size(up),
+                Piece::U8(factor),
+                Piece::U64(u64::from(factor).saturating_add(1)),
+                Piece::U8(host),
+            ],
+        );
     }
-}
-
-/// So many hosts run and were not suspected, too few for a master of this host, whose factor this is.
-fn tell_fewer(pen: &mut Pen, up: usize, running: usize, host: u8, factor: u8) {
-    pen.say_all(
-        "hint: hosts that run at the end% and were not suspected||: %; with factor % it takes % for the master of host \
-         % to open a segment or to replace a backup\n",
-        &[
-            Piece::Flag(up != running),
-            Piece::Size(up),
-            Piece::U8(factor),
-            Piece::U64(u64::from(factor).saturating_add(1)),
-            Piece::U8(host),
-        ],
-    );
-}
-
-/// How many messages wait, and the first kinds of them.
-fn tell_groups(pen: &mut Pen, waiting: u64, groups: &Table<(u8, Addr), Group>) {
-    if waiting == 0 {
-        return;
-    }
-    pen.say_all(
-        "hint: messages that wait at the end: % (",
-        &[Piece::U64(waiting)],
-    );
-    for place in 0..MOST_GROUPS {
-        if let Some((_, group)) = groups.entries.get_index(place) {
-            tell_group(pen, place, group);
-        }
-    }
-    pen.say_all(
-        "%, ..||); a settle would deliver them\n",
-        &[Piece::Flag(groups.entries.len() > MOST_GROUPS)],
-    );
-}
-
-/// One of the kinds.
-fn tell_group(pen: &mut Pen, place: usize, group: &Group) {
-    pen.put_all(
-        "%|, |% % to %",
-        &[
-            Piece::Flag(place == 0),
-            Piece::U64(group.count),
-            Piece::Words(group.kind),
-            Piece::Node(group.to),
-        ],
-    );
 }

@@ -1,17 +1,16 @@
 //! The story as one JSON value.
 
-use crate::ending::{Ending, Group};
-use crate::fields::{tell_event, tell_fields};
-use crate::json_standing::{put_changes, put_standing};
-use crate::kinds::event_name;
+use crate::changes::Changes;
+use crate::ending::Ending;
+use crate::fields::{event_name, tell_event, tell_fields, tell_verdict};
 use crate::servers::Server;
 use crate::silences::{Silence, tell_silence};
-use crate::story::{Step, Story, Turn};
-use crate::tables::Table;
-use crate::verdict::tell_verdict;
+use crate::standing::{ReplicaStanding, SegmentStanding};
+use crate::story::{Story, Turn};
+use crate::waits::{tell_wait, wait_of};
 use crate::writes::{Writes, tell_fate};
 use rc_pen::{Pen, Piece, Spelling};
-use rc_types::{Addr, Event, Kind, Message, ServerId};
+use rc_types::{Addr, Event, Kind, ServerId};
 use std::alloc::{AllocError, Global};
 
 /// The story as one JSON value, with long lists `whole`, or as a log tells them. Keys and versions are texts, since
@@ -23,142 +22,30 @@ use std::alloc::{AllocError, Global};
 pub fn log_json(alloc: Global, story: &Story<'_>, whole: bool) -> Result<String, AllocError> {
     let mut pen = Pen::new(alloc, Spelling::Json);
     pen.tell_whole(whole);
-    put_story(alloc, &mut pen, story);
+    put_story(alloc, &mut pen, story)?;
     pen.end()
 }
 
-/// The story.
-pub(crate) fn put_story(alloc: Global, pen: &mut Pen, story: &Story<'_>) {
-    put_turns(pen, story);
-    put_messages(pen, story);
-    let mut ending = Ending::new(alloc);
-    pen.take(ending.note_all(story));
-    let mut writes = Writes::new(alloc);
-    pen.take(writes.note_all(story));
-    put_ending(pen, story, &ending, &writes);
-    put_audit(alloc, pen, story);
-}
-
-/// All events.
-fn put_turns(pen: &mut Pen, story: &Story<'_>) {
+/// The story: its lists, what the audit finds, and where the run stopped.
+pub(crate) fn put_story(alloc: Global, pen: &mut Pen, story: &Story<'_>) -> Result<(), AllocError> {
     pen.put("{\"format\":1,\"events\":[");
-    for (number, (event, turn)) in story.events.iter().zip(story.notes.turns()).enumerate() {
+    for (number, (event, turn)) in story.events.iter().zip(&story.notes.turns).enumerate() {
         put_turn(pen, story, number, event, turn);
     }
-}
-
-/// All messages.
-fn put_messages(pen: &mut Pen, story: &Story<'_>) {
-    pen.put("],\"messages\":[");
-    let passages = story.notes.passages().as_slice();
-    for (number, (message, passage)) in story.messages.iter().zip(passages).enumerate() {
-        pen.put_all(
-            "%|,|\n{\"n\":%,\"kind\":\"%\",\"from\":\"%\",\"to\":\"%\",\"text\":\"",
-            &[
-                Piece::Flag(number == 0),
-                Piece::Size(number),
-                Piece::Words(Kind::of(&message.body).name()),
-                Piece::Node(message.from),
-                Piece::Node(message.to),
-            ],
-        );
-        tell_fields(pen, &message.body);
-        pen.put_all(
-            "\",\"sent\":%,\"delivered\":[",
-            &[Piece::Size(passage.sent)],
-        );
-        put_numbers(pen, passage.delivered.as_slice());
-        pen.put("]}");
+    put_messages(pen, story);
+    let ending = Ending::of(alloc, story)?;
+    put_lost(pen, &ending);
+    put_servers(pen, story.notes.servers.items.as_slice());
+    put_masters(pen, story);
+    pen.put("],\"replicas\":[");
+    for (place, replica) in story.standing.replicas.iter().enumerate() {
+        put_item(pen, place, "{", &[]);
+        put_replica(pen, replica);
     }
-}
-
-/// Numbers, in order.
-fn put_numbers(pen: &mut Pen, numbers: &[usize]) {
-    for (place, number) in numbers.iter().enumerate() {
-        pen.put_all("%|,|%", &[Piece::Flag(place == 0), Piece::Size(*number)]);
-    }
-}
-
-/// One event: its number, its place in the scenario, its kind, what it says, and the numbers of what it sent.
-fn put_turn(pen: &mut Pen, story: &Story<'_>, number: usize, event: &Event, turn: &Turn) {
-    let step = &turn.step;
-    pen.put_all(
-        "%|,|\n{\"n\":%,\"place\":%,\"kind\":\"%",
-        &[
-            Piece::Flag(number == 0),
-            Piece::Size(number),
-            Piece::Size(step.place),
-            Piece::Words(event_name(event)),
-        ],
-    );
-    match event {
-        Event::Deliver(message) => {
-            pen.put_number("\",\"message\":", *message as u64);
-            put_silence(pen, story.messages.get(*message), turn.silence);
-        }
-        _ => put_happening(pen, event, turn.started),
-    }
-    put_sent(pen, step);
-}
-
-/// The numbers of what an event sent.
-fn put_sent(pen: &mut Pen, step: &Step) {
-    pen.put(",\"sent\":[");
-    for message in step.first..step.end {
-        pen.put_all(
-            "%|,|%",
-            &[Piece::Flag(message == step.first), Piece::Size(message)],
-        );
-    }
-    pen.put("]}");
-}
-
-/// Why a delivery came to nothing, if it did.
-fn put_silence(pen: &mut Pen, message: Option<&Message>, silence: Option<Silence>) {
-    if let (Some(message), Some(silence)) = (message, silence) {
-        pen.put_all(
-            "%|,\"running\":false|,\"why\":\"",
-            &[Piece::Flag(silence.is_running())],
-        );
-        tell_silence(pen, silence, message);
-        pen.put("\"");
-    }
-}
-
-/// What an event other than a delivery says, and at which node it happens.
-fn put_happening(pen: &mut Pen, event: &Event, started: Option<ServerId>) {
-    pen.put("\",\"text\":\"");
-    tell_event(pen, event, started);
-    pen.put_all("\",\"at\":\"%\"", &[Piece::Node(node_of(event, started))]);
-}
-
-/// The node at which an event happens.
-fn node_of(event: &Event, started: Option<ServerId>) -> Addr {
-    match event {
-        Event::Ask { .. } => Addr::Outside,
-        Event::Tick(addr) => *addr,
-        Event::Stop(id) => Addr::Server(*id),
-        Event::Start { .. } => match started {
-            Some(id) => Addr::Server(id),
-            None => Addr::Outside,
-        },
-        _ => Addr::Coordinator,
-    }
-}
-
-/// How things stand at the end.
-fn put_ending(pen: &mut Pen, story: &Story<'_>, ending: &Ending, writes: &Writes) {
-    put_groups(pen, ending.lost());
-    put_servers(pen, story.notes.servers().as_slice());
-    put_standing(pen, story);
     put_changes(pen, story.changes);
-    put_ranges(pen, ending);
-    put_keys(pen, ending);
-    put_writes(pen, writes);
-}
-
-/// What the audit finds, and where the run stopped.
-fn put_audit(alloc: Global, pen: &mut Pen, story: &Story<'_>) {
+    put_ranges(pen, &ending);
+    put_keys(pen, &ending);
+    put_writes(pen, &Writes::of(alloc, story)?);
     pen.put("],\"audit\":\"");
     tell_verdict(alloc, pen, story.breach);
     match story.stopped {
@@ -168,16 +55,104 @@ fn put_audit(alloc: Global, pen: &mut Pen, story: &Story<'_>) {
         ),
         None => pen.put("\",\"stopped\":null}\n"),
     }
+    Ok(())
 }
 
-/// Messages by kind and addressee.
-fn put_groups(pen: &mut Pen, groups: &Table<(u8, Addr), Group>) {
-    pen.put("],\"lost\":[");
-    for (place, group) in groups.entries.values().enumerate() {
-        pen.put_all(
-            "%|,|\n{\"kind\":\"%\",\"to\":\"%\",\"count\":%}",
+/// The item of a list that has this place, in a line of its own.
+fn put_item(pen: &mut Pen, place: usize, form: &str, pieces: &[Piece]) {
+    pen.put_either(place == 0, "\n", ",\n");
+    pen.put_all(form, pieces);
+}
+
+/// The number of a list that has this place.
+fn put_number(pen: &mut Pen, place: usize, number: usize) {
+    pen.put_number(if place == 0 { "" } else { "," }, number as u64);
+}
+
+/// All messages.
+fn put_messages(pen: &mut Pen, story: &Story<'_>) {
+    pen.put("],\"messages\":[");
+    let passages = &story.notes.passages.items;
+    for (number, (message, passage)) in story.messages.iter().zip(passages).enumerate() {
+        put_item(
+            pen,
+            number,
+            "{\"n\":%,\"kind\":\"%\",\"from\":\"%\",\"to\":\"%\",\"text\":\"",
             &[
-                Piece::Flag(place == 0),
+                Piece::Size(number),
+                Piece::Words(Kind::of(&message.body).name()),
+                Piece::Node(message.from),
+                Piece::Node(message.to),
+            ],
+        );
+        tell_fields(pen, &message.body);
+        pen.put_number("\",\"sent\":", passage.sent as u64);
+        pen.put(",\"delivered\":[");
+        for (place, event) in passage.delivered.iter().enumerate() {
+            put_number(pen, place, *event);
+        }
+        pen.put("]}");
+    }
+}
+
+/// One event: its number, its place in the scenario, its kind, what it says, and the numbers of what it sent.
+fn put_turn(pen: &mut Pen, story: &Story<'_>, number: usize, event: &Event, turn: &Turn) {
+    let step = &turn.step;
+    put_item(
+        pen,
+        number,
+        "{\"n\":%,\"place\":%,\"kind\":\"%\",",
+        &[
+            Piece::Size(number),
+            Piece::Size(step.place),
+            Piece::Words(event_name(event)),
+        ],
+    );
+    match event {
+        Event::Deliver(message) => {
+            pen.put_number("\"message\":", *message as u64);
+            if let (Some(message), Some(silence)) = (story.messages.get(*message), turn.silence) {
+                let is_running = !matches!(silence, Silence::NotRunning);
+                pen.put_either(is_running, "", ",\"running\":false");
+                pen.put(",\"why\":\"");
+                tell_silence(pen, silence, message);
+                pen.put("\"");
+            }
+        }
+        _ => {
+            pen.put("\"text\":\"");
+            tell_event(pen, event, turn.started);
+            pen.put_node("\",\"at\":\"", node_of(event, turn.started));
+            pen.put("\"");
+        }
+    }
+    pen.put(",\"sent\":[");
+    for (place, message) in (step.first..step.end).enumerate() {
+        put_number(pen, place, message);
+    }
+    pen.put("]}");
+}
+
+/// The node at which an event happens.
+fn node_of(event: &Event, started: Option<ServerId>) -> Addr {
+    match event {
+        Event::Ask { .. } => Addr::Outside,
+        Event::Tick(addr) => *addr,
+        Event::Stop(id) => Addr::Server(*id),
+        Event::Start { .. } => started.map_or(Addr::Outside, Addr::Server),
+        _ => Addr::Coordinator,
+    }
+}
+
+/// What was never delivered, by kind and addressee.
+fn put_lost(pen: &mut Pen, ending: &Ending) {
+    pen.put("],\"lost\":[");
+    for (place, group) in ending.lost.entries.values().enumerate() {
+        put_item(
+            pen,
+            place,
+            "{\"kind\":\"%\",\"to\":\"%\",\"count\":%}",
+            &[
                 Piece::Words(group.kind),
                 Piece::Node(group.to),
                 Piece::U64(group.count),
@@ -190,10 +165,11 @@ fn put_groups(pen: &mut Pen, groups: &Table<(u8, Addr), Group>) {
 fn put_servers(pen: &mut Pen, servers: &[Server]) {
     pen.put("],\"servers\":[");
     for (place, server) in servers.iter().enumerate() {
-        pen.put_all(
-            "%|,|\n{\"id\":\"%\",\"started\":%,\"stopped\":%,\"suspected\":%,\"acknowledged\":%}",
+        put_item(
+            pen,
+            place,
+            "{\"id\":\"%\",\"started\":%,\"stopped\":%,\"suspected\":%,\"acknowledged\":%}",
             &[
-                Piece::Flag(place == 0),
                 Piece::Id(server.id),
                 Piece::Size(server.started),
                 number_or_null(server.stopped),
@@ -206,26 +182,104 @@ fn put_servers(pen: &mut Pen, servers: &[Server]) {
 
 /// A number that there may not be.
 fn number_or_null(number: Option<usize>) -> Piece {
-    match number {
-        Some(number) => Piece::Size(number),
-        None => Piece::Words("null"),
+    number.map_or(Piece::Words("null"), Piece::Size)
+}
+
+/// The masters with what each waits for and its segments.
+fn put_masters(pen: &mut Pen, story: &Story<'_>) {
+    pen.put("],\"masters\":[");
+    for (place, master) in story.standing.masters.iter().enumerate() {
+        put_item(
+            pen,
+            place,
+            "{\"id\":\"%\",\"phase\":\"%\",\"head\":%,\"durable\":%,\"waits\":",
+            &master.pieces(),
+        );
+        let segments = story.standing.segments_of(master);
+        match wait_of(master, segments) {
+            Some(wait) => {
+                pen.put("\"");
+                tell_wait(pen, wait, master.id, story.notes);
+                pen.put("\"");
+            }
+            None => pen.put("null"),
+        }
+        pen.put(",\"segments\":[");
+        for (place, segment) in segments.iter().enumerate() {
+            put_segment(pen, place, segment);
+        }
+        pen.put("]}");
     }
+}
+
+/// The segment of a master that has this place, and its members.
+fn put_segment(pen: &mut Pen, place: usize, segment: &SegmentStanding) {
+    put_item(
+        pen,
+        place,
+        "{\"seg\":%,\"epoch\":%,\"committed\":%true|false|,\"len\":%,\"shut\":%true|false|,\"members\":[",
+        &segment.pieces(),
+    );
+    for (place, member) in segment.members.iter().enumerate() {
+        pen.put_either(place == 0, "", ",");
+        pen.put_all(
+            "{\"id\":\"%\",\"lost\":%true|false|,\"told\":%,\"closed\":%true|false|}",
+            &[
+                Piece::Id(member.id),
+                Piece::Flag(member.lost),
+                number_or_null(member.told.map(|told| told.len)),
+                Piece::Flag(member.told.is_some_and(|told| told.closed)),
+            ],
+        );
+    }
+    pen.put("]}");
+}
+
+/// How the phases of masters, and replicas, have changed.
+fn put_changes(pen: &mut Pen, changes: &Changes) {
+    pen.put("],\"phases\":[");
+    for (place, change) in changes.phases.iter().enumerate() {
+        put_item(
+            pen,
+            place,
+            "{\"event\":%,\"id\":\"%\",\"phase\":\"%\"}",
+            &[
+                Piece::Size(change.event),
+                Piece::Id(change.id),
+                Piece::Words(change.phase),
+            ],
+        );
+    }
+    pen.put("],\"copies\":[");
+    for (place, change) in changes.replicas.iter().enumerate() {
+        put_item(
+            pen,
+            place,
+            "{\"event\":%,\"gone\":%true|false|,",
+            &[Piece::Size(change.event), Piece::Flag(change.is_gone)],
+        );
+        put_replica(pen, &change.replica);
+    }
+}
+
+/// The members of a replica, and its end.
+fn put_replica(pen: &mut Pen, replica: &ReplicaStanding) {
+    pen.put_all(
+        "\"at\":\"%\",\"of\":\"%\",\"seg\":%,\"epoch\":%,\"len\":%,\"closed\":%true|false|,\
+         \"fenced\":%true|false|}",
+        &replica.pieces(),
+    );
 }
 
 /// The last grant of each range.
 fn put_ranges(pen: &mut Pen, ending: &Ending) {
     pen.put("],\"ranges\":[");
-    for (place, grant) in ending.grants().entries.values().enumerate() {
-        pen.put_all(
-            "%|,|\n{\"table\":%,\"lo\":\"%\",\"hi\":\"%\",\"term\":%,\"owner\":\"%\"}",
-            &[
-                Piece::Flag(place == 0),
-                Piece::U32(grant.range.table),
-                Piece::U64(grant.range.lo),
-                Piece::U64(grant.range.hi),
-                Piece::U32(grant.term),
-                Piece::Node(grant.owner),
-            ],
+    for (place, grant) in ending.grants.entries.values().enumerate() {
+        put_item(
+            pen,
+            place,
+            "{\"table\":%,\"lo\":\"%\",\"hi\":\"%\",\"term\":%,\"owner\":\"%\"}",
+            &grant.pieces(),
         );
     }
 }
@@ -233,17 +287,12 @@ fn put_ranges(pen: &mut Pen, ending: &Ending) {
 /// The newest acknowledged version of each key.
 fn put_keys(pen: &mut Pen, ending: &Ending) {
     pen.put("],\"keys\":[");
-    for (place, newest) in ending.newest().entries.values().enumerate() {
-        pen.put_all(
-            "%|,|\n{\"table\":%,\"key\":\"%\",\"version\":\"%\",\"term\":%,\"by\":\"%\"}",
-            &[
-                Piece::Flag(place == 0),
-                Piece::U32(newest.table),
-                Piece::U64(newest.key),
-                Piece::U64(newest.version),
-                Piece::U32(newest.term),
-                Piece::Node(newest.by),
-            ],
+    for (place, newest) in ending.newest.entries.values().enumerate() {
+        put_item(
+            pen,
+            place,
+            "{\"table\":%,\"key\":\"%\",\"version\":\"%\",\"term\":%,\"by\":\"%\"}",
+            &newest.pieces(),
         );
     }
 }
@@ -251,14 +300,12 @@ fn put_keys(pen: &mut Pen, ending: &Ending) {
 /// The writes that were not acknowledged, and what became of them.
 fn put_writes(pen: &mut Pen, writes: &Writes) {
     pen.put("],\"unacknowledged\":[");
-    for (place, write) in writes.unanswered().iter().enumerate() {
-        pen.put_all(
-            "%|,|\n{\"event\":%,\"message\":%,\"fate\":\"",
-            &[
-                Piece::Flag(place == 0),
-                Piece::Size(write.event),
-                Piece::Size(write.message),
-            ],
+    for (place, write) in writes.unanswered.iter().enumerate() {
+        put_item(
+            pen,
+            place,
+            "{\"event\":%,\"message\":%,\"fate\":\"",
+            &[Piece::Size(write.event), Piece::Size(write.message)],
         );
         tell_fate(pen, write);
         pen.put("\"}");

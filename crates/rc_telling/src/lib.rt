@@ -5,10 +5,9 @@
 //!
 //! To be read in this order: `passages`, what became of a message; `silences`, why a delivery came to nothing;
 //! `servers`, who ran when, and who was suspected; `standing`, how masters and backups stand at the end; `changes`,
-//! what became of them on the way; `story`, the whole; `kinds` and `fields`, a message as text; `ending`, what else
-//! stands at the end; `waits`, what a master waits for; `writes`, what became of those that were not acknowledged; then
-//! the four ways to tell it: `logs` with `standings`, `json` with `json_standing`, `diagrams` and `pages`. `tables` has
-//! what all of them put into maps, and `verdict` the words of the audit.
+//! what became of them on the way; `story`, the whole; `fields`, a message as text; `ending`, what else stands at the
+//! end; `waits`, what a master waits for; `writes`, what became of those that were not acknowledged; then the four ways
+//! to tell it: `logs`, `json`, `diagrams` and `pages`. `tables` has what all of them put into maps.
 //! Apart from all this, but for `servers`, stands `hinting`, with `course`, `stale` and `recoveries`: what may not have
 //! been meant in a run.
 #![tactic(auto)]
@@ -20,8 +19,6 @@ mod ending;
 mod fields;
 mod hinting;
 mod json;
-mod json_standing;
-mod kinds;
 mod logs;
 mod page_drawing;
 mod page_findings;
@@ -33,10 +30,8 @@ mod servers;
 mod silences;
 mod stale;
 mod standing;
-mod standings;
 mod story;
 mod tables;
-mod verdict;
 mod waits;
 mod writes;
 

@@ -2,16 +2,15 @@
 
 use crate::changes::PhaseChange;
 use crate::ending::{Ending, Group, total_of};
-use crate::fields::{tell_event, tell_message};
-use crate::servers::Server;
+use crate::fields::{tell_event, tell_message, tell_verdict};
 use crate::silences::tell_silence;
-use crate::standings::tell_standing;
-use crate::story::{Step, Story, Turn};
+use crate::standing::{ReplicaStanding, SegmentStanding};
+use crate::story::{Story, Turn};
 use crate::tables::Table;
-use crate::verdict::tell_verdict;
+use crate::waits::{tell_wait, wait_of};
 use crate::writes::{Writes, tell_fate};
 use rc_pen::{Pen, Piece, Spelling};
-use rc_types::{Addr, Body, Event, Message};
+use rc_types::{Addr, Body, Event};
 use std::alloc::{AllocError, Global};
 
 /// The story as text: a line for each event of the world with its place in the scenario, below it a line for each
@@ -24,23 +23,30 @@ use std::alloc::{AllocError, Global};
 pub fn log(alloc: Global, story: &Story<'_>, whole: bool) -> Result<String, AllocError> {
     let mut pen = Pen::new(alloc, Spelling::Plain);
     pen.tell_whole(whole);
-    tell_turns(&mut pen, story);
-    let mut ending = Ending::new(alloc);
-    pen.take(ending.note_all(story));
-    let mut writes = Writes::new(alloc);
-    pen.take(writes.note_all(story));
-    tell_ending(&mut pen, story, &ending, &writes);
-    tell_audit(alloc, &mut pen, story);
-    pen.end()
-}
-
-/// All events.
-fn tell_turns(pen: &mut Pen, story: &Story<'_>) {
-    let mut told = 0usize;
-    for (number, (event, turn)) in story.events.iter().zip(story.notes.turns()).enumerate() {
-        tell_turn(pen, story, number, event, turn);
-        told = tell_phases(pen, story.changes.phases(), told, number);
+    let mut phases = story.changes.phases.as_slice();
+    for (number, (event, turn)) in story.events.iter().zip(&story.notes.turns).enumerate() {
+        tell_turn(&mut pen, story, number, event, turn);
+        phases = tell_phases(&mut pen, phases, number);
     }
+    let ending = Ending::of(alloc, story)?;
+    tell_groups(&mut pen, "never delivered ", &ending.lost);
+    tell_groups(&mut pen, "to the outside ", &ending.told);
+    tell_servers(&mut pen, story);
+    tell_masters(&mut pen, story);
+    tell_replicas(&mut pen, story.standing.replicas.as_slice());
+    tell_ranges(&mut pen, story, &ending);
+    tell_keys(&mut pen, &ending);
+    tell_writes(&mut pen, story, &Writes::of(alloc, story)?);
+    pen.say("\naudit ");
+    tell_verdict(alloc, &mut pen, story.breach);
+    if let Some((place, code)) = story.stopped {
+        pen.say_all(
+            "\nstopped % at event % of the scenario",
+            &[Piece::Code(code), Piece::Size(place)],
+        );
+    }
+    pen.say("\n");
+    pen.end()
 }
 
 /// An event, and the messages that it sent.
@@ -55,31 +61,8 @@ fn tell_turn(pen: &mut Pen, story: &Story<'_>, number: usize, event: &Event, tur
         _ => tell_event(pen, event, turn.started),
     }
     pen.say("\n");
-    tell_sent(pen, step, story.messages);
-}
-
-/// The phases that masters have from this event on, where this is the first one that was not told yet. Gives the place
-/// of the next one.
-fn tell_phases(pen: &mut Pen, phases: &[PhaseChange], first: usize, number: usize) -> usize {
-    for place in first..phases.len() {
-        let Some(change) = phases.get(place) else {
-            return place;
-        };
-        if change.event > number {
-            return place;
-        }
-        pen.say_all(
-            "    % is now %\n",
-            &[Piece::Id(change.id), Piece::Words(change.phase)],
-        );
-    }
-    phases.len()
-}
-
-/// The messages that an event sent.
-fn tell_sent(pen: &mut Pen, step: &Step, messages: &[Message]) {
     for place in step.first..step.end {
-        if let Some(message) = messages.get(place) {
+        if let Some(message) = story.messages.get(place) {
             pen.say("    ");
             tell_message(pen, place, message);
             pen.say("\n");
@@ -87,58 +70,42 @@ fn tell_sent(pen: &mut Pen, step: &Step, messages: &[Message]) {
     }
 }
 
-/// A delivery, and whether anything came of it.
+/// Those of these phases that masters have from this event on, or from an earlier one. Gives the others.
+fn tell_phases<'a>(pen: &mut Pen, phases: &'a [PhaseChange], number: usize) -> &'a [PhaseChange] {
+    for (place, change) in phases.iter().enumerate() {
+        if change.event > number {
+            return &phases[place..];
+        }
+        pen.say_all(
+            "    % is now %\n",
+            &[Piece::Id(change.id), Piece::Words(change.phase)],
+        );
+    }
+    &[]
+}
+
+/// A delivery, and whether anything came of it: perhaps the addressee fences somebody.
 fn tell_delivery(pen: &mut Pen, story: &Story<'_>, number: usize, message: usize, turn: &Turn) {
     let Some(delivered) = story.messages.get(message) else {
         return;
     };
     pen.say("deliver ");
     tell_message(pen, message, delivered);
-    if story.notes.passages().is_delivered_before(message, number) {
+    if story.notes.passages.is_delivered_before(message, number) {
         pen.say(", once more");
     }
-    match turn.silence {
-        Some(silence) => {
+    match (turn.silence, &delivered.body) {
+        (Some(silence), _) => {
             pen.say(", no effect: ");
             tell_silence(pen, silence, delivered);
         }
-        None if turn.step.first == turn.step.end => pen.say(", nothing sent"),
-        None => tell_fence(pen, delivered),
-    }
-}
-
-/// Whom the addressee of a message fences.
-fn tell_fence(pen: &mut Pen, message: &Message) {
-    if let Body::Gather { master, .. } = &message.body {
-        pen.say_all(
+        _ if turn.step.first == turn.step.end => pen.say(", nothing sent"),
+        (_, Body::Gather { master, .. }) => pen.say_all(
             ", % fences %",
-            &[Piece::Node(message.to), Piece::Id(*master)],
-        );
+            &[Piece::Node(delivered.to), Piece::Id(*master)],
+        ),
+        _ => {}
     }
-}
-
-/// How things stand at the end.
-fn tell_ending(pen: &mut Pen, story: &Story<'_>, ending: &Ending, writes: &Writes) {
-    tell_groups(pen, "never delivered ", ending.lost());
-    tell_groups(pen, "to the outside ", ending.told());
-    tell_servers(pen, story.notes.servers().as_slice());
-    tell_standing(pen, story);
-    tell_ranges(pen, story, ending);
-    tell_keys(pen, ending);
-    tell_writes(pen, story, writes);
-}
-
-/// What the audit finds, and where the run stopped.
-fn tell_audit(alloc: Global, pen: &mut Pen, story: &Story<'_>) {
-    pen.say("\naudit ");
-    tell_verdict(alloc, pen, story.breach);
-    if let Some((place, code)) = story.stopped {
-        pen.say_all(
-            "\nstopped % at event % of the scenario",
-            &[Piece::Code(code), Piece::Size(place)],
-        );
-    }
-    pen.say("\n");
 }
 
 /// Messages by kind and addressee.
@@ -147,7 +114,7 @@ fn tell_groups(pen: &mut Pen, title: &str, groups: &Table<(u8, Addr), Group>) {
     pen.say("\n");
     for group in groups.entries.values() {
         pen.say_all(
-            "    % % to %",
+            "    % % to %:",
             &[
                 Piece::U64(group.count),
                 Piece::Words(group.kind),
@@ -155,7 +122,6 @@ fn tell_groups(pen: &mut Pen, title: &str, groups: &Table<(u8, Addr), Group>) {
             ],
         );
         let numbers = group.numbers();
-        pen.say(":");
         for number in numbers {
             pen.number(" ", *number as u64);
         }
@@ -164,7 +130,8 @@ fn tell_groups(pen: &mut Pen, title: &str, groups: &Table<(u8, Addr), Group>) {
 }
 
 /// The servers.
-fn tell_servers(pen: &mut Pen, servers: &[Server]) {
+fn tell_servers(pen: &mut Pen, story: &Story<'_>) {
+    let servers = story.notes.servers.items.as_slice();
     pen.number("servers ", servers.len() as u64);
     for server in servers {
         pen.say_all(
@@ -182,56 +149,75 @@ fn tell_servers(pen: &mut Pen, servers: &[Server]) {
     }
 }
 
-/// The last grant of each range, and whether its owner was suspected, or it was granted once more in other ranges.
-fn tell_ranges(pen: &mut Pen, story: &Story<'_>, ending: &Ending) {
-    pen.number("\nranges ", ending.grants().entries.len() as u64);
-    for grant in ending.grants().entries.values() {
-        pen.say_all(
-            "\n    table % keys %..% term % owner %",
-            &[
-                Piece::U32(grant.range.table),
-                Piece::U64(grant.range.lo),
-                Piece::U64(grant.range.hi),
-                Piece::U32(grant.term),
-                Piece::Node(grant.owner),
-            ],
-        );
-        if ending.is_passed_on(grant) {
-            pen.say(", passed on");
-        } else {
-            tell_owner(pen, story, grant.owner);
+/// The masters, what each waits for, if it waits for something, and their segments.
+fn tell_masters(pen: &mut Pen, story: &Story<'_>) {
+    pen.number("\nmasters ", story.standing.masters.len() as u64);
+    for master in &story.standing.masters {
+        pen.say_all("\n    % %, head %, durable places %", &master.pieces());
+        let segments = story.standing.segments_of(master);
+        if let Some(wait) = wait_of(master, segments) {
+            pen.say(", waits ");
+            tell_wait(pen, wait, master.id, story.notes);
+        }
+        for segment in segments {
+            tell_segment(pen, segment);
         }
     }
 }
 
-/// Whether the owner of a range was suspected, or does not run.
-fn tell_owner(pen: &mut Pen, story: &Story<'_>, owner: Addr) {
-    let Addr::Server(id) = owner else {
-        return;
-    };
-    let servers = story.notes.servers();
+/// A segment of a master, and what its members have told.
+fn tell_segment(pen: &mut Pen, segment: &SegmentStanding) {
     pen.say_all(
-        "%, suspected||%|, does not run|",
-        &[
-            Piece::Flag(servers.is_suspected(id)),
-            Piece::Flag(servers.runs(id)),
-        ],
+        "\n        segment % epoch %%| not committed|, entries %%, shut|, open|, members",
+        &segment.pieces(),
     );
+    for member in &segment.members {
+        pen.id(" ", member.id);
+        match member.told {
+            _ if member.lost => pen.say(":lost"),
+            Some(told) => pen.say_all(
+                ":%%:closed||",
+                &[Piece::Size(told.len), Piece::Flag(told.closed)],
+            ),
+            None => pen.say(":nothing"),
+        }
+    }
+}
+
+/// The replicas.
+fn tell_replicas(pen: &mut Pen, replicas: &[ReplicaStanding]) {
+    pen.number("\nreplicas ", replicas.len() as u64);
+    for replica in replicas {
+        pen.say_all(
+            "\n    at % of % segment % epoch %, entries %%, closed|, open|%, fenced||",
+            &replica.pieces(),
+        );
+    }
+}
+
+/// The last grant of each range, and whether its owner was suspected or does not run, or it was granted once more in
+/// other ranges.
+fn tell_ranges(pen: &mut Pen, story: &Story<'_>, ending: &Ending) {
+    let servers = &story.notes.servers;
+    pen.number("\nranges ", ending.grants.entries.len() as u64);
+    for grant in ending.grants.entries.values() {
+        pen.say_all("\n    table % keys %..% term % owner %", &grant.pieces());
+        if ending.is_passed_on(grant) {
+            pen.say(", passed on");
+        } else if let Addr::Server(id) = grant.owner {
+            pen.either(servers.is_suspected(id), ", suspected", "");
+            pen.either(servers.runs(id), "", ", does not run");
+        }
+    }
 }
 
 /// The newest acknowledged version of each key.
 fn tell_keys(pen: &mut Pen, ending: &Ending) {
-    pen.number("\nkeys ", ending.newest().entries.len() as u64);
-    for newest in ending.newest().entries.values() {
+    pen.number("\nkeys ", ending.newest.entries.len() as u64);
+    for newest in ending.newest.entries.values() {
         pen.say_all(
             "\n    table % key % version % term % by %",
-            &[
-                Piece::U32(newest.table),
-                Piece::U64(newest.key),
-                Piece::U64(newest.version),
-                Piece::U32(newest.term),
-                Piece::Node(newest.by),
-            ],
+            &newest.pieces(),
         );
     }
 }
@@ -240,9 +226,9 @@ fn tell_keys(pen: &mut Pen, ending: &Ending) {
 fn tell_writes(pen: &mut Pen, story: &Story<'_>, writes: &Writes) {
     pen.number(
         "\nwrites delivered and not acknowledged ",
-        writes.unanswered().len() as u64,
+        writes.unanswered.len() as u64,
     );
-    for write in writes.unanswered() {
+    for write in &writes.unanswered {
         if let Some(message) = story.messages.get(write.message) {
             pen.say_all("\n    by event %: ", &[Piece::Size(write.event)]);
             tell_message(pen, write.message, message);

@@ -16,12 +16,9 @@ use std::alloc::{AllocError, Global};
 pub fn page(alloc: Global, story: &Story<'_>) -> Result<String, AllocError> {
     let mut pen = Pen::new(alloc, Spelling::Json);
     pen.put(HEAD);
-    put_story(alloc, &mut pen, story);
-    pen.put(MIDDLE);
-    pen.put(MARKS);
-    pen.put(DRAWING);
-    pen.put(FINDINGS);
-    pen.put(MOVING);
-    pen.put(ENDING);
+    put_story(alloc, &mut pen, story)?;
+    for part in [MIDDLE, MARKS, DRAWING, FINDINGS, MOVING, ENDING] {
+        pen.put(part);
+    }
     pen.end()
 }

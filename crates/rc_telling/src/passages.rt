@@ -14,17 +14,11 @@ pub(crate) struct Passage {
 /// What became of all messages, by number.
 #[derive(Drop)]
 pub(crate) struct Passages {
-    items: Vec<Passage>,
+    /// All of them, by number.
+    pub(crate) items: Vec<Passage>,
 }
 
 impl Passages {
-    /// Of no message yet.
-    pub(crate) fn new(alloc: Global) -> Passages {
-        Passages {
-            items: Vec::new(alloc),
-        }
-    }
-
     /// An event sent so many more messages.
     pub(crate) fn send(
         &mut self,
@@ -43,36 +37,24 @@ impl Passages {
 
     /// An event delivered the message of this number.
     pub(crate) fn deliver(&mut self, number: usize, event: usize) -> Result<(), AllocError> {
-        match self.items.get_mut(number) {
-            Some(passage) => {
-                passage.delivered.push(event)?;
-                Ok(())
-            }
-            None => Ok(()),
+        if let Some(passage) = self.items.get_mut(number) {
+            passage.delivered.push(event)?;
         }
-    }
-
-    /// All of them, by number.
-    pub(crate) fn as_slice(&self) -> &[Passage] {
-        self.items.as_slice()
+        Ok(())
     }
 
     /// Whether the message of this number was delivered before this event.
     pub(crate) fn is_delivered_before(&self, number: usize, event: usize) -> bool {
-        match self.items.get(number) {
-            Some(passage) => match passage.delivered.first() {
-                Some(first) => *first < event,
-                None => false,
-            },
-            None => false,
-        }
+        let first = self
+            .items
+            .get(number)
+            .and_then(|passage| passage.delivered.first());
+        first.is_some_and(|first| *first < event)
     }
 
     /// Whether the message of this number was never delivered.
     pub(crate) fn is_lost(&self, number: usize) -> bool {
-        match self.items.get(number) {
-            Some(passage) => passage.delivered.is_empty(),
-            None => false,
-        }
+        let passage = self.items.get(number);
+        passage.is_some_and(|passage| passage.delivered.is_empty())
     }
 }

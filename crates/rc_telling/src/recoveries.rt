@@ -46,6 +46,7 @@ enum Stage {
 }
 
 /// The recoveries of a run.
+#[derive(Drop)]
 pub(crate) struct Recoveries {
     /// By master: the number of its newest attempt.
     newest: Table<ServerId, u32>,
@@ -57,125 +58,89 @@ pub(crate) struct Recoveries {
     fetches: Table<(u32, u16), (Addr, bool)>,
 }
 
-impl Drop for Recoveries {
-    fn drop(self) {
-        let Recoveries {
-            newest: _,
-            attempts: _,
-            parts: _,
-            fetches: _,
-        } = self;
-    }
-}
-
 impl Recoveries {
-    /// None yet.
-    pub(crate) fn new(alloc: Global) -> Recoveries {
-        Recoveries {
+    /// Those that these messages tell of, each with a mark whether it was delivered.
+    pub(crate) fn of(
+        alloc: Global,
+        messages: &[Message],
+        delivered: &[bool],
+    ) -> Result<Recoveries, AllocError> {
+        let mut recoveries = Recoveries {
             newest: Table::new(alloc),
             attempts: Table::new(alloc),
             parts: Table::new(alloc),
             fetches: Table::new(alloc),
-        }
-    }
-
-    /// Notes these messages, each with a mark whether it was delivered.
-    pub(crate) fn note_all(
-        &mut self,
-        messages: &[Message],
-        delivered: &[bool],
-    ) -> Result<(), AllocError> {
+        };
         for (message, is_delivered) in messages.iter().zip(delivered) {
-            self.note(message, *is_delivered)?;
+            recoveries.note(message, *is_delivered)?;
         }
-        Ok(())
+        Ok(recoveries)
     }
 
     /// Notes a message.
     fn note(&mut self, message: &Message, is_delivered: bool) -> Result<(), AllocError> {
         match &message.body {
-            Body::Gather { attempt, master } => self.ask(*attempt, *master),
+            Body::Gather { attempt, master } => self.ask(*attempt, *master)?,
             Body::Replicas { attempt, .. } if is_delivered => {
-                self.answer(*attempt);
-                Ok(())
+                if let Some(attempt) = self.attempts.get_mut(*attempt) {
+                    attempt.answers = attempt.answers.saturating_add(1);
+                }
             }
-            Body::Plan { attempt, parts, .. } => self.plan(*attempt, message.to, parts.as_slice()),
+            Body::Plan { attempt, parts, .. } => {
+                self.plan(*attempt, message.to, parts.as_slice())?;
+            }
             Body::Own { term, .. } => {
                 if let Some(part) = self.parts.get_mut(*term) {
                     part.is_granted = true;
                 }
-                Ok(())
             }
-            _ => self.note_data(message, is_delivered),
-        }
-    }
-
-    /// Notes a message about the data of a part.
-    fn note_data(&mut self, message: &Message, is_delivered: bool) -> Result<(), AllocError> {
-        match &message.body {
             Body::Fetch { seg, part, .. } => {
                 let place = (part.term, *seg);
-                self.fetches.put_first(place, (message.to, false))
+                self.fetches.put_first(place, (message.to, false))?;
             }
             Body::Data { term, seg, .. } if is_delivered => {
                 if let Some(fetch) = self.fetches.get_mut((*term, *seg)) {
                     fetch.1 = true;
                 }
-                Ok(())
             }
             Body::Recovered { term, .. } => {
                 if let Some(part) = self.parts.get_mut(*term) {
                     part.is_recovered = true;
                 }
-                Ok(())
             }
-            _ => Ok(()),
+            _ => {}
         }
+        Ok(())
     }
 
     /// An attempt asks a server.
     fn ask(&mut self, number: u32, master: ServerId) -> Result<(), AllocError> {
         self.newest.put(master, number)?;
-        let attempt = Attempt {
+        let mut attempt = self.attempts.find(number).unwrap_or(Attempt {
             number,
             asked: 0,
             answers: 0,
             is_decided: false,
-        };
-        self.attempts.put_first(number, attempt)?;
-        if let Some(attempt) = self.attempts.get_mut(number) {
-            attempt.asked = attempt.asked.saturating_add(1);
-        }
-        Ok(())
+        });
+        attempt.asked = attempt.asked.saturating_add(1);
+        self.attempts.put(number, attempt)
     }
 
-    /// A server has answered.
-    fn answer(&mut self, number: u32) {
-        if let Some(attempt) = self.attempts.get_mut(number) {
-            attempt.answers = attempt.answers.saturating_add(1);
-        }
-    }
-
-    /// Parts are given to a server.
+    /// Parts are given to a server, for the first time or once more.
     fn plan(&mut self, number: u32, to: Addr, parts: &[Part]) -> Result<(), AllocError> {
         if let Some(attempt) = self.attempts.get_mut(number) {
             attempt.is_decided = true;
         }
         for part in parts {
-            self.give(number, to, part.term)?;
+            let given = Given {
+                attempt: number,
+                to,
+                is_recovered: false,
+                is_granted: false,
+            };
+            self.parts.put_first(part.term, given)?;
         }
         Ok(())
-    }
-
-    /// A part is given to a server, for the first time or once more.
-    fn give(&mut self, attempt: u32, to: Addr, term: u32) -> Result<(), AllocError> {
-        let given = Given {
-            attempt,
-            to,
-            is_recovered: false,
-            is_granted: false,
-        };
-        self.parts.put_first(term, given)
     }
 
     /// How many parts of this attempt were not granted, and the first of them by its term.
@@ -217,13 +182,29 @@ pub(crate) fn tell_recoveries(
     waits: bool,
 ) {
     for (master, number) in &recoveries.newest.entries {
-        let Some(attempt) = recoveries.attempts.find(*number) else {
-            continue;
-        };
-        if !attempt.is_decided {
-            tell_undecided(pen, *master, &attempt);
+        let attempt = recoveries.attempts.find(*number);
+        if let Some(attempt) = attempt.filter(|attempt| !attempt.is_decided) {
+            pen.say_all(
+                "hint: the recovery of % (attempt %) has no plan: answers have come to % of % Gathers; it takes a \
+                 decide, once they suffice\n",
+                &[
+                    Piece::Id(*master),
+                    Piece::U32(attempt.number),
+                    Piece::U64(attempt.answers),
+                    Piece::U64(attempt.asked),
+                ],
+            );
         } else if let (count, Some((term, part))) = recoveries.missing(*number) {
-            tell_missing(pen, *master, *number, count, part.to);
+            pen.say_all(
+                "hint: the recovery of % (attempt %) is not at its end: parts that were not granted: %; the first is \
+                 to be recovered by %",
+                &[
+                    Piece::Id(*master),
+                    Piece::U32(*number),
+                    Piece::U64(count),
+                    Piece::Node(part.to),
+                ],
+            );
             if servers.is_there(part.to) {
                 tell_stage(pen, *master, recoveries.stage(term, &part), servers, waits);
             } else {
@@ -232,34 +213,6 @@ pub(crate) fn tell_recoveries(
             pen.say("\n");
         }
     }
-}
-
-/// An attempt without a plan.
-fn tell_undecided(pen: &mut Pen, master: ServerId, attempt: &Attempt) {
-    pen.say_all(
-        "hint: the recovery of % (attempt %) has no plan: answers have come to % of % Gathers; it takes a decide, \
-         once they suffice\n",
-        &[
-            Piece::Id(master),
-            Piece::U32(attempt.number),
-            Piece::U64(attempt.answers),
-            Piece::U64(attempt.asked),
-        ],
-    );
-}
-
-/// A plan of which parts were not granted.
-fn tell_missing(pen: &mut Pen, master: ServerId, attempt: u32, count: u64, to: Addr) {
-    pen.say_all(
-        "hint: the recovery of % (attempt %) is not at its end: parts that were not granted: %; the first is to be \
-         recovered by %",
-        &[
-            Piece::Id(master),
-            Piece::U32(attempt),
-            Piece::U64(count),
-            Piece::Node(to),
-        ],
-    );
 }
 
 /// Who is needed for the recovery of this master is gone.
@@ -301,12 +254,7 @@ fn tell_unsuspected(pen: &mut Pen, servers: &Servers, waits: bool) {
             "; % has stopped and was not suspected, so its place is not filled",
             &[Piece::Id(id)],
         );
-        return;
-    }
-    if waits {
-        return;
-    }
-    if let Some(id) = servers.first(true, true) {
+    } else if let (false, Some(id)) = (waits, servers.first(true, true)) {
         pen.say_all(
             "; % was suspected and runs: once it is stopped and its host is started, that can be one",
             &[Piece::Id(id)],

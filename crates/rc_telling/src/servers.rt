@@ -39,7 +39,8 @@ impl Server {
 /// All servers, in order of start.
 #[derive(Drop)]
 pub(crate) struct Servers {
-    items: Vec<Server>,
+    /// All of them, in order of start.
+    pub(crate) items: Vec<Server>,
     /// The place of each host's newest server.
     newest: [Option<usize>; MAX_HOSTS as usize],
 }
@@ -60,10 +61,7 @@ impl Servers {
         number: usize,
     ) -> Result<Option<ServerId>, AllocError> {
         match event {
-            Event::Start { host, .. } => {
-                let id = self.start(*host, number)?;
-                return Ok(Some(id));
-            }
+            Event::Start { host, .. } => return Ok(Some(self.start(*host, number)?)),
             Event::Stop(id) => self.stop(*id, number),
             Event::Suspect(id) => self.suspect(*id, number),
             _ => {}
@@ -119,18 +117,14 @@ impl Servers {
 
     /// How often a host was started.
     pub(crate) fn generation(&self, host: u8) -> u32 {
-        match self.newest(host) {
-            Some(server) => server.id.generation,
-            None => 0,
-        }
+        let newest = self.newest(host);
+        newest.map_or(0, |server| server.id.generation)
     }
 
     /// Whether a server runs.
     pub(crate) fn runs(&self, id: ServerId) -> bool {
-        match self.newest(id.index) {
-            Some(server) => server.id == id && server.runs(),
-            None => false,
-        }
+        let newest = self.newest(id.index);
+        newest.is_some_and(|server| server.id == id && server.runs())
     }
 
     /// Whether a node is there: each is but for servers that do not run.
@@ -143,18 +137,13 @@ impl Servers {
 
     /// Whether a server is the newest one of its host, and was suspected.
     pub(crate) fn is_suspected(&self, id: ServerId) -> bool {
-        match self.newest(id.index) {
-            Some(server) => server.id == id && server.is_suspected(),
-            None => false,
-        }
+        let newest = self.newest(id.index);
+        newest.is_some_and(|server| server.id == id && server.is_suspected())
     }
 
-    /// Whether a host runs, and its server was not suspected.
+    /// Whether the host runs, and its server was not suspected.
     pub(crate) fn is_up(&self, host: u8) -> bool {
-        match self.newest(host) {
-            Some(server) => server.is_up(),
-            None => false,
-        }
+        self.newest(host).is_some_and(|server| server.is_up())
     }
 
     /// How many hosts run.
@@ -169,14 +158,11 @@ impl Servers {
 
     /// The first host's newest server that runs, or does not, and was suspected, or was not.
     pub(crate) fn first(&self, runs: bool, is_suspected: bool) -> Option<ServerId> {
-        for host in 0..MAX_HOSTS {
-            if let Some(server) = self.newest(host) {
-                if server.runs() == runs && server.is_suspected() == is_suspected {
-                    return Some(server.id);
-                }
-            }
-        }
-        None
+        let mut newest = (0..MAX_HOSTS).filter_map(|host| self.newest(host));
+        let found = newest.find(|server| {
+            server.runs() == runs && server.is_suspected() == is_suspected
+        })?;
+        Some(found.id)
     }
 
     /// The newest server of a host.
@@ -189,10 +175,5 @@ impl Servers {
     fn newest_mut(&mut self, host: u8) -> Option<&mut Server> {
         let place = self.newest.get(usize::from(host)).copied().flatten()?;
         self.items.get_mut(place)
-    }
-
-    /// All of them, in order of start.
-    pub(crate) fn as_slice(&self) -> &[Server] {
-        self.items.as_slice()
     }
 }

@@ -28,11 +28,12 @@ pub(crate) enum Silence {
 }
 
 /// What has to be known of what was sent and delivered so far.
+#[derive(Drop)]
 pub(crate) struct Known {
     /// By backup and master: the attempt for which the one fenced the other.
     fences: Table<(ServerId, ServerId), u32>,
     /// By backup, master and segment: what was freed.
-    freed: Table<(ServerId, ServerId, u16), bool>,
+    freed: Table<(ServerId, ServerId, u16), ()>,
     /// By master and segment: the epoch of the last Place.
     epochs: Table<(ServerId, u16), u16>,
     /// By attempt: whose recovery it is.
@@ -42,21 +43,7 @@ pub(crate) struct Known {
     /// By server: the version of the greatest list that it was given.
     lists: Table<ServerId, u32>,
     /// By server: who was deposed.
-    deposed: Table<ServerId, bool>,
-}
-
-impl Drop for Known {
-    fn drop(self) {
-        let Known {
-            fences: _,
-            freed: _,
-            epochs: _,
-            attempts: _,
-            newest: _,
-            lists: _,
-            deposed: _,
-        } = self;
-    }
+    deposed: Table<ServerId, ()>,
 }
 
 impl Known {
@@ -87,41 +74,27 @@ impl Known {
         }
     }
 
-    /// A message has reached its addressee, which runs.
+    /// A message has reached its addressee, which runs. A backup that has fenced a master frees nothing of it.
     pub(crate) fn deliver(&mut self, message: &Message) -> Result<(), AllocError> {
         let Addr::Server(to) = message.to else {
             return Ok(());
         };
         match (message.from, &message.body) {
-            (_, Body::Gather { attempt, master }) => {
-                self.fences.put_first((to, *master), *attempt)
+            (_, Body::Gather { attempt, master }) => self.fences.put_first((to, *master), *attempt),
+            (Addr::Server(master), Body::Free { seg }) if !self.has_fenced(to, master) => {
+                self.freed.put((to, master, *seg), ())
             }
-            (Addr::Server(master), Body::Free { seg }) => self.free(to, master, *seg),
-            (_, Body::List { version, .. }) => self.list(to, *version),
+            (_, Body::List { version, .. }) if *version > self.list_of(to) => {
+                self.lists.put(to, *version)
+            }
             (
                 Addr::Coordinator,
                 Body::Refused {
                     code: Code::Deposed,
                 },
-            ) => self.deposed.put(to, true),
+            ) => self.deposed.put(to, ()),
             _ => Ok(()),
         }
-    }
-
-    /// A backup frees a segment, if it has not fenced its master.
-    fn free(&mut self, backup: ServerId, master: ServerId, seg: u16) -> Result<(), AllocError> {
-        if self.has_fenced(backup, master) {
-            return Ok(());
-        }
-        self.freed.put((backup, master, seg), true)
-    }
-
-    /// A server is given a list.
-    fn list(&mut self, to: ServerId, version: u32) -> Result<(), AllocError> {
-        if self.list_of(to) >= version {
-            return Ok(());
-        }
-        self.lists.put(to, version)
     }
 
     /// Whether a backup has fenced a master.
@@ -136,13 +109,11 @@ impl Known {
 
     /// Why this message, when it reaches its addressee, which runs, will come to nothing, if that can be told.
     pub(crate) fn why(&self, message: &Message) -> Option<Silence> {
-        match message.to {
-            Addr::Server(to) => match message.from {
-                Addr::Server(from) => self.why_between(from, to, &message.body),
-                Addr::Coordinator | Addr::Outside => self.why_at(to, &message.body),
-            },
-            Addr::Coordinator => self.why_at_coordinator(&message.body),
-            Addr::Outside => None,
+        match (message.to, message.from) {
+            (Addr::Server(to), Addr::Server(from)) => self.why_between(from, to, &message.body),
+            (Addr::Server(to), _) => self.why_at(to, &message.body),
+            (Addr::Coordinator, _) => self.why_at_coordinator(&message.body),
+            (Addr::Outside, _) => None,
         }
     }
 
@@ -150,19 +121,14 @@ impl Known {
     fn why_between(&self, from: ServerId, to: ServerId, body: &Body) -> Option<Silence> {
         match body {
             Body::Place { seg, .. } | Body::Append { seg, .. } | Body::Close { seg, .. } => {
-                self.why_not_stored(from, to, *seg)
+                Some(match self.fences.find((to, from)) {
+                    Some(attempt) => Silence::Fenced(attempt),
+                    None if self.freed.has((to, from, *seg)) => Silence::Freed(*seg),
+                    None => Silence::NoReplica,
+                })
             }
             Body::Stored { seg, epoch, .. } => self.why_not_noted(to, *seg, *epoch),
             _ => self.why_not_heard(to),
-        }
-    }
-
-    /// Of what a backup is to store.
-    fn why_not_stored(&self, master: ServerId, backup: ServerId, seg: u16) -> Option<Silence> {
-        match self.fences.find((backup, master)) {
-            Some(attempt) => Some(Silence::Fenced(attempt)),
-            None if self.freed.has((backup, master, seg)) => Some(Silence::Freed(seg)),
-            None => Some(Silence::NoReplica),
         }
     }
 
@@ -176,11 +142,7 @@ impl Known {
 
     /// Of what comes to a master that may be deposed.
     fn why_not_heard(&self, master: ServerId) -> Option<Silence> {
-        if self.deposed.has(master) {
-            Some(Silence::Deposed)
-        } else {
-            None
-        }
+        self.deposed.find(master).map(|_| Silence::Deposed)
     }
 
     /// Of a message from the coordinator or the outside to a server.
@@ -198,62 +160,29 @@ impl Known {
         let Body::Replicas { attempt, .. } = body else {
             return None;
         };
-        let master = self.attempts.find(*attempt)?;
-        match self.newest.find(master) {
-            Some(newest) if newest > *attempt => Some(Silence::StaleAttempt(newest)),
-            _ => None,
-        }
-    }
-}
-
-impl Silence {
-    /// Whether the addressee ran.
-    pub(crate) fn is_running(self) -> bool {
-        !matches!(self, Silence::NotRunning)
+        let newest = self.newest.find(self.attempts.find(*attempt)?)?;
+        (newest > *attempt).then_some(Silence::StaleAttempt(newest))
     }
 }
 
 /// Why this message came to nothing.
 pub(crate) fn tell_silence(pen: &mut Pen, silence: Silence, message: &Message) {
+    let (to, from) = (Piece::Node(message.to), Piece::Node(message.from));
     match silence {
-        Silence::NotRunning => tell_of(pen, "% was not running", message),
-        Silence::Fenced(attempt) => tell_fence(pen, message, attempt),
-        Silence::Freed(seg) => tell_freed(pen, message, seg),
-        Silence::NoReplica => tell_of(pen, "% has no open replica that it fits", message),
-        Silence::OlderEpoch(epoch) => pen.number(
-            "the segment had already epoch ",
-            u64::from(epoch),
-        ),
-        Silence::StaleAttempt(attempt) => pen.number(
-            "its attempt was replaced by ",
-            u64::from(attempt),
-        ),
+        Silence::NotRunning => pen.say_all("% was not running", &[to]),
+        Silence::Fenced(attempt) => {
+            let attempt = Piece::U32(attempt);
+            pen.say_all("% had fenced % for attempt %", &[to, from, attempt]);
+        }
+        Silence::Freed(seg) => pen.say_all("% had freed segment %", &[to, Piece::U16(seg)]),
+        Silence::NoReplica => pen.say_all("% has no open replica that it fits", &[to]),
+        Silence::OlderEpoch(epoch) => {
+            pen.number("the segment had already epoch ", u64::from(epoch));
+        }
+        Silence::StaleAttempt(attempt) => {
+            pen.number("its attempt was replaced by ", u64::from(attempt));
+        }
         Silence::OlderList(version) => pen.number("it had already version ", u64::from(version)),
-        Silence::Deposed => tell_of(pen, "% was deposed", message),
+        Silence::Deposed => pen.say_all("% was deposed", &[to]),
     }
-}
-
-/// This of the addressee.
-fn tell_of(pen: &mut Pen, form: &str, message: &Message) {
-    pen.say_all(form, &[Piece::Node(message.to)]);
-}
-
-/// The addressee had fenced the sender.
-fn tell_fence(pen: &mut Pen, message: &Message, attempt: u32) {
-    pen.say_all(
-        "% had fenced % for attempt %",
-        &[
-            Piece::Node(message.to),
-            Piece::Node(message.from),
-            Piece::U32(attempt),
-        ],
-    );
-}
-
-/// The addressee had freed the segment.
-fn tell_freed(pen: &mut Pen, message: &Message, seg: u16) {
-    pen.say_all(
-        "% had freed segment %",
-        &[Piece::Node(message.to), Piece::U16(seg)],
-    );
 }

@@ -17,76 +17,49 @@ struct Stale {
     missed: Newest,
 }
 
-/// The reads of a run, as far as they are stale.
-struct Reads {
-    /// The newest acknowledged version of each key.
-    newest: Table<(u32, u64), Newest>,
-    /// The first stale one.
-    first: Option<Stale>,
-    /// How many are stale.
-    count: u64,
-}
-
-impl Drop for Reads {
-    fn drop(self) {
-        let Reads {
-            newest: _,
-            first: _,
-            count: _,
-        } = self;
-    }
-}
-
-impl Reads {
-    /// Notes these messages.
-    fn note_all(&mut self, messages: &[Message]) -> Result<(), AllocError> {
-        for message in messages {
-            acknowledge(&mut self.newest, message)?;
-            self.judge(message);
-        }
-        Ok(())
-    }
-
-    /// Notes a message, if it answers a read and misses something.
-    fn judge(&mut self, message: &Message) {
-        let Body::ReadOk {
-            table,
-            key,
-            version,
-            ..
-        } = &message.body
-        else {
-            return;
-        };
-        if let Some(missed) = self.newest.find((*table, *key)) {
-            if missed.version > *version {
-                let stale = Stale {
-                    at: message.from,
-                    version: *version,
-                    missed,
-                };
-                self.first = self.first.or(Some(stale));
-                self.count = self.count.saturating_add(1);
-            }
-        }
-    }
+/// What this message misses of what was acknowledged, if it answers a read and misses something.
+fn stale_read(newest: &Table<(u32, u64), Newest>, message: &Message) -> Option<Stale> {
+    let Body::ReadOk {
+        table,
+        key,
+        version,
+        ..
+    } = &message.body
+    else {
+        return None;
+    };
+    let missed = newest.find((*table, *key))?;
+    (missed.version > *version).then_some(Stale {
+        at: message.from,
+        version: *version,
+        missed,
+    })
 }
 
 /// The first stale read, and how many there are.
-pub(crate) fn tell_stale(alloc: Global, pen: &mut Pen, messages: &[Message]) {
-    let mut reads = Reads {
-        newest: Table::new(alloc),
-        first: None,
-        count: 0,
-    };
-    pen.take(reads.note_all(messages));
-    if let Some(stale) = reads.first {
+pub(crate) fn tell_stale(
+    alloc: Global,
+    pen: &mut Pen,
+    messages: &[Message],
+) -> Result<(), AllocError> {
+    let mut newest = Table::new(alloc);
+    let mut first = None;
+    let mut count = 0u64;
+    for message in messages {
+        acknowledge(&mut newest, message)?;
+        if let Some(stale) = stale_read(&newest, message) {
+            first = first.or(Some(stale));
+            count = count.saturating_add(1);
+        }
+    }
+    if let Some(stale) = first {
         tell_missed(pen, &stale);
-        if reads.count > 1 {
-            pen.say_all("; so it is with % reads in all", &[Piece::U64(reads.count)]);
+        if count > 1 {
+            pen.say_all("; so it is with % reads in all", &[Piece::U64(count)]);
         }
         pen.say("\n");
     }
+    Ok(())
 }
 
 /// What a stale read misses.

@@ -1,6 +1,6 @@
 //! How the masters and the backups stand at the end of a run, as whoever ran it has looked it up.
 
-use rc_types::limits::MAX_FACTOR;
+use rc_pen::Piece;
 use rc_types::{Member, Phase, ServerId};
 use std::alloc::Global;
 
@@ -23,8 +23,30 @@ pub struct MasterStanding {
     pub end: usize,
 }
 
+impl MasterStanding {
+    /// Its server, the name of its phase, its head, and how much of its log is durable.
+    pub(crate) fn pieces(&self) -> [Piece; 4] {
+        [
+            Piece::Id(self.id),
+            Piece::Words(phase_name(self.phase, self.is_deposed)),
+            Piece::U16(self.head),
+            Piece::Size(self.durable),
+        ]
+    }
+}
+
+/// The name of a master's phase, or `deposed`.
+pub(crate) fn phase_name(phase: Phase, is_deposed: bool) -> &'static str {
+    match phase {
+        _ if is_deposed => "deposed",
+        Phase::Opening => "opening",
+        Phase::Closing => "closing",
+        Phase::Writing => "writing",
+    }
+}
+
 /// A segment of a master's log.
-#[derive(Clone, Copy)]
+#[derive(Drop)]
 pub struct SegmentStanding {
     /// Its number.
     pub seg: u16,
@@ -37,7 +59,20 @@ pub struct SegmentStanding {
     /// Whether it is shut.
     pub is_shut: bool,
     /// Its members, and what they have told.
-    pub members: [Option<Member>; MAX_FACTOR as usize],
+    pub members: Vec<Member>,
+}
+
+impl SegmentStanding {
+    /// Its number, its epoch, whether that is committed, its length, and whether it is shut.
+    pub(crate) fn pieces(&self) -> [Piece; 5] {
+        [
+            Piece::U16(self.seg),
+            Piece::U16(self.epoch),
+            Piece::Flag(self.is_committed),
+            Piece::Size(self.len),
+            Piece::Flag(self.is_shut),
+        ]
+    }
 }
 
 /// A replica that a backup keeps.
@@ -57,6 +92,21 @@ pub struct ReplicaStanding {
     pub is_closed: bool,
     /// Whether its backup has fenced the master.
     pub is_fenced: bool,
+}
+
+impl ReplicaStanding {
+    /// All of it, in order.
+    pub(crate) fn pieces(&self) -> [Piece; 7] {
+        [
+            Piece::Id(self.holder),
+            Piece::Id(self.master),
+            Piece::U16(self.seg),
+            Piece::U16(self.epoch),
+            Piece::Size(self.len),
+            Piece::Flag(self.is_closed),
+            Piece::Flag(self.is_fenced),
+        ]
+    }
 }
 
 /// How all of them stand. Segments that were freed are left out.
@@ -88,9 +138,7 @@ impl Standing {
             replicas: Vec::new(alloc),
         }
     }
-}
 
-impl Standing {
     /// The segments of this master.
     pub(crate) fn segments_of(&self, master: &MasterStanding) -> &[SegmentStanding] {
         self.segments.get(master.first..master.end).unwrap_or(&[])

@@ -34,10 +34,14 @@ pub(crate) struct Turn {
 
 /// What is noted of a run, event by event.
 pub struct Notes {
-    turns: Vec<Turn>,
-    passages: Passages,
-    servers: Servers,
-    known: Known,
+    /// What each event did, in order.
+    pub(crate) turns: Vec<Turn>,
+    /// What became of the messages.
+    pub(crate) passages: Passages,
+    /// The servers.
+    pub(crate) servers: Servers,
+    /// What masters, backups and the coordinator are known to have heard.
+    pub(crate) known: Known,
 }
 
 impl Drop for Notes {
@@ -56,7 +60,9 @@ impl Notes {
     pub fn new(alloc: Global) -> Notes {
         Notes {
             turns: Vec::new(alloc),
-            passages: Passages::new(alloc),
+            passages: Passages {
+                items: Vec::new(alloc),
+            },
             servers: Servers::new(alloc),
             known: Known::new(alloc),
         }
@@ -80,7 +86,14 @@ impl Notes {
         if let Event::Deliver(message) = event {
             self.note_delivery(*message, number, messages)?;
         }
-        self.note_sent(alloc, number, &step, messages)?;
+        let sent = messages.get(step.first..).unwrap_or(&[]);
+        self.passages.send(alloc, number, sent.len())?;
+        for message in sent {
+            if let Body::WriteOk { .. } = &message.body {
+                self.servers.acknowledge(message.from);
+            }
+            self.known.send(message)?;
+        }
         self.turns.push(Turn {
             step,
             started,
@@ -116,52 +129,6 @@ impl Notes {
             Some(delivered) if self.servers.is_there(delivered.to) => self.known.deliver(delivered),
             _ => Ok(()),
         }
-    }
-
-    /// Notes what the event of this number sent.
-    fn note_sent(
-        &mut self,
-        alloc: Global,
-        number: usize,
-        step: &Step,
-        messages: &[Message],
-    ) -> Result<(), AllocError> {
-        let sent = messages.get(step.first..).unwrap_or(&[]);
-        self.passages.send(alloc, number, sent.len())?;
-        self.note_acknowledged(sent);
-        for message in sent {
-            self.known.send(message)?;
-        }
-        Ok(())
-    }
-
-    /// Notes which writes were acknowledged by these messages.
-    fn note_acknowledged(&mut self, sent: &[Message]) {
-        for message in sent {
-            if let Body::WriteOk { .. } = &message.body {
-                self.servers.acknowledge(message.from);
-            }
-        }
-    }
-
-    /// What each event did, in order.
-    pub(crate) fn turns(&self) -> &[Turn] {
-        self.turns.as_slice()
-    }
-
-    /// What became of the messages.
-    pub(crate) fn passages(&self) -> &Passages {
-        &self.passages
-    }
-
-    /// The servers.
-    pub(crate) fn servers(&self) -> &Servers {
-        &self.servers
-    }
-
-    /// Whether a backup has fenced a master.
-    pub(crate) fn has_fenced(&self, backup: ServerId, master: ServerId) -> bool {
-        self.known.has_fenced(backup, master)
     }
 }
 

@@ -5,15 +5,10 @@ use std::alloc::{AllocError, Global};
 use std::hash::Hash;
 
 /// Values by key, in the order in which the keys came.
+#[derive(Drop)]
 pub(crate) struct Table<K: Copy + Eq + Hash, V: Copy> {
     /// The keys and their values.
     pub(crate) entries: IndexMap<K, V>,
-}
-
-impl<K: Copy + Eq + Hash, V: Copy> Drop for Table<K, V> {
-    fn drop(self) {
-        let Table { entries: _ } = self;
-    }
 }
 
 impl<K: Copy + Eq + Hash, V: Copy> Table<K, V> {

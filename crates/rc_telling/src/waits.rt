@@ -58,53 +58,22 @@ fn wait_of_closing<'a>(
     }
 }
 
-/// What is awaited of a segment of which all members are to tell something.
+/// What is awaited of a segment of which all members are to tell something. A member that has told nothing lacks even
+/// what has no length.
 fn wait_at(segment: &SegmentStanding, missing: Missing) -> Option<Wait<'_>> {
-    if has_lost(segment) {
+    let members = &segment.members;
+    if members.iter().any(|member| member.lost) {
         return Some(Wait::Replacements(segment));
     }
-    if has_missing(segment, Missing::Told) {
-        return Some(Wait::Members(segment, told_or(missing)));
-    }
-    if has_missing(segment, missing) {
+    if members.iter().any(|member| is_missing(member, missing)) {
+        let is_empty = matches!(missing, Missing::Length(0));
+        let missing = if is_empty { Missing::Told } else { missing };
         return Some(Wait::Members(segment, missing));
     }
     if segment.is_committed {
         return None;
     }
     Some(Wait::Commit(segment))
-}
-
-/// What a member that has told nothing has to tell.
-fn told_or(missing: Missing) -> Missing {
-    match missing {
-        Missing::Length(0) => Missing::Told,
-        _ => missing,
-    }
-}
-
-/// Whether a member is lost.
-fn has_lost(segment: &SegmentStanding) -> bool {
-    for slot in &segment.members {
-        if let Some(member) = slot {
-            if member.lost {
-                return true;
-            }
-        }
-    }
-    false
-}
-
-/// Whether a member has not told this.
-fn has_missing(segment: &SegmentStanding, missing: Missing) -> bool {
-    for slot in &segment.members {
-        if let Some(member) = slot {
-            if is_missing(member, missing) {
-                return true;
-            }
-        }
-    }
-    false
 }
 
 /// Whether this member has not told this.
@@ -121,29 +90,17 @@ fn is_missing(member: &Member, missing: Missing) -> bool {
 pub(crate) fn tell_wait(pen: &mut Pen, wait: Wait<'_>, master: ServerId, notes: &Notes) {
     match wait {
         Wait::Servers => pen.say("until enough servers are up in its list"),
-        Wait::Replacements(segment) => tell_lost(pen, segment),
+        Wait::Replacements(segment) => {
+            pen.say("for other servers in place of");
+            for member in segment.members.iter().filter(|member| member.lost) {
+                pen.id(" ", member.id);
+            }
+            pen.number(" (lost) for segment ", u64::from(segment.seg));
+        }
         Wait::Members(segment, missing) => tell_missing(pen, segment, missing, master, notes),
         Wait::Commit(segment) => {
             pen.number("for the commit of segment ", u64::from(segment.seg));
         }
-    }
-}
-
-/// The lost members of a segment.
-fn tell_lost(pen: &mut Pen, segment: &SegmentStanding) {
-    pen.say("for other servers in place of");
-    for slot in &segment.members {
-        if let Some(member) = slot {
-            tell_if_lost(pen, member);
-        }
-    }
-    pen.number(" (lost) for segment ", u64::from(segment.seg));
-}
-
-/// A member, if it is lost.
-fn tell_if_lost(pen: &mut Pen, member: &Member) {
-    if member.lost {
-        pen.id(" ", member.id);
     }
 }
 
@@ -155,31 +112,20 @@ fn tell_missing(
     master: ServerId,
     notes: &Notes,
 ) {
-    pen.say_all(form_of(missing), &[Piece::U16(segment.seg)]);
-    for slot in &segment.members {
-        if let Some(member) = slot {
-            if is_missing(member, missing) {
-                tell_hindrance(pen, member.id, master, notes);
-            }
-        }
-    }
-}
-
-/// How it is told what members of a segment have not told.
-fn form_of(missing: Missing) -> &'static str {
-    match missing {
+    let form = match missing {
         Missing::Told => "until segment % is placed at",
         Missing::Closed => "until segment % is closed at",
         Missing::Length(_) => "until segment % is stored whole at",
-    }
-}
-
-/// A member, and why it may never tell a master anything.
-fn tell_hindrance(pen: &mut Pen, member: ServerId, master: ServerId, notes: &Notes) {
-    pen.id(" ", member);
-    if !notes.servers().runs(member) {
-        pen.say(" (does not run)");
-    } else if notes.has_fenced(member, master) {
-        pen.say(" (has fenced it)");
+    };
+    pen.say_all(form, &[Piece::U16(segment.seg)]);
+    for member in &segment.members {
+        if is_missing(member, missing) {
+            pen.id(" ", member.id);
+            if !notes.servers.runs(member.id) {
+                pen.say(" (does not run)");
+            } else if notes.known.has_fenced(member.id, master) {
+                pen.say(" (has fenced it)");
+            }
+        }
     }
 }

@@ -17,13 +17,10 @@ pub(crate) struct Words {
 impl Words {
     /// The next three.
     pub(crate) fn take(generator: &mut Pcg32) -> Words {
-        let kind = generator.next_word();
-        let target = generator.next_word();
-        let detail = generator.next_word();
         Words {
-            kind,
-            target,
-            detail,
+            kind: generator.next_word(),
+            target: generator.next_word(),
+            detail: generator.next_word(),
         }
     }
 }

@@ -91,7 +91,9 @@ impl Exploration {
     pub fn go_on(&mut self, alloc: Global, steps: usize) -> Result<(), Fault> {
         for _ in 0..steps.min(self.steps.saturating_sub(self.step)) {
             let words = Words::take(&mut self.generator);
-            self.draw(alloc, self.step, words)?;
+            if let Some(event) = self.event_of(alloc, self.step, words)? {
+                self.take(alloc, &event)?;
+            }
             self.step = self.step.saturating_add(1);
         }
         Ok(())
@@ -135,13 +137,8 @@ impl Exploration {
     /// The hosts are started, and a table is created.
     fn open(&mut self, alloc: Global) -> Result<(), Fault> {
         for host in 0..self.roster.hosts() {
-            self.take(
-                alloc,
-                &Event::Start {
-                    host,
-                    kept: Seq::new(alloc),
-                },
-            )?;
+            let kept = Seq::new(alloc);
+            self.take(alloc, &Event::Start { host, kept })?;
         }
         self.rest(alloc)?;
         let owner = self.roster.server(&self.world, 0);
@@ -174,7 +171,8 @@ impl Exploration {
     fn notice(&mut self, event: &Event) -> Result<(), Fault> {
         let sent = self.world.sent();
         self.survey.note(event, sent, self.noticed)?;
-        if self.found.is_none() && is_reached(self.goal, self.survey.counts()) {
+        let counts = self.survey.counts();
+        if self.found.is_none() && self.goal.is_some_and(|goal| counts.has(goal)) {
             self.found = Some(self.world.events().len().saturating_sub(1));
         }
         for number in self.noticed..sent.len() {
@@ -188,14 +186,6 @@ impl Exploration {
         Ok(())
     }
 
-    /// One step, of this number.
-    fn draw(&mut self, alloc: Global, number: usize, words: Words) -> Result<(), Fault> {
-        match self.event_of(alloc, number, words)? {
-            Some(event) => self.take(alloc, &event),
-            None => Ok(()),
-        }
-    }
-
     /// The event that the words choose, if there is one.
     fn event_of(
         &mut self,
@@ -204,8 +194,11 @@ impl Exploration {
         words: Words,
     ) -> Result<Option<Event>, Fault> {
         match self.choice(number, words) {
-            Choice::Write => self.write(alloc, Some(number), words),
-            Choice::Delete => self.write(alloc, None, words),
+            Choice::Write => {
+                let value = format!(in alloc; "{number}")?.into_bytes();
+                Ok(Some(self.write(Some(Shared::from_vec(alloc, value)?), words)))
+            }
+            Choice::Delete => Ok(Some(self.write(None, words))),
             Choice::Read => Ok(Some(self.read(words))),
             Choice::Tick => Ok(Some(Event::Tick(Addr::Server(self.server(words))))),
             Choice::TickCoordinator => Ok(Some(Event::Tick(Addr::Coordinator))),
@@ -260,35 +253,21 @@ impl Exploration {
     /// The server that is to be suspected: every second time one that owns a key, else any.
     fn suspected(&self, words: Words) -> ServerId {
         let owner = self.roster.owner(&self.world, words.target as usize % KEYS);
-        match owner {
-            Some(id) if words.detail % 2 == 0 => id,
-            _ => self.server(words),
-        }
+        let owner = owner.filter(|_| words.detail % 2 == 0);
+        owner.unwrap_or_else(|| self.server(words))
     }
 
-    /// A write of one of the keys; its value is the step's number in decimal digits, or it is a deletion.
-    fn write(
-        &self,
-        alloc: Global,
-        value: Option<usize>,
-        words: Words,
-    ) -> Result<Option<Event>, Fault> {
+    /// A write of this value at one of the keys, or a deletion. A value is the step's number in decimal digits.
+    fn write(&self, value: Option<Shared<u8>>, words: Words) -> Event {
         let key = words.target as usize % KEYS;
-        let value = match value {
-            Some(number) => Some(Shared::from_vec(
-                alloc,
-                format!(in alloc; "{number}")?.into_bytes(),
-            )?),
-            None => None,
-        };
-        Ok(Some(Event::Ask {
+        Event::Ask {
             to: self.roster.asked(&self.world, key, words.detail),
             body: Body::Write {
                 table: self.roster.table(),
                 key: key as u64,
                 value,
             },
-        }))
+        }
     }
 
     /// A read of one of the keys.
@@ -306,13 +285,8 @@ impl Exploration {
     /// A stop of a server that was suspected, and now and then of one that was not.
     fn stop(&self, words: Words) -> Option<Event> {
         let id = self.server(words);
-        if self.roster.is_suspected(id)
-            || (words.detail % 4 == 0 && self.roster.can_spare(&self.world))
-        {
-            Some(Event::Stop(id))
-        } else {
-            None
-        }
+        let is_spare = words.detail % 4 == 0 && self.roster.can_spare(&self.world);
+        (self.roster.is_suspected(id) || is_spare).then_some(Event::Stop(id))
     }
 
     /// A start of a host, mostly with all of its open replicas.
@@ -367,13 +341,5 @@ impl Exploration {
         }
         let table = self.roster.next_table();
         Some(Event::Create { table, owner })
-    }
-}
-
-/// Whether what is to be reached was reached, if anything is to be.
-fn is_reached(goal: Option<Goal>, counts: &Counts) -> bool {
-    match goal {
-        Some(goal) => counts.has(goal),
-        None => false,
     }
 }

@@ -1,6 +1,5 @@
 //! What a run is drawn with.
 
-ghost use Rattle.std.specs.Prelude.{◌≤◌};
 ghost use Rattle.rc_world.specs.HostView.{IsWithinLimits};
 
 use rc_types::{Seq, Setup};
@@ -32,25 +31,10 @@ impl Options {
         ensures { IsWithinLimits result }
     {
         Setup {
-            factor: within(self.factor as u16, 5) as u8,
-            segment: within(self.segment, 1_024),
+            factor: self.factor.clamp(1, 5),
+            segment: self.segment.clamp(1, 1_024),
             free: self.free,
             factors: Seq::new(alloc),
         }
-    }
-}
-
-/// The number itself, from 1 to the most.
-fn within(number: u16, most: u16) -> u16
-    requires { 1 ≤ most }
-    ensures least { 1 ≤ result }
-    ensures most { result ≤ most }
-{
-    if number < 1 {
-        1
-    } else if number > most {
-        most
-    } else {
-        number
     }
 }

@@ -88,11 +88,7 @@ impl Roster {
 
     /// The newest server of the host that the word chooses.
     pub(crate) fn server(&self, world: &World<Global>, word: u32) -> ServerId {
-        let index = if self.hosts == 0 {
-            0
-        } else {
-            (word % self.hosts as u32) as u8
-        };
+        let index = word.checked_rem(self.hosts as u32).unwrap_or(0) as u8;
         ServerId {
             index,
             generation: world.newest(index),
@@ -101,25 +97,21 @@ impl Roster {
 
     /// Whether this server, or a later one of its host, was suspected.
     pub(crate) fn is_suspected(&self, id: ServerId) -> bool {
-        match self.suspected.get(id.index as usize) {
-            Some(generation) => id.generation <= *generation,
-            None => false,
-        }
+        let suspected = self.suspected.get(id.index as usize);
+        suspected.is_some_and(|generation| id.generation <= *generation)
     }
 
     /// Whether one more server can crash: enough others are up, and few logs wait to be recovered. Where there are no
     /// more hosts than a segment has backups and a master, all are up, and no log waits.
     pub(crate) fn can_spare(&self, world: &World<Global>) -> bool {
-        let mut up = 0u8;
-        for index in 0..self.hosts {
+        let is_up = |index: u8| {
             let generation = world.newest(index);
             let id = ServerId { index, generation };
-            if generation > 0 && !self.is_suspected(id) && world.is_running(id) {
-                up = up.saturating_add(1);
-            }
-        }
-        let enough = self.factor.saturating_add(1);
-        if self.hosts == enough {
+            generation > 0 && !self.is_suspected(id) && world.is_running(id)
+        };
+        let up = (0..self.hosts).filter(|index| is_up(*index)).count();
+        let enough = usize::from(self.factor).saturating_add(1);
+        if usize::from(self.hosts) == enough {
             return up == enough && self.crashes.is_empty();
         }
         up > enough && self.crashes.len() < 2
@@ -161,23 +153,15 @@ impl Roster {
 
     /// A server whose recovery has a plan, of which no part was granted yet, if there is one. It has none from now on.
     pub(crate) fn planned(&mut self) -> Option<ServerId> {
-        for crash in self.crashes.iter_mut() {
-            if crash.planned {
-                crash.planned = false;
-                return Some(crash.id);
-            }
-        }
-        None
+        let crash = self.crashes.iter_mut().find(|crash| crash.planned)?;
+        crash.planned = false;
+        Some(crash.id)
     }
 
     /// The last owner of this key, where it is the newest server of its host.
     pub(crate) fn owner(&self, world: &World<Global>, key: usize) -> Option<ServerId> {
         let id = self.owners.get(key)?.last;
-        if world.newest(id.index) == id.generation {
-            Some(id)
-        } else {
-            None
-        }
+        (world.newest(id.index) == id.generation).then_some(id)
     }
 
     /// The server that is asked for this key: mostly its owner, now and then the one before or anyone.
@@ -203,8 +187,7 @@ impl Roster {
                 if !self.owned.contains(&id) {
                     self.owned.push(id)?;
                 }
-                self.grant(id, range);
-                self.forget(*term);
+                self.grant(id, range, *term);
             }
             (_, Body::Plan { master, parts, .. }) => {
                 for part in parts.as_slice() {
@@ -213,15 +196,17 @@ impl Roster {
                         master: *master,
                     })?;
                 }
-                self.plan(*master);
+                for crash in self.crashes.iter_mut() {
+                    crash.planned = crash.planned || crash.id == *master;
+                }
             }
             _ => {}
         }
         Ok(())
     }
 
-    /// The server owns these keys.
-    fn grant(&mut self, id: ServerId, range: &KeyRange) {
+    /// The server owns these keys under this term: whose they were, in a plan, is recovered.
+    fn grant(&mut self, id: ServerId, range: &KeyRange, term: u32) {
         let table = self.table;
         for (key, owners) in self.owners.iter_mut().enumerate() {
             if range.holds(table, key as u64) && owners.last != id {
@@ -229,19 +214,6 @@ impl Roster {
                 owners.last = id;
             }
         }
-    }
-
-    /// The recovery of this server has a plan.
-    fn plan(&mut self, master: ServerId) {
-        for crash in self.crashes.iter_mut() {
-            if crash.id == master {
-                crash.planned = true;
-            }
-        }
-    }
-
-    /// The part of this term was granted: whose it was is recovered.
-    fn forget(&mut self, term: u32) {
         for given in &self.given {
             if given.term == term {
                 let master = given.master;

@@ -26,50 +26,6 @@ pub(crate) const NOWHERE: Origin = Origin {
     before: 0,
 };
 
-/// What is left of a scenario.
-#[derive(Drop)]
-pub(crate) struct Course {
-    pub(crate) items: Vec<Item>,
-}
-
-impl Course {
-    /// Nothing.
-    pub(crate) fn new(alloc: Global) -> Course {
-        Course {
-            items: Vec::new(alloc),
-        }
-    }
-
-    /// All of so many events; those that are deliveries are of these messages.
-    pub(crate) fn whole(alloc: Global, messages: &[usize]) -> Result<Course, AllocError> {
-        let mut course = Course::new(alloc);
-        for (place, message) in messages.iter().enumerate() {
-            course.items.push(Item {
-                left: Left {
-                    place,
-                    message: *message,
-                },
-                origin: NOWHERE,
-            })?;
-        }
-        Ok(course)
-    }
-
-    /// How many events are left.
-    pub(crate) fn len(&self) -> usize {
-        self.items.len()
-    }
-
-    /// What is left, to be printed.
-    pub(crate) fn left(&self, alloc: Global) -> Result<Vec<Left>, AllocError> {
-        let mut left = Vec::new(alloc);
-        for item in &self.items {
-            left.push(item.left)?;
-        }
-        Ok(left)
-    }
-}
-
 /// The messages that an event sent: the first one's number, and how many they are.
 #[derive(Clone, Copy)]
 struct Span {
@@ -80,7 +36,7 @@ struct Span {
 /// How a course becomes a shorter one: what is left, who sent which message, and where those of each event went.
 #[derive(Drop)]
 pub(crate) struct Move {
-    pub(crate) next: Course,
+    pub(crate) next: Vec<Item>,
     /// Whether the event that was kept last was not possible.
     pub(crate) is_stopped: bool,
     origins: Vec<Origin>,
@@ -91,7 +47,7 @@ impl Move {
     /// Nothing has moved yet.
     pub(crate) fn new(alloc: Global) -> Move {
         Move {
-            next: Course::new(alloc),
+            next: Vec::new(alloc),
             is_stopped: false,
             origins: Vec::new(alloc),
             spans: Vec::new(alloc),
@@ -101,11 +57,8 @@ impl Move {
     /// The number that a message now has, if it was sent.
     pub(crate) fn message(&self, origin: Origin) -> Option<usize> {
         let span = self.spans.get(origin.item)?;
-        if origin.before < span.count {
-            Some(span.first.saturating_add(origin.before))
-        } else {
-            None
-        }
+        let number = span.first.saturating_add(origin.before);
+        (origin.before < span.count).then_some(number)
     }
 
     /// The next event of the course is left out.
@@ -117,7 +70,7 @@ impl Move {
     /// The next event of the course is left. If it is a delivery, it is of this message.
     pub(crate) fn keep(&mut self, place: usize, message: usize) -> Result<(), AllocError> {
         let origin = self.origins.get(message).copied().unwrap_or(NOWHERE);
-        self.next.items.push(Item {
+        self.next.push(Item {
             left: Left { place, message },
             origin,
         })?;
@@ -128,13 +81,11 @@ impl Move {
     pub(crate) fn sent(&mut self, count: usize) -> Result<(), AllocError> {
         let first = self.origins.len();
         let item = self.next.len().saturating_sub(1);
-        for before in 0..count.saturating_sub(first) {
+        let count = count.saturating_sub(first);
+        for before in 0..count {
             self.origins.push(Origin { item, before })?;
         }
-        self.spans.push(Span {
-            first,
-            count: count.saturating_sub(first),
-        })?;
+        self.spans.push(Span { first, count })?;
         Ok(())
     }
 }

@@ -4,6 +4,7 @@ use rc_audit::audit;
 use rc_report::{add_stopped, report_of};
 use rc_types::{Body, Code, Fault, Message};
 use std::alloc::Global;
+use std::slice;
 
 /// What the line is to begin with.
 #[derive(Clone, Copy)]
@@ -31,13 +32,12 @@ impl<'a> Goal<'a> {
 
     /// Whether one of these messages has such a line.
     pub(crate) fn is_told(self, alloc: Global, messages: &[Message]) -> Result<bool, Fault> {
-        for at in 0..messages.len() {
-            if self.may_be_told(&messages[at].body) {
-                let text = report_of(alloc, &messages[at..at + 1], None)?;
-                if let Some(line) = text.as_str().lines().next() {
-                    if line.starts_with(self.text) {
-                        return Ok(true);
-                    }
+        for message in messages {
+            if self.may_be_told(&message.body) {
+                let text = report_of(alloc, slice::from_ref(message), None)?;
+                let line = text.as_str().lines().next();
+                if line.is_some_and(|line| line.starts_with(self.text)) {
+                    return Ok(true);
                 }
             }
         }
@@ -64,22 +64,14 @@ impl<'a> Goal<'a> {
         if let Some(place) = stopped {
             add_stopped(alloc, &mut text, Code::BadEvent, place)?;
         }
-        for line in text.as_str().lines() {
-            if line.starts_with(self.text) {
-                return Ok(true);
-            }
-        }
-        Ok(false)
+        let mut lines = text.as_str().lines();
+        Ok(lines.any(|line| line.starts_with(self.text)))
     }
 
     /// Whether only lines of messages can begin so.
     fn is_of_messages(self) -> bool {
-        for word in &["ack ", "own ", "plan ", "read ", "split "] {
-            if self.text.starts_with(*word) {
-                return true;
-            }
-        }
-        false
+        let words = ["ack ", "own ", "plan ", "read ", "split "];
+        words.iter().any(|word| self.text.starts_with(*word))
     }
 
     /// Whether the line of a message with this body can begin so.

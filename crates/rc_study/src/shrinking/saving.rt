@@ -1,9 +1,9 @@
 //! A setup and events as a text.
 
-use crate::shrinking::lines;
 use rc_pen::{Pen, Spelling};
-use rc_reading::ScenarioEvent;
-use rc_types::{Addr, Body, Event, Setup};
+use rc_reading::{Hosts, Kinds, ScenarioEvent};
+use rc_types::limits::MAX_HOSTS;
+use rc_types::{Addr, Body, Event, Kind, ServerId, Setup};
 use std::alloc::{AllocError, Global};
 
 /// An event of a scenario that is left.
@@ -21,13 +21,12 @@ pub struct Left {
 ///
 /// Memory was refused.
 pub fn saved_events(alloc: Global, setup: &Setup, events: &[Event]) -> Result<String, AllocError> {
-    let mut pen = Pen::new(alloc, Spelling::Json);
-    lines::begin(&mut pen, setup);
+    let mut pen = begun(alloc, setup);
     for (number, event) in events.iter().enumerate() {
-        lines::separate(&mut pen, number == 0);
+        pen.put_either(number == 0, "\n", ",\n");
         put_event(&mut pen, event);
     }
-    lines::end(&mut pen);
+    pen.put("\n]}\n");
     pen.end()
 }
 
@@ -42,52 +41,146 @@ pub fn saved_scenario(
     events: &[ScenarioEvent],
     left: &[Left],
 ) -> Result<String, AllocError> {
-    let mut pen = Pen::new(alloc, Spelling::Json);
-    lines::begin(&mut pen, setup);
+    let mut pen = begun(alloc, setup);
     for (number, one) in left.iter().enumerate() {
         if let Some(event) = events.get(one.place) {
-            lines::separate(&mut pen, number == 0);
-            put_scenario_event(&mut pen, event, one.message);
+            pen.put_either(number == 0, "\n", ",\n");
+            match event {
+                ScenarioEvent::Core(Event::Deliver(_)) => put_deliver(&mut pen, one.message),
+                ScenarioEvent::Core(event) => put_event(&mut pen, event),
+                ScenarioEvent::Settle { kinds, hosts } => put_settle(&mut pen, *kinds, *hosts),
+            }
         }
     }
-    lines::end(&mut pen);
+    pen.put("\n]}\n");
     pen.end()
+}
+
+/// What precedes the events.
+fn begun(alloc: Global, setup: &Setup) -> Pen {
+    let mut pen = Pen::new(alloc, Spelling::Json);
+    pen.put_number("{\"format\":2,\"factor\":", u64::from(setup.factor));
+    pen.put(",\"factors\":[");
+    for (number, factor) in setup.factors.as_slice().iter().enumerate() {
+        pen.put_number(if number == 0 { "" } else { "," }, u64::from(*factor));
+    }
+    pen.put_either(setup.free, "],\"free\":true", "],\"free\":false");
+    pen.put_number(",\"segment\":", u64::from(setup.segment));
+    pen.put(",\"events\":[");
+    pen
 }
 
 /// An event of a world.
 fn put_event(pen: &mut Pen, event: &Event) {
     match event {
-        Event::Ask { to, body } => match body {
-            Body::Write { table, key, value } => {
-                lines::put_write(pen, *to, *table, *key, value.as_ref());
+        Event::Ask { to, body } => put_request(pen, *to, body),
+        Event::Deliver(number) => put_deliver(pen, *number),
+        Event::Tick(Addr::Server(id)) => put_named(pen, "tick", *id),
+        Event::Tick(_) => pen.put("{\"e\":\"tick\",\"id\":\"c\"}"),
+        Event::Stop(id) => put_named(pen, "stop", *id),
+        Event::Start { host, kept } => put_start(pen, *host, kept.as_slice()),
+        Event::Suspect(id) => put_named(pen, "suspect", *id),
+        Event::Decide(id) => put_named(pen, "decide", *id),
+        Event::Create { table, owner } => {
+            pen.put_number("{\"e\":\"create\",\"table\":", u64::from(*table));
+            put_id(pen, ",\"owner\":", *owner);
+            pen.put("}");
+        }
+        Event::Split { table, at } => {
+            pen.put_number("{\"e\":\"split\",\"table\":", u64::from(*table));
+            pen.put_number(",\"at\":", *at);
+            pen.put("}");
+        }
+    }
+}
+
+/// These letters, and an id.
+fn put_id(pen: &mut Pen, letters: &str, id: ServerId) {
+    pen.put(letters);
+    pen.put_number("[", u64::from(id.index));
+    pen.put_number(",", u64::from(id.generation));
+    pen.put("]");
+}
+
+/// An event of a kind that names a server alone.
+fn put_named(pen: &mut Pen, kind: &str, id: ServerId) {
+    pen.put("{\"e\":\"");
+    pen.put(kind);
+    put_id(pen, "\",\"id\":", id);
+    pen.put("}");
+}
+
+/// A delivery.
+fn put_deliver(pen: &mut Pen, number: usize) {
+    pen.put_number("{\"e\":\"deliver\",\"n\":", number as u64);
+    pen.put("}");
+}
+
+/// A start.
+fn put_start(pen: &mut Pen, host: u8, kept: &[(ServerId, u16)]) {
+    pen.put_number("{\"e\":\"start\",\"host\":", u64::from(host));
+    pen.put_either(kept.is_empty(), "", ",\"kept\":[");
+    for (number, (id, seg)) in kept.iter().enumerate() {
+        put_id(pen, if number == 0 { "[" } else { ",[" }, *id);
+        pen.put_number(",", u64::from(*seg));
+        pen.put("]");
+    }
+    pen.put_either(kept.is_empty(), "}", "]}");
+}
+
+/// A write or a read.
+fn put_request(pen: &mut Pen, to: ServerId, body: &Body) {
+    let (kind, table, key) = match body {
+        Body::Write { table, key, .. } => ("write", *table, *key),
+        Body::Read { table, key } => ("read", *table, *key),
+        _ => return,
+    };
+    pen.put("{\"e\":\"");
+    pen.put(kind);
+    put_id(pen, "\",\"to\":", to);
+    pen.put_number(",\"table\":", u64::from(table));
+    pen.put_number(",\"key\":", key);
+    if let Body::Write { value, .. } = body {
+        match value {
+            Some(bytes) => {
+                pen.put(",\"value\":\"");
+                put_text(pen, bytes.as_slice());
+                pen.put("\"");
             }
-            Body::Read { table, key } => lines::put_read(pen, *to, *table, *key),
-            _ => {}
-        },
-        Event::Deliver(number) => lines::put_deliver(pen, *number as u64),
-        Event::Tick(addr) => put_tick(pen, *addr),
-        Event::Stop(id) => lines::put_named(pen, "stop", *id),
-        Event::Start { host, kept } => lines::put_start(pen, *host, kept),
-        Event::Suspect(id) => lines::put_named(pen, "suspect", *id),
-        Event::Decide(id) => lines::put_named(pen, "decide", *id),
-        Event::Create { table, owner } => lines::put_create(pen, *table, *owner),
-        Event::Split { table, at } => lines::put_split(pen, *table, *at),
+            None => pen.put(",\"value\":null"),
+        }
+    }
+    pen.put("}");
+}
+
+/// A value. Those of scenarios and those that are drawn are UTF-8.
+fn put_text(pen: &mut Pen, bytes: &[u8]) {
+    for letter in str::from_utf8(bytes).unwrap_or("").chars() {
+        match u8::try_from(u32::from(letter)) {
+            Ok(byte) if byte < b' ' => {
+                pen.put("\\u00");
+                pen.byte(byte);
+            }
+            _ => pen.letter(letter),
+        }
     }
 }
 
-/// An event of a scenario; if it is a delivery, of this message.
-fn put_scenario_event(pen: &mut Pen, event: &ScenarioEvent, message: usize) {
-    match event {
-        ScenarioEvent::Core(Event::Deliver(_)) => lines::put_deliver(pen, message as u64),
-        ScenarioEvent::Core(event) => put_event(pen, event),
-        ScenarioEvent::Settle { kinds, hosts } => lines::put_settle(pen, *kinds, *hosts),
+/// A pass over the messages, with the kinds and the hosts that it passes over, if there are any.
+fn put_settle(pen: &mut Pen, kinds: Kinds, hosts: Hosts) {
+    pen.put("{\"e\":\"settle\"");
+    let mut some = false;
+    for kind in Kind::ALL.iter().filter(|kind| kinds.has(**kind)) {
+        pen.put_either(some, ",\"", ",\"kinds\":[\"");
+        pen.put(kind.name());
+        pen.put("\"");
+        some = true;
     }
-}
-
-/// A timer that goes off.
-fn put_tick(pen: &mut Pen, addr: Addr) {
-    match addr {
-        Addr::Server(id) => lines::put_named(pen, "tick", id),
-        _ => pen.put("{\"e\":\"tick\",\"id\":\"c\"}"),
+    pen.put_either(some, "]", "");
+    some = false;
+    for host in (0..MAX_HOSTS).filter(|host| hosts.has(*host)) {
+        pen.put_number(if some { "," } else { ",\"hosts\":[" }, u64::from(host));
+        some = true;
     }
+    pen.put_either(some, "]}", "}");
 }

@@ -2,9 +2,9 @@
 
 ghost use Rattle.rc_world.specs.HostView.{IsWithinLimits};
 
-use crate::shrinking::courses::Course;
+use crate::shrinking::courses::{Item, NOWHERE};
 use crate::shrinking::goals::Goal;
-use crate::shrinking::saving::saved_scenario;
+use crate::shrinking::saving::{Left, saved_scenario};
 use crate::shrinking::trying::{Cut, Task, without};
 use rc_reading::{Scenario, ScenarioEvent};
 use rc_types::{Event, Fault};
@@ -30,42 +30,45 @@ pub fn shrink(alloc: Global, scenario: &Scenario, keep: &str) -> Result<Option<S
         events: scenario.events.as_slice(),
         goal: Goal::of(keep),
     };
-    let messages = messages_of(alloc, task.events)?;
-    let whole = Course::whole(alloc, messages.as_slice())?;
+    let whole = whole(alloc, task.events)?;
     let nothing = Cut {
         from: 0,
         to: 0,
         settles: false,
         moves: false,
     };
-    let Some(first) = without(alloc, task, &whole, nothing)? else {
+    let Some(first) = without(alloc, task, whole.as_slice(), nothing)? else {
         return Ok(None);
     };
     let last = searched(alloc, task, first)?;
-    let left = last.left(alloc)?;
+    let left: Vec<Left> = last.iter().map(|item| item.left).collect(alloc)?;
     let text = saved_scenario(alloc, task.setup, task.events, left.as_slice())?;
     Ok(Some(text))
 }
 
-/// Of each event the message that it delivers; 0 where it is no delivery.
-fn messages_of(alloc: Global, events: &[ScenarioEvent]) -> Result<Vec<usize>, AllocError> {
-    let mut messages = Vec::new(alloc);
-    for event in events {
-        messages.push(match event {
+/// All of these events, of each the message that it delivers; 0 where it is no delivery.
+fn whole(alloc: Global, events: &[ScenarioEvent]) -> Result<Vec<Item>, AllocError> {
+    let mut items = Vec::new(alloc);
+    for (place, event) in events.iter().enumerate() {
+        let message = match event {
             ScenarioEvent::Core(Event::Deliver(number)) => *number,
             _ => 0,
+        };
+        items.push(Item {
+            left: Left { place, message },
+            origin: NOWHERE,
         })?;
     }
-    Ok(messages)
+    Ok(items)
 }
 
 /// Leaves out as much as it can: first of the passes over the messages alone, since each delivers what an earlier one
 /// would have; then of all events.
-fn searched(alloc: Global, task: Task<'_>, first: Course) -> Result<Course, Fault>
+fn searched(alloc: Global, task: Task<'_>, first: Vec<Item>) -> Result<Vec<Item>, Fault>
     requires { IsWithinLimits task.setup.now }
 {
-    let course = with_few_settles(alloc, task, first)?;
-    let mut course = in_pieces(alloc, task, course)?;
+    let course = in_pieces(alloc, task, first, true)?;
+    let mut course = in_pieces(alloc, task, course, false)?;
     for _ in 0..=course.len() {
         let before = course.len();
         course = thinned(alloc, task, course, 1, false)?;
@@ -76,47 +79,30 @@ fn searched(alloc: Global, task: Task<'_>, first: Course) -> Result<Course, Faul
     Ok(course)
 }
 
-/// Leaves out passes over the messages: those of halves, then of quarters and so on, until of two sizes in turn none
-/// could go.
-fn with_few_settles(alloc: Global, task: Task<'_>, first: Course) -> Result<Course, Fault>
+/// Leaves out halves of what is left, then quarters and so on, or of them only the passes over the messages; but no
+/// small pieces, and no such passes, where of two larger sizes in turn none could go.
+fn in_pieces(
+    alloc: Global,
+    task: Task<'_>,
+    first: Vec<Item>,
+    settles: bool,
+) -> Result<Vec<Item>, Fault>
     requires { IsWithinLimits task.setup.now }
 {
     let mut course = first;
     let mut size = course.len();
     let mut vain = 0usize;
+    let (least, large) = if settles { (1, usize::MAX) } else { (2, SMALL) };
     for _ in 0..usize::BITS {
         size /= 2;
-        if size > 0 && vain < MOST_VAIN {
+        if size > large || (size >= least && vain < MOST_VAIN) {
             let before = course.len();
-            course = thinned(alloc, task, course, size, true)?;
-            vain = next_vain(vain, course.len() == before);
+            course = thinned(alloc, task, course, size, settles)?;
+            let is_vain = course.len() == before;
+            vain = if is_vain { vain.saturating_add(1) } else { 0 };
         }
     }
     Ok(course)
-}
-
-/// Leaves out halves of what is left, then quarters and so on, but no small pieces where of two larger sizes in turn no
-/// piece could go.
-fn in_pieces(alloc: Global, task: Task<'_>, first: Course) -> Result<Course, Fault>
-    requires { IsWithinLimits task.setup.now }
-{
-    let mut course = first;
-    let mut size = course.len();
-    let mut vain = 0usize;
-    for _ in 0..usize::BITS {
-        size /= 2;
-        if size > SMALL || (size > 1 && vain < MOST_VAIN) {
-            let before = course.len();
-            course = thinned(alloc, task, course, size, false)?;
-            vain = next_vain(vain, course.len() == before);
-        }
-    }
-    Ok(course)
-}
-
-/// After how many sizes in turn no piece could go, after one more.
-fn next_vain(vain: usize, is_vain: bool) -> usize {
-    if is_vain { vain.saturating_add(1) } else { 0 }
 }
 
 /// Leaves out as many pieces of this size as it can, from the last one to the first; of each only its passes over the
@@ -124,10 +110,10 @@ fn next_vain(vain: usize, is_vain: bool) -> usize {
 fn thinned(
     alloc: Global,
     task: Task<'_>,
-    first: Course,
+    first: Vec<Item>,
     size: usize,
     settles: bool,
-) -> Result<Course, Fault>
+) -> Result<Vec<Item>, Fault>
     requires { IsWithinLimits task.setup.now }
 {
     let mut course = first;
@@ -143,7 +129,7 @@ fn thinned(
             settles,
             moves: true,
         };
-        if let Some(next) = shorter(alloc, task, &course, cut)? {
+        if let Some(next) = shorter(alloc, task, course.as_slice(), cut)? {
             course = next;
         }
     }
@@ -155,41 +141,28 @@ fn thinned(
 fn shorter(
     alloc: Global,
     task: Task<'_>,
-    course: &Course,
+    course: &[Item],
     cut: Cut,
-) -> Result<Option<Course>, Fault>
+) -> Result<Option<Vec<Item>>, Fault>
     requires { IsWithinLimits task.setup.now }
 {
-    if !cuts_some(task, course, cut) {
+    let mut items = course.iter().enumerate();
+    if !items.any(|(at, item)| cut.has(task, at, *item)) {
         return Ok(None);
     }
-    match without(alloc, task, course, cut)? {
-        Some(next) => Ok(Some(next)),
-        None if cut.to == cut.from.saturating_add(1) && delivers_after(task, course, cut.to) => {
-            let mut cut = cut;
-            cut.moves = false;
-            without(alloc, task, course, cut)
-        }
-        None => Ok(None),
+    let next = without(alloc, task, course, cut)?;
+    let is_single = cut.to == cut.from.saturating_add(1);
+    let mut rest = course.iter().skip(cut.to);
+    if next.is_none() && is_single && rest.any(|item| task.is_delivery(*item)) {
+        return without(
+            alloc,
+            task,
+            course,
+            Cut {
+                moves: false,
+                ..cut
+            },
+        );
     }
-}
-
-/// Whether an event that is left is in this cut.
-fn cuts_some(task: Task<'_>, course: &Course, cut: Cut) -> bool {
-    for (at, item) in course.items.iter().enumerate() {
-        if cut.has(task, at, *item) {
-            return true;
-        }
-    }
-    false
-}
-
-/// Whether a delivery is left from this place on.
-fn delivers_after(task: Task<'_>, course: &Course, from: usize) -> bool {
-    for item in course.items.iter().skip(from) {
-        if task.is_delivery(*item) {
-            return true;
-        }
-    }
-    false
+    Ok(next)
 }

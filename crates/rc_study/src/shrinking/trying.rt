@@ -2,12 +2,13 @@
 
 ghost use Rattle.rc_world.specs.HostView.{IsWithinLimits};
 
-use crate::shrinking::courses::{Course, Item, Move};
+use crate::shrinking::courses::{Item, Move};
 use crate::shrinking::goals::Goal;
 use rc_reading::ScenarioEvent;
 use rc_runs::Run;
 use rc_types::{Body, Event, Fault, Setup, TryClone};
 use std::alloc::Global;
+use std::slice;
 
 /// A scenario, and the line that its report is to have.
 #[derive(Clone, Copy)]
@@ -18,18 +19,15 @@ pub(crate) struct Task<'a> {
 }
 
 impl Task<'_> {
-    /// Whether this item is a pass over the messages.
-    pub(crate) fn is_settle(&self, item: Item) -> bool {
-        matches!(
-            self.events.get(item.left.place),
-            Some(ScenarioEvent::Settle { .. })
-        )
+    /// The event that this item is.
+    pub(crate) fn event(&self, item: Item) -> Option<&ScenarioEvent> {
+        self.events.get(item.left.place)
     }
 
     /// Whether this item is a delivery.
     pub(crate) fn is_delivery(&self, item: Item) -> bool {
         matches!(
-            self.events.get(item.left.place),
+            self.event(item),
             Some(ScenarioEvent::Core(Event::Deliver(_)))
         )
     }
@@ -37,7 +35,7 @@ impl Task<'_> {
     /// Whether this item is a write.
     fn is_write(&self, item: Item) -> bool {
         matches!(
-            self.events.get(item.left.place),
+            self.event(item),
             Some(ScenarioEvent::Core(Event::Ask {
                 body: Body::Write { .. },
                 ..
@@ -59,7 +57,9 @@ pub(crate) struct Cut {
 impl Cut {
     /// Whether the item at this place is left out.
     pub(crate) fn has(&self, task: Task<'_>, at: usize, item: Item) -> bool {
-        self.from <= at && at < self.to && (!self.settles || task.is_settle(item))
+        self.from <= at
+            && at < self.to
+            && (!self.settles || matches!(task.event(item), Some(ScenarioEvent::Settle { .. })))
     }
 }
 
@@ -67,38 +67,36 @@ impl Cut {
 pub(crate) fn without(
     alloc: Global,
     task: Task<'_>,
-    course: &Course,
+    course: &[Item],
     cut: Cut,
-) -> Result<Option<Course>, Fault>
+) -> Result<Option<Vec<Item>>, Fault>
     requires { IsWithinLimits task.setup.now }
 {
     if !is_in_reach(task, course, cut) {
         return Ok(None);
     }
     let mut moved = Move::new(alloc);
-    match keeps_line(alloc, task, course, cut, &mut moved) {
-        Ok(true) => Ok(Some(moved.next)),
-        Ok(false) => Ok(None),
-        Err(fault) => Err(fault),
+    if keeps_line(alloc, task, course, cut, &mut moved)? {
+        return Ok(Some(moved.next));
     }
+    Ok(None)
 }
 
 /// Whether what is left after this cut may have such a line, as far as its writes tell.
-fn is_in_reach(task: Task<'_>, course: &Course, cut: Cut) -> bool {
-    let mut count = 0usize;
-    for (at, item) in course.items.iter().enumerate() {
-        if !cut.has(task, at, *item) && (task.is_write(*item) || task.is_delivery(*item)) {
-            count = count.saturating_add(1);
-        }
-    }
-    task.goal.is_in_reach(count)
+fn is_in_reach(task: Task<'_>, course: &[Item], cut: Cut) -> bool {
+    let counts = |at: usize, item: Item| {
+        !cut.has(task, at, item) && (task.is_write(item) || task.is_delivery(item))
+    };
+    let items = course.iter().enumerate();
+    task.goal
+        .is_in_reach(items.filter(|(at, item)| counts(*at, **item)).count())
 }
 
 /// Plays what is left after this cut: whether the report still has such a line.
 fn keeps_line(
     alloc: Global,
     task: Task<'_>,
-    course: &Course,
+    course: &[Item],
     cut: Cut,
     moved: &mut Move,
 ) -> Result<bool, Fault>
@@ -106,15 +104,12 @@ fn keeps_line(
 {
     let setup = task.setup.try_clone(alloc)?;
     let mut run = Run::new(alloc, setup, alloc);
-    match play_left(alloc, task, course, cut, &mut run, moved) {
-        Ok(Reached::Told) => Ok(true),
-        Ok(Reached::Through) => task.goal.is_reported(alloc, run.world().sent(), None),
-        Ok(Reached::Stopped(place)) => {
-            task.goal
-                .is_reported(alloc, run.world().sent(), Some(place))
-        }
-        Err(fault) => Err(fault),
-    }
+    let stopped = match play_left(alloc, task, course, cut, &mut run, moved)? {
+        Reached::Told => return Ok(true),
+        Reached::Through => None,
+        Reached::Stopped(place) => Some(place),
+    };
+    task.goal.is_reported(alloc, run.world().sent(), stopped)
 }
 
 /// How far a run was played.
@@ -132,14 +127,14 @@ enum Reached {
 fn play_left(
     alloc: Global,
     task: Task<'_>,
-    course: &Course,
+    course: &[Item],
     cut: Cut,
     run: &mut Run<Global>,
     moved: &mut Move,
 ) -> Result<Reached, Fault> {
     let mut seen = 0usize;
-    for at in 0..course.items.len() {
-        let item = course.items[at];
+    for (at, item) in course.iter().enumerate() {
+        let item = *item;
         if !cut.has(task, at, item) && go_on(alloc, task, run, moved, item, cut.moves)? {
             let sent = run.world().sent();
             moved.sent(sent.len())?;
@@ -165,7 +160,7 @@ fn go_on(
     item: Item,
     moves: bool,
 ) -> Result<bool, Fault> {
-    let Some(event) = task.events.get(item.left.place) else {
+    let Some(event) = task.event(item) else {
         return Ok(false);
     };
     let mut message = item.left.message;
@@ -196,15 +191,9 @@ fn played(
     match event {
         ScenarioEvent::Core(Event::Deliver(_)) => run.take(alloc, &Event::Deliver(message)),
         ScenarioEvent::Core(core) => run.take(alloc, core),
-        ScenarioEvent::Settle { kinds, hosts } => {
-            let settle = [ScenarioEvent::Settle {
-                kinds: *kinds,
-                hosts: *hosts,
-            }];
-            match run.play_all(alloc, settle.as_slice(), &mut ()) {
-                Ok(()) => Ok(()),
-                Err((_, fault)) => Err(fault),
-            }
+        ScenarioEvent::Settle { .. } => {
+            let played = run.play_all(alloc, slice::from_ref(event), &mut ());
+            played.map_err(|(_, fault)| fault)
         }
     }
 }

@@ -1,49 +1,46 @@
 //! A scenario that was played, with what is noted of its run.
 
-ghost use Rattle.std.specs.Prelude.{◌≡◌, IfOk};
 ghost use Rattle.rc_world.specs.HostView.{IsWithinLimits};
 
-use crate::telling::retelling::{Retold, retell};
-use crate::telling::standing::add_standing;
+use crate::telling::changing::note_change;
+use crate::telling::standing::standing_in;
 use rc_audit::audit;
 use rc_reading::ScenarioEvent;
 use rc_runs::Run;
-use rc_telling::{Standing, Story};
-use rc_types::{Breach, Code, Fault, Setup, TryClone};
+use rc_telling::{Changes, Notes, Standing, Step, Story};
+use rc_types::{Addr, Breach, Code, Event, Fault, Setup, TryClone};
 use rc_world::World;
 use std::alloc::{AllocError, Global};
 use std::slice;
 
 /// A scenario that was played, up to the first event that is not possible.
 pub struct Played {
-    run: Run<Global>,
-    /// The place in the scenario of what each event of the run comes from.
-    places: Vec<usize>,
-    stopped: Option<(usize, Code)>,
-    /// The same events once more, one after another, so that what each of them did can be noted.
+    /// The world after it.
     world: World<Global>,
-    retold: Retold,
+    notes: Notes,
+    changes: Changes,
     standing: Standing,
     /// What the audit finds in what was sent.
     breach: Option<Breach>,
+    stopped: Option<(usize, Code)>,
 }
 
 impl Drop for Played {
     fn drop(self) {
         let Played {
-            run: _,
-            places: _,
-            stopped: _,
             world: _,
-            retold: _,
+            notes: _,
+            changes: _,
             standing: _,
             breach: _,
+            stopped: _,
         } = self;
     }
 }
 
 impl Played {
-    /// Plays the scenario.
+    /// Plays the scenario, judges what was sent, and takes the same events once more, one after another, to note what
+    /// each of them did.
     ///
     /// # Errors
     ///
@@ -51,43 +48,35 @@ impl Played {
     pub fn of(alloc: Global, setup: &Setup, events: &[ScenarioEvent]) -> Result<Played, AllocError>
         requires { IsWithinLimits setup.now }
     {
-        let mut played = Played::opened(alloc, setup)?;
-        match played.play(alloc, events) {
-            Ok(()) => Ok(played),
-            Err(fault) => Err(fault),
+        let mut run = Run::new(alloc, setup.try_clone(alloc)?, alloc);
+        let mut places = Vec::new(alloc);
+        let stopped = play_through(alloc, &mut run, &mut places, events)?;
+        let breach = audit(alloc, run.world().sent()).map_err(|_| AllocError)?;
+        let mut world = World::new(alloc, setup.try_clone(alloc)?, alloc);
+        let mut notes = Notes::new(alloc);
+        let mut changes = Changes::new(alloc);
+        for (number, (event, place)) in run.world().events().iter().zip(&places).enumerate() {
+            let first = world.sent().len();
+            let log_end = log_end_at(&world, event);
+            world.take(alloc, event).map_err(|_| AllocError)?;
+            note_change(number, event, &world, &mut changes)?;
+            let step = Step {
+                place: *place,
+                first,
+                end: world.sent().len(),
+                log_end,
+            };
+            notes.take(alloc, event, step, world.sent())?;
         }
-    }
-
-    /// Nothing has happened yet.
-    fn opened(alloc: Global, setup: &Setup) -> Result<Played, AllocError>
-        requires { IsWithinLimits setup.now }
-    {
-        let first = copy(alloc, setup)?;
-        let second = copy(alloc, setup)?;
+        let standing = standing_in(alloc, &world)?;
         Ok(Played {
-            run: Run::new(alloc, first, alloc),
-            places: Vec::new(alloc),
-            stopped: None,
-            world: World::new(alloc, second, alloc),
-            retold: Retold::new(alloc),
-            standing: Standing::new(alloc),
-            breach: None,
+            world,
+            notes,
+            changes,
+            standing,
+            breach,
+            stopped,
         })
-    }
-
-    /// Plays these events, judges what they sent, and notes what they did.
-    fn play(&mut self, alloc: Global, events: &[ScenarioEvent]) -> Result<(), AllocError> {
-        self.stopped = play_through(alloc, &mut self.run, &mut self.places, events)?;
-        self.breach = audit(alloc, self.run.world().sent()).map_err(|_| AllocError)?;
-        let happened = self.run.world().events();
-        retell(
-            alloc,
-            happened,
-            self.places.as_slice(),
-            &mut self.world,
-            &mut self.retold,
-        )?;
-        add_standing(&self.world, &mut self.standing)
     }
 
     /// The event of the scenario at which the run stopped, by place from 0, and why.
@@ -105,20 +94,13 @@ impl Played {
         Story {
             events: self.world.events(),
             messages: self.world.sent(),
-            notes: self.retold.notes(),
-            changes: self.retold.changes(),
+            notes: &self.notes,
+            changes: &self.changes,
             standing: &self.standing,
             breach: self.breach,
             stopped: self.stopped,
         }
     }
-}
-
-/// A copy of a setup.
-fn copy(alloc: Global, setup: &Setup) -> Result<Setup, AllocError>
-    ensures { IfOk result (λ copy. copy ≡ setup.now) }
-{
-    setup.try_clone(alloc).map_err(|_| AllocError)
 }
 
 /// Plays the events one after another, up to the first that is not possible, and notes for each event of the world
@@ -130,32 +112,26 @@ fn play_through(
     events: &[ScenarioEvent],
 ) -> Result<Option<(usize, Code)>, AllocError> {
     for (place, event) in events.iter().enumerate() {
-        let code = stops_with(alloc, run, event)?;
-        note_place(places, run.world().events().len(), place)?;
-        if let Some(code) = code {
-            return Ok(Some((place, code)));
+        let played = run.play_all(alloc, slice::from_ref(event), &mut ());
+        places.resize(run.world().events().len(), place)?;
+        match played {
+            Ok(()) => {}
+            Err((_, Fault::OutOfMemory)) => return Err(AllocError),
+            Err((_, fault)) => return Ok(Some((place, fault.code()))),
         }
     }
     Ok(None)
 }
 
-/// Plays one event; gives the code with which the run stops at it.
-fn stops_with(
-    alloc: Global,
-    run: &mut Run<Global>,
-    event: &ScenarioEvent,
-) -> Result<Option<Code>, AllocError> {
-    match run.play_all(alloc, slice::from_ref(event), &mut ()) {
-        Ok(()) => Ok(None),
-        Err((_, Fault::OutOfMemory)) => Err(AllocError),
-        Err((_, fault)) => Ok(Some(fault.code())),
-    }
-}
-
-/// The events of the world that have happened since come from this place.
-fn note_place(places: &mut Vec<usize>, happened: usize, place: usize) -> Result<(), AllocError> {
-    for _ in places.len()..happened {
-        places.push(place)?;
-    }
-    Ok(())
+/// Where the log of the master ends to which the event delivers something.
+fn log_end_at(world: &World<Global>, event: &Event) -> Option<(u16, usize)> {
+    let Event::Deliver(number) = event else {
+        return None;
+    };
+    let Addr::Server(id) = world.sent().get(*number)?.to else {
+        return None;
+    };
+    let log = world.master(id.index)?.log();
+    let head = log.head();
+    Some((head, log.segment(head)?.len()))
 }
