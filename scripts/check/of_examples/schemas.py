@@ -50,10 +50,10 @@ def fits(value, schema, whole):
         pairs = [*zip(value, first), *((it, schema.get("items", {})) for it in value[len(first):])]
         return lengths and all(fits(it, of, whole) for it, of in pairs)
     if isinstance(value, dict):
-        known = schema.get("properties", {})
+        known, other = schema.get("properties", {}), schema.get("additionalProperties", True)
         named = all(name in value for name in schema.get("required", []))
-        closed = schema.get("additionalProperties", True) or all(name in known for name in value)
-        return named and closed and all(fits(value[name], known[name], whole) for name in value if name in known)
+        named = named and all(fits(name, schema.get("propertyNames", True), whole) for name in value)
+        return named and all(fits(it, known.get(name, other), whole) for name, it in value.items())
     return True
 
 
