@@ -1,4 +1,5 @@
 # completions of ramseg for fish; made by scripts/check/completions
+set -l beside (realpath (status dirname))
 complete -c ramseg -n __fish_use_subcommand -f
 complete -c ramseg -n __fish_use_subcommand -a run -d 'Replays a scenario that it reads from standard input, and prints the report'
 complete -c ramseg -n __fish_use_subcommand -a trace -d 'Replays a scenario that it reads from standard input, and prints the trace of what was sent'
@@ -16,7 +17,7 @@ complete -c ramseg -n __fish_use_subcommand -a history -d 'Replays a scenario fr
 complete -c ramseg -n __fish_use_subcommand -a check -d 'Judges whether a history that it reads from standard input is linearizable'
 complete -c ramseg -n __fish_use_subcommand -a test -d 'Runs scenarios against what is expected of them'
 complete -c ramseg -n __fish_use_subcommand -a script -d 'Makes a scenario of a script'
-complete -c ramseg -n __fish_use_subcommand -l without -x -a 'acknowledges_again acknowledges_under_first_term acknowledges_undurable choose_counts_from_one closes_at_any_length closes_before_epoch_committed closes_before_its_end closes_before_new_head_placed closes_once_under_an_epoch commits_before_placed commits_in_any_order commits_pair_of_crashed_master counts_replies_of_old_members creates_for_crashed_owner data_before_fence decides_at_first_ready deposed_goes_on digest_leaves_out_replayed enlist_begins_no_attempt forgets_lost_of_shut frees_before_writing frees_open_segments frees_undurable grants_before_durable grants_stale_attempt least_pair_is_last_commit no_freed_mark place_closes_at_any_length read_shows_undurable reads_before_granted replays_any_term restart_forgets_closed restart_keeps_fences restart_keeps_unnamed restarts_versions reuses_epoch stores_after_gather value_limit_2048 versions_start_at_one writes_before_epoch_committed writes_before_old_head_closed writes_before_placed writes_under_uncommitted_epoch writes_while_closing'
+complete -c ramseg -n __fish_use_subcommand -l without -x -a "(cat "(string escape $beside/rules)")"
 complete -c ramseg -n __fish_use_subcommand -l prove
 complete -c ramseg -n '__fish_seen_subcommand_from run' -l format -x -d 'Prints one JSON document in place of the text'
 complete -c ramseg -n '__fish_seen_subcommand_from run' -l heap -x -d 'Keeps the coordinator\'s tablets in a heap of so many bytes, 16 to 1048576'
@@ -72,7 +73,7 @@ complete -c ramseg -n '__fish_seen_subcommand_from heal' -l help -d 'Print help'
 complete -c ramseg -n '__fish_seen_subcommand_from heal' -l output -r -d 'Writes what is told of each file into a folder'
 complete -c ramseg -n '__fish_seen_subcommand_from explain' -l format -x -d 'Prints one JSON document in place of the text'
 complete -c ramseg -n '__fish_seen_subcommand_from explain' -l help -d 'Print help'
-complete -c ramseg -n '__fish_seen_subcommand_from explain' -f -a 'F1 F2 F3 F4 F5 F6 F7 F8 F9 F10 F11 F12 F13 F14 F15 F16 F17 F18 F19 F20 F21 Write Read WriteOk ReadOk Refused Place Append Close Stored Commit CommitOk Enlist Ready List Gather Replicas Plan Fetch Data Recovered Own SplitOk Free start stop suspect decide tick write read deliver settle create split acknowledges_again acknowledges_under_first_term acknowledges_undurable choose_counts_from_one closes_at_any_length closes_before_epoch_committed closes_before_its_end closes_before_new_head_placed closes_once_under_an_epoch commits_before_placed commits_in_any_order commits_pair_of_crashed_master counts_replies_of_old_members creates_for_crashed_owner data_before_fence decides_at_first_ready deposed_goes_on digest_leaves_out_replayed enlist_begins_no_attempt forgets_lost_of_shut frees_before_writing frees_open_segments frees_undurable grants_before_durable grants_stale_attempt least_pair_is_last_commit no_freed_mark place_closes_at_any_length read_shows_undurable reads_before_granted replays_any_term restart_forgets_closed restart_keeps_fences restart_keeps_unnamed restarts_versions reuses_epoch stores_after_gather value_limit_2048 versions_start_at_one writes_before_epoch_committed writes_before_old_head_closed writes_before_placed writes_under_uncommitted_epoch writes_while_closing'
+complete -c ramseg -n '__fish_seen_subcommand_from explain' -f -a "(cat "(string escape $beside/words)")"
 complete -c ramseg -n '__fish_seen_subcommand_from history' -l help -d 'Print help'
 complete -c ramseg -n '__fish_seen_subcommand_from history' -l output -r -d 'Writes what is told of each file into a folder'
 complete -c ramseg -n '__fish_seen_subcommand_from check' -l help -d 'Print help'
