@@ -1,10 +1,11 @@
 //! A client: it finds the owner of a key, and asks again where that is of use.
 
-use crate::protocol::{DONE, NO_VALUE, Op, Reply, Request, UNKNOWN};
+use crate::protocol::{DONE, NO_VALUE, Op, Reply, Request, UNKNOWN, WRONG};
+use crate::reasons::{NO_TABLE, RECOVERING, reason};
 use sevunthi::message::framed;
 use std::collections::HashMap;
-use std::io::{self, Read, Write};
-use std::net::TcpStream;
+use std::io::{self, ErrorKind, Read, Write};
+use std::net::{SocketAddr, TcpStream};
 use std::thread;
 use std::time::{Duration, Instant};
 
@@ -19,8 +20,66 @@ pub struct Target {
     pub hosts: u8,
 }
 
+impl Target {
+    /// Where whoever has this place listens: hosts first, and then the coordinator.
+    pub fn at(&self, place: u8) -> String {
+        format!("{}:{}", self.address, self.port + u16::from(place))
+    }
+
+    fn socket(&self, place: u8) -> io::Result<SocketAddr> {
+        self.at(place).parse().map_err(|_| ErrorKind::InvalidInput.into())
+    }
+
+    /// In words, why nobody was asked for something in this table.
+    pub fn told(&self, missing: Missing, table: u32) -> String {
+        let coordinator = self.at(self.hosts);
+        match missing {
+            Missing::Cluster => {
+                let (first, last) = (self.port, self.port + u16::from(self.hosts));
+                format!("the coordinator at {coordinator} does not answer: nothing listens on ports {first} to {last}")
+            }
+            Missing::Coordinator => {
+                format!("the coordinator at {coordinator} does not answer; --port and --hosts have to be those of `up`")
+            }
+            Missing::NoCoordinator => {
+                format!("who is at {coordinator} is no coordinator; --port and --hosts have to be those of `up`")
+            }
+            Missing::Table => format!("there is no table {table}"),
+            Missing::Owner => format!("refused: {}", reason(RECOVERING)),
+            Missing::Host(index) => format!("host {index} at {} does not answer", self.at(index)),
+        }
+    }
+}
+
+/// Why nobody was asked.
+#[derive(Clone, Copy, Debug, PartialEq, Eq)]
+pub enum Missing {
+    /// Nobody listens: neither the coordinator nor a host.
+    Cluster,
+    /// The coordinator does not answer.
+    Coordinator,
+    /// Who answers in its place is none.
+    NoCoordinator,
+    /// There is no such table.
+    Table,
+    /// The owner has crashed, and nobody owns the key since.
+    Owner,
+    /// The host that owns the key does not answer.
+    Host(u8),
+}
+
+impl Missing {
+    /// Whether it is of no use to wait.
+    fn stays(self) -> bool {
+        matches!(self, Missing::Cluster | Missing::NoCoordinator | Missing::Table)
+    }
+}
+
 /// How long the coordinator's answer is waited for.
 const PATIENCE_WITH_COORDINATOR: Duration = Duration::from_millis(300);
+
+/// How long a connection is waited for.
+const CONNECTING: Duration = Duration::from_millis(500);
 
 /// The host that owned a table's keys when the coordinator was asked.
 #[derive(Clone, Copy)]
@@ -41,6 +100,8 @@ pub enum Outcome {
     Unknown,
     /// It was refused, by the number behind the F, and was not done.
     Refused(u8),
+    /// Nobody was asked, and it was not done.
+    Unasked(Missing),
 }
 
 /// A client. It asks one thing at a time. A write that is asked again is a new write: so a put whose answer is lost is
@@ -87,11 +148,18 @@ impl Client {
     /// Asks the owner, and whoever is the owner then, until it is done, is unknown, or one has waited long enough.
     fn ask(&mut self, op: Op, table: u32, key: u64, value: &[u8]) -> Outcome {
         let began = Instant::now();
-        let mut last = Outcome::Refused(2);
+        let mut last = Outcome::Unasked(Missing::Coordinator);
         while began.elapsed() < self.patience {
-            let Some(owner) = self.owner(table, key) else {
-                thread::sleep(Duration::from_millis(20));
-                continue;
+            let owner = match self.owner(table, key) {
+                Ok(owner) => owner,
+                Err(missing) => {
+                    last = Outcome::Unasked(missing);
+                    if missing.stays() {
+                        return last;
+                    }
+                    thread::sleep(Duration::from_millis(20));
+                    continue;
+                }
             };
             match self.call(owner, op, table, key, value) {
                 Ok(Reply { code: code @ (DONE | NO_VALUE), version, value, .. }) => {
@@ -103,7 +171,7 @@ impl Client {
                 Ok(Reply { code: code @ (2..=5), .. }) => last = Outcome::Refused(code),
                 Ok(Reply { code: UNKNOWN, .. }) => last = Outcome::Unknown,
                 Ok(Reply { code, .. }) => return Outcome::Refused(code),
-                Err(Lost::Before) => last = Outcome::Refused(2),
+                Err(Lost::Before) => last = Outcome::Unasked(Missing::Host(owner)),
                 Err(Lost::After) => last = Outcome::Unknown,
             }
             if let Some(owner) = self.owners.get_mut(&table) {
@@ -119,24 +187,35 @@ impl Client {
 
     /// The host that owns the key, as the coordinator said last. Where it is in doubt the coordinator is asked again;
     /// where that does not answer, the last one is tried once more.
-    fn owner(&mut self, table: u32, key: u64) -> Option<u8> {
+    pub fn owner(&mut self, table: u32, key: u64) -> Result<u8, Missing> {
         let known = self.owners.get(&table).copied();
         if let Some(Owner { index, is_doubted: false }) = known {
-            return Some(index);
+            return Ok(index);
         }
         let (coordinator, wait) = (self.target.hosts, self.wait);
         self.wait = wait.min(PATIENCE_WITH_COORDINATOR);
         let reply = self.call(coordinator, Op::Owner, table, key, &[]);
         self.wait = wait;
-        match reply {
-            Ok(reply) if reply.code == DONE => {
-                let index = reply.version as u8;
+        match reply.map(|reply| (reply.code, reply.version as u8)) {
+            Ok((DONE, index)) => {
                 self.owners.insert(table, Owner { index, is_doubted: false });
-                Some(index)
+                Ok(index)
             }
-            Ok(_) => None,
-            Err(_) => known.map(|owner| owner.index),
+            Ok((NO_TABLE, _)) => Err(Missing::Table),
+            Ok((WRONG, _)) => Err(Missing::NoCoordinator),
+            Ok(_) => Err(Missing::Owner),
+            Err(lost) => known.map(|owner| owner.index).ok_or_else(|| self.silent(lost)),
         }
+    }
+
+    /// Who does not answer, where the coordinator does not.
+    pub fn silent(&self, lost: Lost) -> Missing {
+        let refuses = |place| {
+            let stream = self.target.socket(place).and_then(|at| TcpStream::connect_timeout(&at, CONNECTING));
+            stream.is_err_and(|error| error.kind() == ErrorKind::ConnectionRefused)
+        };
+        let is_alone = lost == Lost::Before && (0..=self.target.hosts).all(refuses);
+        if is_alone { Missing::Cluster } else { Missing::Coordinator }
     }
 
     /// Asks the coordinator.
@@ -172,9 +251,7 @@ pub enum Lost {
 
 /// Connects as a client to whoever has this place.
 pub fn connect(target: &Target, place: u8) -> io::Result<TcpStream> {
-    let address = format!("{}:{}", target.address, target.port + u16::from(place));
-    let address = address.parse().map_err(|_| io::ErrorKind::InvalidInput)?;
-    let mut stream = TcpStream::connect_timeout(&address, Duration::from_millis(500))?;
+    let mut stream = TcpStream::connect_timeout(&target.socket(place)?, CONNECTING)?;
     stream.set_nodelay(true)?;
     stream.write_all(b"C")?;
     Ok(stream)
@@ -192,7 +269,7 @@ fn exchange(stream: &mut TcpStream, request: &[u8], number: u64, wait: Duration)
         }
         let mut more = [0; 8192];
         match stream.read(&mut more)? {
-            0 => return Err(io::ErrorKind::UnexpectedEof.into()),
+            0 => return Err(ErrorKind::UnexpectedEof.into()),
             count => bytes.extend_from_slice(&more[..count]),
         }
     }
