@@ -4,7 +4,7 @@ use crate::client::{Client, Target, connect};
 use crate::etcd::Etcd;
 use crate::options::Options;
 use crate::protocol::{DONE, NO_VALUE, Op, Reply, Request};
-use crate::reasons::reason;
+use crate::reasons::{NOT_OWNER, reason};
 use sevunthi::message::u32_at;
 use std::collections::{BTreeMap, VecDeque};
 use std::fs;
@@ -121,7 +121,8 @@ fn tell(mut measured: Measured, clients: usize, used: Option<f64>) -> bool {
         each.unwrap_or_default()
     );
     for (code, count) in &measured.refused {
-        say!("{count} refused: {}", reason(*code));
+        let hint = if *code == NOT_OWNER { "; only who owns key 0 is asked" } else { "" };
+        say!("{count} refused: {}{hint}", reason(*code));
     }
     if let Some(why) = &measured.ended {
         eprintln!("sevunthi: after {:.1} s: {why}", measured.seconds);

@@ -61,6 +61,7 @@ impl Command {
     fn check(&self, words: &[String]) -> Result<(), String> {
         let needed = self.words.iter().take_while(|name| !name.starts_with('[')).count();
         if let Some(missing) = self.words[..needed].get(words.len()) {
+            let missing = missing.trim_end_matches('.');
             return Err(format!("{missing} is missing: {} {}", self.name, self.words.join(" ")));
         }
         let takes_any = self.words.last().is_some_and(|name| name.ends_with(".."));
@@ -203,7 +204,7 @@ mod tests {
             ("status 1", "status takes no words, and \"1\" is too much"),
             ("put 1 5", "VALUE is missing: put TABLE KEY VALUE"),
             ("create", "TABLE is missing: create TABLE [HOST]"),
-            ("trace", "FILE.. is missing: trace FILE.."),
+            ("trace", "FILE is missing: trace FILE.."),
             ("frob", "there is no command frob: `sevunthi help` shows them"),
         ] {
             assert_eq!(read(line).err().as_deref(), Some(why), "{line}");
@@ -213,7 +214,7 @@ mod tests {
 
     #[test]
     fn numbers_have_bounds() {
-        let factor = |line| read(line).and_then(|options| options.between("--factor", 2, 1, 5));
+        let factor = |line: &str| read(line).and_then(|options| options.between("--factor", 2, 1, 5));
         assert_eq!(factor("up"), Ok(2));
         assert_eq!(factor("up --factor 5"), Ok(5));
         for wrong in ["0", "6", "abc", "-1", "900"] {

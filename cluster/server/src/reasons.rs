@@ -2,6 +2,8 @@
 
 use crate::protocol::{NO_VALUE, UNKNOWN, WRONG};
 
+/// The host does not own the key.
+pub const NOT_OWNER: u8 = 2;
 /// No server may be asked: none is up, or the one that is named is not.
 pub const NOT_READY: u8 = 11;
 /// There is no such table.
