@@ -90,8 +90,8 @@ pub struct Cluster {
 }
 
 impl Cluster {
-    /// A cluster in this folder, of which nothing runs yet, and which nobody else may run meanwhile. The first one there
-    /// makes the secret.
+    /// A cluster in this folder, of which nothing runs yet, and which nobody else may run meanwhile. The first one
+    /// there makes the secret.
     pub fn new(target: Target, folder: &Path, more: Vec<String>) -> Result<Cluster, String> {
         let told = |error: std::io::Error| format!("{}: {error}", folder.display());
         fs::create_dir_all(folder).map_err(told)?;
