@@ -33,17 +33,18 @@ impl Target {
     /// In words, why nobody was asked for something in this table.
     pub fn told(&self, missing: Missing, table: u32) -> String {
         let coordinator = self.at(self.hosts);
+        let hint = "; --port and --hosts have to be those of `up`";
         match missing {
             Missing::Cluster => {
                 let (first, last) = (self.port, self.port + u16::from(self.hosts));
                 format!("the coordinator at {coordinator} does not answer: nothing listens on ports {first} to {last}")
             }
-            Missing::Coordinator => {
-                format!("the coordinator at {coordinator} does not answer; --port and --hosts have to be those of `up`")
+            Missing::Coordinator => format!("the coordinator at {coordinator} does not answer{hint}"),
+            Missing::NoCoordinator => format!("who is at {coordinator} is no coordinator{hint}"),
+            Missing::Elsewhere(place) => {
+                format!("the coordinator is at {}, and not at {coordinator}{hint}", self.at(place))
             }
-            Missing::NoCoordinator => {
-                format!("who is at {coordinator} is no coordinator; --port and --hosts have to be those of `up`")
-            }
+            Missing::NoHost(index) => format!("who is at {} is not host {index}{hint}", self.at(index)),
             Missing::Table => format!("there is no table {table}"),
             Missing::Owner => format!("refused: {}", reason(RECOVERING)),
             Missing::Host(index) => format!("host {index} at {} does not answer", self.at(index)),
@@ -60,6 +61,10 @@ pub enum Missing {
     Coordinator,
     /// Who answers in its place is none.
     NoCoordinator,
+    /// It has another place.
+    Elsewhere(u8),
+    /// Who answers in the place of the host that owns the key is none.
+    NoHost(u8),
     /// There is no such table.
     Table,
     /// The owner has crashed, and nobody owns the key since.
@@ -70,8 +75,8 @@ pub enum Missing {
 
 impl Missing {
     /// Whether it is of no use to wait.
-    fn stays(self) -> bool {
-        matches!(self, Missing::Cluster | Missing::NoCoordinator | Missing::Table)
+    pub fn stays(self) -> bool {
+        matches!(self, Missing::Cluster | Missing::NoCoordinator | Missing::Elsewhere(_) | Missing::Table)
     }
 }
 
@@ -170,6 +175,7 @@ impl Client {
                 }
                 Ok(Reply { code: code @ (2..=5), .. }) => last = Outcome::Refused(code),
                 Ok(Reply { code: UNKNOWN, .. }) => last = Outcome::Unknown,
+                Ok(Reply { code: WRONG, .. }) => return Outcome::Unasked(Missing::NoHost(owner)),
                 Ok(Reply { code, .. }) => return Outcome::Refused(code),
                 Err(Lost::Before) => last = Outcome::Unasked(Missing::Host(owner)),
                 Err(Lost::After) => last = Outcome::Unknown,
@@ -192,10 +198,7 @@ impl Client {
         if let Some(Owner { index, is_doubted: false }) = known {
             return Ok(index);
         }
-        let (coordinator, wait) = (self.target.hosts, self.wait);
-        self.wait = wait.min(PATIENCE_WITH_COORDINATOR);
-        let reply = self.call(coordinator, Op::Owner, table, key, &[]);
-        self.wait = wait;
+        let reply = self.ask_briefly(self.target.hosts, table, key);
         match reply.map(|reply| (reply.code, reply.version as u8)) {
             Ok((DONE, index)) => {
                 self.owners.insert(table, Owner { index, is_doubted: false });
@@ -204,18 +207,40 @@ impl Client {
             Ok((NO_TABLE, _)) => Err(Missing::Table),
             Ok((WRONG, _)) => Err(Missing::NoCoordinator),
             Ok(_) => Err(Missing::Owner),
-            Err(lost) => known.map(|owner| owner.index).ok_or_else(|| self.silent(lost)),
+            Err(lost) => match known {
+                Some(owner) => Ok(owner.index),
+                None => Err(self.silent(lost)),
+            },
         }
     }
 
-    /// Who does not answer, where the coordinator does not.
-    pub fn silent(&self, lost: Lost) -> Missing {
+    /// What is known where the coordinator does not answer. Where nobody listens at its port it may have another one.
+    pub fn silent(&mut self, lost: Lost) -> Missing {
+        if lost == Lost::After {
+            return Missing::Coordinator;
+        }
         let refuses = |place| {
             let stream = self.target.socket(place).and_then(|at| TcpStream::connect_timeout(&at, CONNECTING));
             stream.is_err_and(|error| error.kind() == ErrorKind::ConnectionRefused)
         };
-        let is_alone = lost == Lost::Before && (0..=self.target.hosts).all(refuses);
-        if is_alone { Missing::Cluster } else { Missing::Coordinator }
+        if (0..=self.target.hosts).all(refuses) {
+            return Missing::Cluster;
+        }
+        let asked: Vec<u8> = (1..self.target.hosts).rev().collect();
+        let is_coordinator = |place: &u8| {
+            let reply = self.ask_briefly(*place, 0, 0);
+            reply.is_ok_and(|reply| matches!(reply.code, DONE | NO_TABLE | RECOVERING))
+        };
+        asked.into_iter().find(is_coordinator).map_or(Missing::Coordinator, Missing::Elsewhere)
+    }
+
+    /// Asks whoever has this place who owns a key, as one asks the coordinator.
+    fn ask_briefly(&mut self, place: u8, table: u32, key: u64) -> Result<Reply, Lost> {
+        let wait = self.wait;
+        self.wait = wait.min(PATIENCE_WITH_COORDINATOR);
+        let reply = self.call(place, Op::Owner, table, key, &[]);
+        self.wait = wait;
+        reply
     }
 
     /// Asks the coordinator.

@@ -66,12 +66,16 @@ All but trace and storm take --address 127.0.0.1, --port 7300, the port of host 
 An option's value may also stand behind a sign, as in --port=7300.";
 
 fn main() -> ExitCode {
-    let mut words = std::env::args().skip(1);
-    let Some(command) = words.next() else {
-        eprintln!("{USAGE}");
+    let words: Result<Vec<String>, _> = std::env::args_os().skip(1).map(std::ffi::OsString::into_string).collect();
+    let Ok(mut words) = words else {
+        eprintln!("sevunthi: words have to be UTF-8");
         return ExitCode::from(2);
     };
-    let words: Vec<String> = words.collect();
+    if words.is_empty() {
+        eprintln!("{USAGE}");
+        return ExitCode::from(2);
+    }
+    let command = words.remove(0);
     let asks_for_help = words.iter().take_while(|word| *word != "--").any(|word| word == "--help");
     if ["help", "--help", "-h"].contains(&command.as_str()) || asks_for_help {
         say!("{USAGE}");
@@ -166,7 +170,10 @@ fn change(command: &str, options: &Options) -> Result<bool, String> {
         return Err(format!("there is no host {key}: they are 0 to {}", target.hosts - 1));
     }
     // a host would say of either that it is no request
-    if let Err(missing @ (Missing::Cluster | Missing::NoCoordinator)) = client.owner(table, 0) {
+    if let Err(missing) = client.owner(table, 0)
+        && missing.stays()
+        && missing != Missing::Table
+    {
         return not_done(&target.told(missing, table));
     }
     match client.call(target.hosts, op, table, key, &[]).map(|reply| reply.code) {

@@ -5,7 +5,7 @@ use crate::core::{Config, tell};
 use crate::options::Options;
 use crate::protocol::Op;
 use crate::{coordinator, host};
-use std::fs::{self, File, OpenOptions};
+use std::fs::{self, File, OpenOptions, TryLockError};
 use std::io::{ErrorKind, Read, Write};
 use std::net::TcpListener;
 use std::os::unix::fs::OpenOptionsExt;
@@ -97,7 +97,10 @@ impl Cluster {
         fs::create_dir_all(folder).map_err(told)?;
         let folder = folder.canonicalize().map_err(told)?;
         let lock = OpenOptions::new().create(true).append(true).open(folder.join("lock")).map_err(told)?;
-        lock.try_lock().map_err(|_| format!("{}: another `up` runs in this folder", folder.display()))?;
+        lock.try_lock().map_err(|error| match error {
+            TryLockError::WouldBlock => format!("{}: a cluster runs in this folder already", folder.display()),
+            TryLockError::Error(error) => told(error),
+        })?;
         let secret = folder.join("secret");
         if !secret.exists() {
             let mut bytes = [0; SECRET];
