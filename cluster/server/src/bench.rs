@@ -1,6 +1,6 @@
 //! How fast writes and reads are.
 
-use crate::client::{Client, Target, connect};
+use crate::client::{Client, Missing, Target, connect};
 use crate::etcd::Etcd;
 use crate::options::Options;
 use crate::protocol::{DONE, NO_VALUE, Op, Reply, Request};
@@ -92,15 +92,19 @@ pub fn run(options: &Options, target: &Target) -> Result<bool, String> {
     let (stream, mut talk): (TcpStream, Box<dyn Talk>) = if let Some(etcd) = etcd {
         (TcpStream::connect(etcd).map_err(|error| format!("{etcd}: {error}"))?, Box::new(Etcd::new(value)))
     } else {
-        let owner = match Client::new(target.clone()).owner(table, 0) {
-            Ok(owner) => owner,
+        let owner = Client::new(target.clone()).await_owner(table, 0);
+        match owner.and_then(|owner| connect(target, owner).map_err(|_| Missing::Host(owner))) {
+            Ok(stream) => (stream, Box::new(Host { op, table, value })),
             Err(missing) => return crate::not_done(&target.told(missing, table)),
-        };
-        (connect(target, owner).map_err(told)?, Box::new(Host { op, table, value }))
+        }
     };
     stream.set_nodelay(true).map_err(told)?;
-    let spent = || options.given("--processes").map(|pids| pids.split(',').map(processor_seconds).sum::<f64>());
+    let pids = options.given("--processes");
+    let spent = || pids.and_then(|pids| pids.split(',').map(processor_seconds).sum::<Option<f64>>());
     let before = spent();
+    if let Some(pids) = pids.filter(|_| before.is_none()) {
+        return Err(format!("--processes has numbers of processes, with commas between them, and not {pids}"));
+    }
     let measured = ask_all(stream, talk.as_mut(), &load)?;
     let used = spent().zip(before).map(|(now, before)| now - before);
     Ok(tell(measured, load.clients, used))
@@ -214,10 +218,35 @@ fn ask_all(mut stream: TcpStream, talk: &mut dyn Talk, load: &Load) -> Result<Me
     Ok(measured)
 }
 
-/// The processor time that a process has used so far.
-fn processor_seconds(process: &str) -> f64 {
-    let text = fs::read_to_string(format!("/proc/{process}/stat")).unwrap_or_default();
-    let behind = text.rsplit(") ").next().unwrap_or_default();
-    let words: Vec<f64> = behind.split(' ').filter_map(|word| word.parse().ok()).collect();
-    if words.len() < 13 { 0.0 } else { (words[10] + words[11]) / 100.0 }
+/// The processor time that a process has used so far, if it is there.
+fn processor_seconds(process: &str) -> Option<f64> {
+    let process: u32 = process.parse().ok()?;
+    let text = fs::read_to_string(format!("/proc/{process}/stat")).ok()?;
+    let words: Vec<f64> = text.rsplit(") ").next()?.split(' ').filter_map(|word| word.parse().ok()).collect();
+    Some((words.get(10)? + words.get(11)?) / 100.0)
+}
+
+#[cfg(test)]
+mod tests {
+    use super::*;
+    use std::net::TcpListener;
+
+    /// A server that does one request, refuses the next, and goes.
+    #[test]
+    fn what_was_measured_is_kept_where_the_server_goes() -> std::io::Result<()> {
+        let listener = TcpListener::bind("127.0.0.1:0")?;
+        let stream = TcpStream::connect(listener.local_addr()?)?;
+        let (mut server, _) = listener.accept()?;
+        let mut out = Vec::new();
+        Reply::bare(DONE, 0).put(&mut out);
+        Reply::bare(NOT_OWNER, 1).put(&mut out);
+        server.write_all(&out)?;
+        server.shutdown(std::net::Shutdown::Write)?;
+        let load = Load { clients: 2, seconds: 60.0, most: u64::MAX, keys: 10 };
+        let mut talk = Host { op: Op::Get, table: 1, value: Vec::new() };
+        let measured = ask_all(stream, &mut talk, &load).expect("it begins");
+        assert_eq!((measured.latencies.len(), measured.refused), (1, BTreeMap::from([(NOT_OWNER, 1)])));
+        assert_eq!(measured.ended.as_deref(), Some("the server has gone"));
+        Ok(())
+    }
 }

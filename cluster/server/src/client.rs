@@ -214,6 +214,19 @@ impl Client {
         }
     }
 
+    /// The same, tried until it is known, or it is of no use to wait, or one has waited long enough.
+    pub fn await_owner(&mut self, table: u32, key: u64) -> Result<u8, Missing> {
+        let began = Instant::now();
+        loop {
+            match self.owner(table, key) {
+                Err(missing) if !missing.stays() && began.elapsed() < self.patience => {
+                    thread::sleep(Duration::from_millis(20));
+                }
+                known => return known,
+            }
+        }
+    }
+
     /// What is known where the coordinator does not answer. Where nobody listens at its port it may have another one.
     pub fn silent(&mut self, lost: Lost) -> Missing {
         if lost == Lost::After {
@@ -297,5 +310,83 @@ fn exchange(stream: &mut TcpStream, request: &[u8], number: u64, wait: Duration)
             0 => return Err(ErrorKind::UnexpectedEof.into()),
             count => bytes.extend_from_slice(&more[..count]),
         }
+    }
+}
+
+#[cfg(test)]
+mod tests {
+    use super::*;
+    use std::net::TcpListener;
+
+    /// A cluster at an address of loopback that only this process and this test use.
+    fn target(test: u8, hosts: u8) -> Target {
+        let [.., high, low] = std::process::id().to_be_bytes();
+        Target { address: format!("127.{}.{high}.{low}", 100 + test), port: 7300, hosts }
+    }
+
+    /// Answers each request at this place with this code.
+    fn answer(target: &Target, place: u8, code: u8) -> io::Result<()> {
+        let listener = TcpListener::bind(target.at(place))?;
+        thread::spawn(move || {
+            for mut stream in listener.incoming().flatten() {
+                thread::spawn(move || -> io::Result<()> {
+                    stream.read_exact(&mut [0])?;
+                    loop {
+                        let mut request = [0; 25];
+                        stream.read_exact(&mut request)?;
+                        let number = Request::read(&request[4..]).map_or(0, |request| request.number);
+                        let mut out = Vec::new();
+                        Reply::bare(code, number).put(&mut out);
+                        stream.write_all(&out)?;
+                    }
+                });
+            }
+        });
+        Ok(())
+    }
+
+    /// What becomes of a read, at once.
+    fn get(target: &Target) -> Outcome {
+        let began = Instant::now();
+        let outcome = Client::new(target.clone()).get(9, 5);
+        assert!(began.elapsed() < Duration::from_secs(5), "{outcome:?}");
+        outcome
+    }
+
+    #[test]
+    fn where_nobody_listens_that_is_said() {
+        let target = target(0, 4);
+        assert_eq!(get(&target), Outcome::Unasked(Missing::Cluster));
+        let told = target.told(Missing::Cluster, 9);
+        assert!(told.ends_with(":7304 does not answer: nothing listens on ports 7300 to 7304"), "{told}");
+    }
+
+    #[test]
+    fn a_table_that_is_not_there_is_not_waited_for() -> io::Result<()> {
+        let target = target(1, 2);
+        answer(&target, 2, NO_TABLE)?;
+        assert_eq!(get(&target), Outcome::Unasked(Missing::Table));
+        assert_eq!(target.told(Missing::Table, 9), "there is no table 9");
+        Ok(())
+    }
+
+    #[test]
+    fn who_is_at_another_place_is_told_apart() -> io::Result<()> {
+        let target = target(2, 3);
+        (0..3).try_for_each(|host| answer(&target, host, WRONG))?;
+        answer(&target, 3, NO_TABLE)?;
+        assert_eq!(get(&Target { hosts: 2, ..target.clone() }), Outcome::Unasked(Missing::NoCoordinator));
+        assert_eq!(get(&Target { hosts: 5, ..target.clone() }), Outcome::Unasked(Missing::Elsewhere(3)));
+        Ok(())
+    }
+
+    #[test]
+    fn an_owner_that_is_no_host_is_told_apart() -> io::Result<()> {
+        // the coordinator names host 0
+        let target = target(3, 1);
+        answer(&target, 0, WRONG)?;
+        answer(&target, 1, DONE)?;
+        assert_eq!(get(&target), Outcome::Unasked(Missing::NoHost(0)));
+        Ok(())
     }
 }

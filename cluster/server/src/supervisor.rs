@@ -277,3 +277,39 @@ fn glance(target: &Target) -> String {
     }
     now
 }
+
+#[cfg(test)]
+mod tests {
+    use super::*;
+    use crate::options::Command as Words;
+
+    /// Why `up` does not begin with these words.
+    fn why(line: &str) -> String {
+        let words = line.split(' ').map(String::from);
+        let begun = Words::named("up").and_then(|command| Options::read(command, words)).and_then(|words| up(&words));
+        begun.expect_err("it begins")
+    }
+
+    #[test]
+    fn a_cluster_that_cannot_begin_says_why() -> Result<(), String> {
+        for (words, said) in [
+            ("--hosts 2", "factor 2 needs 3 hosts, a master and 2 backups, and --hosts is 2"),
+            ("--factor 9", "--factor is a number of 1 to 5, and not 9"),
+            ("--segment 0", "--segment is a number of 1 to 1024, and not 0"),
+            ("--tick abc", "--tick is a number of 1 to 60000, and not abc"),
+            ("--address localhost", "--address is one such as 127.0.0.1, and not localhost"),
+            ("--port 65535", "--port is a number of 1 to 65531, and not 65535"),
+        ] {
+            assert_eq!(why(words), said);
+        }
+        let folder = std::env::temp_dir().join(format!("sevunthi-up-{}", std::process::id()));
+        let taken = TcpListener::bind("127.0.0.1:0").and_then(|listener| Ok((listener.local_addr()?.port(), listener)));
+        let (port, _listener) = taken.map_err(|error| error.to_string())?;
+        let line = format!("--folder {} --port {}", folder.display(), port.min(u16::MAX - 4));
+        assert!(why(&line).starts_with("nobody can listen at 127.0.0.1:"));
+        let target = Target { address: "127.0.0.1".to_string(), port, hosts: 4 };
+        let _other = Cluster::new(target, &folder, Vec::new())?;
+        assert!(why(&line).ends_with(": a cluster runs in this folder already"));
+        fs::remove_dir_all(&folder).map_err(|error| error.to_string())
+    }
+}
