@@ -139,6 +139,7 @@ fn ask(command: &str, options: &Options) -> Result<bool, String> {
     let target = target(options)?;
     let mut client = Client::new(target.clone());
     client.patience = Duration::from_millis(options.between("--patience", 10_000, 1, 3_600_000)?);
+    client.wait = client.wait.min(client.patience);
     let (table, key) = (table_of(options)?, key_of(options)?);
     let outcome = match command {
         "get" => client.get(table, key),
