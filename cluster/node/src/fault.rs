@@ -3,7 +3,8 @@
 use std::error::Error;
 use std::fmt;
 
-/// Why a call of a node has done nothing. After each the node is as before.
+/// Why a call of a node has done nothing. After each the node is as before; but where
+/// [`Node::start`](crate::Node::start) fails the server may be stopped.
 #[derive(Clone, Copy, Debug, PartialEq, Eq)]
 pub enum Fault {
     /// Memory was refused.

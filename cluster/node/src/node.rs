@@ -144,6 +144,7 @@ impl Node {
     }
 
     /// Starts the host's server anew: stops it, if it runs, and starts it with all open replicas that the host has.
+    /// Where it fails the server may be stopped: [`Info::runs`] says whether it is.
     pub fn start(&mut self) -> Result<(), Fault> {
         Fault::of(raw::sevunthi_start(&mut self.raw))
     }

@@ -3,7 +3,8 @@
 use crate::core::{BEAT, Config, Core, Frame, tell};
 use crate::cut_off::{CutOff, Sight};
 use crate::events::{Event, EventReceiver, TURN};
-use crate::protocol::{DONE, Op, Reply, Request, WRONG};
+use crate::protocol::{ANY_HOST, DONE, Op, Reply, Request, WRONG};
+use crate::reasons::{NO_TABLE, NOT_READY, RECOVERING};
 use crate::wire::NOT_UP;
 use sevunthi::message::{framed, kind};
 use sevunthi::{Address, Answer, Due, Envelope, Fault, Id, Work};
@@ -11,9 +12,6 @@ use std::collections::{HashMap, HashSet};
 use std::fmt::Write as _;
 use std::io;
 use std::time::{Duration, Instant};
-
-/// A refusal where no tablet holds the key, or its owner has crashed.
-const NO_OWNER: u8 = 2;
 
 /// The coordinator.
 struct Coordinator {
@@ -215,8 +213,8 @@ impl Coordinator {
             Op::Create => reply.code = self.create(request.table, key),
             Op::Split if key >> 63 == 0 => reply.code = self.work(Work::Split { table: request.table, at: 2 * key }),
             Op::Owner if key >> 63 == 0 => match self.owner(request.table, 2 * key) {
-                Some(id) => reply.version = u64::from(id.index),
-                None => reply.code = NO_OWNER,
+                Ok(id) => reply.version = u64::from(id.index),
+                Err(code) => reply.code = code,
             },
             Op::Status => reply.value = self.text().into_bytes(),
             Op::Fail if self.core.config.faults => self.core.fail(request.table, key),
@@ -225,17 +223,17 @@ impl Coordinator {
         self.core.answer(client, &reply);
     }
 
-    /// Creates a table at this host, or at the one that owns least, where there is no such host.
+    /// Creates a table at the host of this index, or, for `ANY_HOST`, at the one that owns least.
     fn create(&mut self, table: u32, index: u64) -> u8 {
         let servers = self.core.node.servers().unwrap_or_default();
         let tablets = self.core.node.tablets().unwrap_or_default();
-        let up = || servers.iter().filter(|(_, is_up)| *is_up).map(|(id, _)| *id);
-        let named = up().find(|id| u64::from(id.index) == index);
+        let mut up = servers.iter().filter(|(_, is_up)| *is_up).map(|(id, _)| *id);
         let owns = |id: &Id| tablets.iter().filter(|tablet| tablet.owner == *id).count();
-        match named.or_else(|| up().min_by_key(owns)) {
-            Some(owner) => self.work(Work::Create { table, owner }),
-            None => NO_OWNER,
-        }
+        let owner = match index {
+            ANY_HOST => up.min_by_key(owns),
+            index => up.find(|id| u64::from(id.index) == index),
+        };
+        owner.map_or(NOT_READY, |owner| self.work(Work::Create { table, owner }))
     }
 
     /// Gives the node a work, and says by which code it was refused.
@@ -248,11 +246,15 @@ impl Coordinator {
         self.refused.take().unwrap_or(DONE)
     }
 
-    /// Who owns a key. One that has crashed is not named: clients would wait for it.
-    fn owner(&mut self, table: u32, key: u64) -> Option<Id> {
-        let tablets = self.core.node.tablets().ok()?;
+    /// Who owns a key, or the code of a refusal. One that has crashed is not named: clients would wait for it.
+    fn owner(&mut self, table: u32, key: u64) -> Result<Id, u8> {
+        let tablets = self.core.node.tablets().map_err(|_| RECOVERING)?;
         let holds = |tablet: &&sevunthi::Tablet| tablet.table == table && tablet.lo <= key && key <= tablet.hi;
-        tablets.iter().find(holds).filter(|tablet| !tablet.crashed).map(|tablet| tablet.owner)
+        match tablets.iter().find(holds) {
+            Some(tablet) if tablet.crashed => Err(RECOVERING),
+            Some(tablet) => Ok(tablet.owner),
+            None => Err(NO_TABLE),
+        }
     }
 
     /// All that is there is written, made safe and sent, until nothing waits: who asks is told what came of it.

@@ -1,6 +1,7 @@
 //! Puts to an etcd server, for a comparison: as much of HTTP/2 and of gRPC as a put takes, and no more.
 
 use crate::bench::Talk;
+use crate::protocol::{DONE, UNKNOWN};
 
 /// What a client says first: the preface, settings with the largest window for each stream, and the same for the
 /// connection.
@@ -84,7 +85,7 @@ impl Talk for Etcd {
         put_frame(DATA, ENDS_STREAM, stream, &message, out);
     }
 
-    fn take(&mut self, bytes: &[u8], answers: &mut Vec<(u64, bool)>, out: &mut Vec<u8>) -> Result<usize, String> {
+    fn take(&mut self, bytes: &[u8], answers: &mut Vec<(u64, u8)>, out: &mut Vec<u8>) -> Result<usize, String> {
         let mut used = 0;
         while let Some(head) = bytes.get(used..used + 9) {
             let length = usize::from(head[0]) << 16 | usize::from(head[1]) << 8 | usize::from(head[2]);
@@ -104,7 +105,8 @@ impl Talk for Etcd {
                 _ => {}
             }
             if ends {
-                answers.push((u64::from(stream / 2), self.answered.remove(&stream)));
+                let code = if self.answered.remove(&stream) { DONE } else { UNKNOWN };
+                answers.push((u64::from(stream / 2), code));
             }
             used += 9 + length;
         }

@@ -240,7 +240,8 @@ fn whole(bytes: &[u8], most: usize) -> Option<usize> {
 
 /// Listens, and hands over what comes. Who asks by HTTP is shown the text.
 pub fn listen(address: &str, secret: Vec<u8>, events: EventSender, text: Arc<Mutex<String>>) -> io::Result<()> {
-    let listener = TcpListener::bind(address)?;
+    let listener =
+        TcpListener::bind(address).map_err(|error| io::Error::new(error.kind(), format!("{address}: {error}")))?;
     thread::spawn(move || {
         for (number, stream) in listener.incoming().enumerate() {
             let Ok(stream) = stream else { continue };

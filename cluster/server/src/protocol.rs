@@ -14,7 +14,7 @@ pub enum Op {
     Get,
     /// Of a host: read it at once; a server that was replaced may answer what is stale.
     GetFast,
-    /// Of the coordinator: create a table, at the host whose index is the key.
+    /// Of the coordinator: create a table, at the host whose index is the key, or, for [`ANY_HOST`], at any.
     Create,
     /// Of the coordinator: split a table before a key.
     Split,
@@ -77,6 +77,9 @@ impl<'a> Request<'a> {
         Request { value: self.value.into_owned().into(), ..bare }
     }
 }
+
+/// A table is made at whichever host owns least.
+pub const ANY_HOST: u64 = u64::MAX;
 
 /// It was done.
 pub const DONE: u8 = 0;

@@ -130,12 +130,13 @@ impl Fault {
 
 /// Runs a storm: prints each fault, and leaves the records and the clients' history in the folder.
 pub fn run(options: &Options) -> Result<bool, String> {
-    let folder: PathBuf = options.get("--folder", String::new())?.into();
+    let folder: PathBuf = options.needed("--folder")?.into();
     let seed: u64 = options.get("--seed", 1)?;
     let seconds: u64 = options.get("--seconds", 60)?;
     let most = Duration::from_millis(options.get("--gap", 3000)?);
     let deck = Fault::deck(&options.get("--only", String::new())?)?;
-    let target = Target { address: "127.0.0.1".into(), port: options.get("--port", 7600)?, hosts: 4 };
+    let target =
+        Target { address: "127.0.0.1".into(), port: options.between("--port", 7600, 1, u16::MAX - 4)?, hosts: 4 };
     let mut storm = Storm::begin(seed, target.clone(), folder.clone(), deck)?;
     let (ends, history) = (Arc::new(AtomicBool::new(false)), Arc::new(Mutex::new(String::new())));
     let machine = Machine::new(&folder).map_err(|error| error.to_string())?;

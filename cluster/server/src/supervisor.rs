@@ -5,13 +5,14 @@ use crate::core::{Config, tell};
 use crate::options::Options;
 use crate::protocol::Op;
 use crate::{coordinator, host};
-use std::fs::{self, File, OpenOptions};
-use std::io::{Read, Write};
+use std::fs::{self, File, OpenOptions, TryLockError};
+use std::io::{ErrorKind, Read, Write};
+use std::net::TcpListener;
 use std::os::unix::fs::OpenOptionsExt;
 use std::path::{Path, PathBuf};
 use std::process::{Child, Command, Stdio};
 use std::thread;
-use std::time::Duration;
+use std::time::{Duration, Instant};
 
 /// How many bytes a secret has.
 const SECRET: usize = 32;
@@ -23,29 +24,14 @@ const TUNABLES: (&str, &str) = ("GLIBC_TUNABLES", "glibc.malloc.tcache_count=800
 
 /// Runs one node, until its input ends: whoever started it has then ended.
 pub fn serve(options: &Options) -> Result<(), String> {
-    let folder: PathBuf = options.get("--folder", String::new())?.into();
-    let secret: PathBuf = options.get("--secret", String::new())?.into();
-    let Target { address, port, hosts } = crate::target(options)?;
-    let index = options.has("--index").then(|| options.get("--index", 0)).transpose()?;
-    if index.is_some_and(|index: u8| hosts <= index) {
-        return Err(format!("--index is below {hosts}, the number of hosts"));
-    }
-    let config = Config {
-        index,
-        hosts,
-        address,
-        port,
-        folder,
-        secret: read_secret(&secret)?,
-        factor: options.get("--factor", 2)?,
-        segment: options.get("--segment", 1024)?,
-        tick: options.get("--tick", 200)?,
-        silence: options.get("--silence", 1000)?,
-        long: options.get("--long", 256 << 20)?,
-        beside: options.get("--beside", 24)?,
-        record: options.has("--record"),
-        faults: options.has("--faults"),
+    let folder = options.needed("--folder")?.into();
+    let secret = Path::new(options.needed("--secret")?);
+    let target = crate::target(options)?;
+    let index = match options.given("--index") {
+        Some(_) => Some(options.between("--index", 0, 0, target.hosts - 1)?),
+        None => None,
     };
+    let config = config(options, target, folder, index, read_secret(secret)?)?;
     tell("starts");
     thread::spawn(|| {
         let mut input = std::io::stdin();
@@ -54,6 +40,33 @@ pub fn serve(options: &Options) -> Result<(), String> {
     });
     let run = if config.index.is_some() { host::run } else { coordinator::run };
     run(config).map_err(|error| error.to_string())
+}
+
+/// How a node is to run by these options.
+fn config(
+    options: &Options,
+    target: Target,
+    folder: PathBuf,
+    index: Option<u8>,
+    secret: Vec<u8>,
+) -> Result<Config, String> {
+    let Target { address, port, hosts } = target;
+    Ok(Config {
+        index,
+        hosts,
+        address,
+        port,
+        folder,
+        secret,
+        factor: options.between("--factor", 2, 1, 5)?,
+        segment: options.between("--segment", 1024, 1, 1024)?,
+        tick: options.between("--tick", 200, 1, 60_000)?,
+        silence: options.between("--silence", 1000, 1, 3_600_000)?,
+        long: options.between("--long", 256 << 20, 1, usize::MAX)?,
+        beside: options.between("--beside", 24, 0, u64::MAX)?,
+        record: options.has("--record"),
+        faults: options.has("--faults"),
+    })
 }
 
 /// What the peers share, which has to be long enough that nobody guesses it.
@@ -72,14 +85,22 @@ pub struct Cluster {
     folder: PathBuf,
     more: Vec<String>,
     children: Vec<Option<Child>>,
+    /// Nobody else runs a cluster in the folder.
+    _lock: File,
 }
 
 impl Cluster {
-    /// A cluster in this folder, of which nothing runs yet. The first one there makes the secret.
+    /// A cluster in this folder, of which nothing runs yet, and which nobody else may run meanwhile. The first one
+    /// there makes the secret.
     pub fn new(target: Target, folder: &Path, more: Vec<String>) -> Result<Cluster, String> {
         let told = |error: std::io::Error| format!("{}: {error}", folder.display());
         fs::create_dir_all(folder).map_err(told)?;
         let folder = folder.canonicalize().map_err(told)?;
+        let lock = OpenOptions::new().create(true).append(true).open(folder.join("lock")).map_err(told)?;
+        lock.try_lock().map_err(|error| match error {
+            TryLockError::WouldBlock => format!("{}: a cluster runs in this folder already", folder.display()),
+            TryLockError::Error(error) => told(error),
+        })?;
         let secret = folder.join("secret");
         if !secret.exists() {
             let mut bytes = [0; SECRET];
@@ -88,7 +109,7 @@ impl Cluster {
             file.write_all(&bytes).map_err(told)?;
         }
         let children = (0..=target.hosts).map(|_| None).collect();
-        Ok(Cluster { target, folder, more, children })
+        Ok(Cluster { target, folder, more, children, _lock: lock })
     }
 
     /// How many processes it has: the hosts, and the coordinator, which has the last place.
@@ -100,6 +121,30 @@ impl Cluster {
     pub fn folder(&self, place: usize) -> PathBuf {
         let name = if place + 1 == self.places() { "coordinator".to_string() } else { format!("host{place}") };
         self.folder.join(name)
+    }
+
+    /// Tries whether all ports are free. Processes that end just now are waited for.
+    pub fn try_ports(&self) -> Result<(), String> {
+        let end = Instant::now() + Duration::from_secs(2);
+        for place in 0..=self.target.hosts {
+            let at = self.target.at(place);
+            while let Err(error) = TcpListener::bind(&at) {
+                let is_used = error.kind() == ErrorKind::AddrInUse;
+                if !is_used || end < Instant::now() {
+                    let hint = if is_used { "; --port names the first of others" } else { "" };
+                    return Err(format!("nobody can listen at {at}: {error}{hint}"));
+                }
+                thread::sleep(Duration::from_millis(50));
+            }
+        }
+        Ok(())
+    }
+
+    /// The last line of a node's log.
+    pub fn last_line(&self, place: usize) -> String {
+        let log = fs::read(self.folder(place).join("log")).unwrap_or_default();
+        let text = String::from_utf8_lossy(&log[log.len().saturating_sub(4096)..]).into_owned();
+        text.lines().last().unwrap_or_default().to_string()
     }
 
     /// Starts the process of a node.
@@ -178,26 +223,32 @@ impl Drop for Cluster {
 /// Runs a cluster: starts it, shows what changes, and starts again what ends.
 pub fn up(options: &Options) -> Result<(), String> {
     let folder: PathBuf = options.get("--folder", "cluster-data".to_string())?.into();
+    let target = crate::target(options)?;
+    let factor = config(options, target.clone(), PathBuf::new(), None, Vec::new())?.factor;
+    if target.hosts <= factor {
+        let (least, hosts) = (factor + 1, target.hosts);
+        return Err(format!(
+            "factor {factor} needs {least} hosts, a master and {factor} backups, and --hosts is {hosts}"
+        ));
+    }
     let mut more = Vec::new();
     for name in ["--factor", "--segment", "--tick", "--silence", "--long", "--beside"] {
-        let value = options.get(name, String::new())?;
-        if !value.is_empty() {
-            more.extend([name.to_string(), value]);
-        }
+        more.extend(options.given(name).iter().flat_map(|value| [name.to_string(), value.to_string()]));
     }
     more.extend(["--record", "--faults"].iter().filter(|flag| options.has(flag)).map(|flag| flag.to_string()));
-    let mut cluster = Cluster::new(crate::target(options)?, &folder, more)?;
+    let mut cluster = Cluster::new(target, &folder, more)?;
+    cluster.try_ports()?;
     cluster.start_all()?;
-    for place in 0..cluster.places() {
-        say!("process {} is {}", cluster.process(place).unwrap_or(0), cluster.folder(place).display());
-    }
+    (0..cluster.places()).for_each(|place| show_process(&cluster, place));
     let mut shown = String::new();
     loop {
         thread::sleep(Duration::from_millis(250));
         for (place, how) in cluster.ended() {
-            say!("{} has ended ({how}), and is started again", cluster.folder(place).display());
+            let (folder, last) = (cluster.folder(place), cluster.last_line(place));
+            say!("{} has ended ({how}), and is started again; its log ends: {last}", folder.display());
             thread::sleep(Duration::from_millis(100));
             cluster.start(place)?;
+            show_process(&cluster, place);
         }
         let now = glance(&cluster.target);
         if now != shown {
@@ -205,6 +256,10 @@ pub fn up(options: &Options) -> Result<(), String> {
             shown = now;
         }
     }
+}
+
+fn show_process(cluster: &Cluster, place: usize) {
+    say!("process {} is {}", cluster.process(place).unwrap_or(0), cluster.folder(place).display());
 }
 
 /// Who is up, and who owns what.
@@ -221,4 +276,40 @@ fn glance(target: &Target) -> String {
         now = format!("{now}; {line}");
     }
     now
+}
+
+#[cfg(test)]
+mod tests {
+    use super::*;
+    use crate::options::Command as Words;
+
+    /// Why `up` does not begin with these words.
+    fn why(line: &str) -> String {
+        let words = line.split(' ').map(String::from);
+        let begun = Words::named("up").and_then(|command| Options::read(command, words)).and_then(|words| up(&words));
+        begun.expect_err("it begins")
+    }
+
+    #[test]
+    fn a_cluster_that_cannot_begin_says_why() -> Result<(), String> {
+        for (words, said) in [
+            ("--hosts 2", "factor 2 needs 3 hosts, a master and 2 backups, and --hosts is 2"),
+            ("--factor 9", "--factor is a number of 1 to 5, and not 9"),
+            ("--segment 0", "--segment is a number of 1 to 1024, and not 0"),
+            ("--tick abc", "--tick is a number of 1 to 60000, and not abc"),
+            ("--address localhost", "--address is one such as 127.0.0.1, and not localhost"),
+            ("--port 65535", "--port is a number of 1 to 65531, and not 65535"),
+        ] {
+            assert_eq!(why(words), said);
+        }
+        let folder = std::env::temp_dir().join(format!("sevunthi-up-{}", std::process::id()));
+        let taken = TcpListener::bind("127.0.0.1:0").and_then(|listener| Ok((listener.local_addr()?.port(), listener)));
+        let (port, _listener) = taken.map_err(|error| error.to_string())?;
+        let line = format!("--folder {} --port {}", folder.display(), port.min(u16::MAX - 4));
+        assert!(why(&line).starts_with("nobody can listen at 127.0.0.1:"));
+        let target = Target { address: "127.0.0.1".to_string(), port, hosts: 4 };
+        let _other = Cluster::new(target, &folder, Vec::new())?;
+        assert!(why(&line).ends_with(": a cluster runs in this folder already"));
+        fs::remove_dir_all(&folder).map_err(|error| error.to_string())
+    }
 }

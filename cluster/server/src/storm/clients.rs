@@ -101,7 +101,7 @@ pub fn live(number: u64, seed: u64, target: Target, ends: &AtomicBool, history: 
                 ("ok", format!("\"value\":{},\"version\":{version}", text(read.as_deref())))
             }
             Outcome::Unknown => ("info", format!("\"value\":{given}")),
-            Outcome::Refused(_) => ("fail", format!("\"value\":{given}")),
+            Outcome::Refused(_) | Outcome::Unasked(_) => ("fail", format!("\"value\":{given}")),
         };
         note(history, process, kind, f, key, &more);
         match &outcome {
