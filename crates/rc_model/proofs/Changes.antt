@@ -28,22 +28,21 @@ pub record Fresh (old new : Config) : Type 0 where
 abbrev FreshIfChanged : Config → Config × Result Bool Fault → Type 0
 FreshIfChanged old answer = answer.1 ≡ Ok true → Fresh old answer.0
 
-fresh-changed : (old marked : Config) (found : Option (List ServerId)) → marked.epoch ≡ old.epoch →
+fresh-changed : {old : Config} (marked : Config) (found : Option (List ServerId)) → marked.epoch ≡ old.epoch →
     FreshIfChanged old (changes_to marked found)
-fresh-changed old marked None same e = cc
-fresh-changed old marked (Some ids) same e =
+fresh-changed marked None same e = cc
+fresh-changed {old} marked (Some ids) same e =
     either (FreshIfChanged old) (nat_lt marked.epoch LAST_EPOCH) (changed marked ids, Ok true) (marked, Err EpochsExhausted)
     (λ _ _. record { epoch = ap (λ n. n + 1) same; committed = refl; untold = fresh-untold (replaced marked.members ids) }) (λ _ e. cc) e
 
-fresh-lose : (own : ServerId) (servers : ServerList) (old : Config) → FreshIfChanged old (lose own servers old)
-fresh-lose own servers old =
-    either (FreshIfChanged old) (any_lost (with_lost servers old).members)
+fresh-lose : (own : ServerId) (servers : ServerList) {old : Config} → FreshIfChanged old (lose own servers old)
+fresh-lose own servers {old} = either (FreshIfChanged old) (any_lost (with_lost servers old).members)
     (changes_to (with_lost servers old) (substitutes_for own servers (with_lost servers old))) (with_lost servers old, Ok false)
-    (λ _. fresh-changed old (with_lost servers old) (substitutes_for own servers (with_lost servers old)) refl) (λ _ e. cc)
+    (λ _. fresh-changed (with_lost servers old) (substitutes_for own servers (with_lost servers old)) refl) (λ _ e. cc)
 
 -- a change of members begins afresh
-pub lose-fresh : (own : ServerId) (servers : ServerList) (old new : Config) → lose own servers old ≡ (new, Ok true) → Fresh old new
-lose-fresh own servers old new e = subst (FreshIfChanged old) e (fresh-lose own servers old) refl
+pub lose-fresh : (own : ServerId) (servers : ServerList) {old new : Config} → lose own servers old ≡ (new, Ok true) → Fresh old new
+lose-fresh own servers {old} e = subst (FreshIfChanged old) e (fresh-lose own servers) refl
 
 -- what is told under another epoch isn't noted
 pub noted-other : (from : ServerId) (epoch len : ℕ) (closed : Bool) (config : Config) →
@@ -69,13 +68,11 @@ DigestKept old answer = (began : Bool) → answer.1 ≡ Ok began → (head_of an
 
 kept-opened_on : (old : Log) (chosen : Option (List ServerId)) → DigestKept old (opened_on old (next_digest old []) chosen)
 kept-opened_on old None began e = cc
-kept-opened_on old (Some ids) began e =
-    ap (λ (s : Segment). s.digest) (put-same old.segments (old.head + 1) (new_segment (old.head + 1) (next_digest old []) ids))
+kept-opened_on old (Some ids) began e = ap (λ (s : Segment). s.digest) (put-same old.segments (old.head + 1))
     ∙ ap (λ segs. segs ++ (old.head + 1) ∷ []) (all-stay old.head (head_of old).digest)
 
 kept-begun : (old : Log) (servers : ServerList) → DigestKept old (begin_roll servers [] old)
-kept-begun old servers =
-    either (DigestKept old) (nat_lt old.head LAST_SEGMENT)
+kept-begun old servers = either (DigestKept old) (nat_lt old.head LAST_SEGMENT)
     (opened_on old (next_digest old []) (choose (old.head + 1) old.own old.factor servers)) (old, Err LogFull)
     (λ _. kept-opened_on old (choose (old.head + 1) old.own old.factor servers)) (λ _ began e. cc)
 

@@ -31,9 +31,9 @@ not_both Writing writing closing = true_false (sym closing)
 abbrev SameConfigs : (ℕ → Segment) → (ℕ → Segment) → Type 0
 SameConfigs old new = (k : ℕ) → (new k).config ≡ (old k).config
 
-same_configs-put : (segments : ℕ → Segment) (seg : ℕ) (segment : Segment) → segment.config ≡ (segments seg).config →
+same_configs-put : (segments : ℕ → Segment) {seg : ℕ} (segment : Segment) → segment.config ≡ (segments seg).config →
     SameConfigs segments (put segments seg segment)
-same_configs-put segments seg segment same =
+same_configs-put segments {seg} segment same =
     put_each (λ k (one : Segment). one.config ≡ (segments k).config) segments seg segment same (λ k. refl)
 
 -- what holds of the log before holds after
@@ -41,9 +41,9 @@ abbrev PlacedKept : Log → Log → Type 0
 PlacedKept old new = LogPlaced old → LogPlaced new
 
 -- a segment is changed, but for its config
-placed-put : (log : Log) (seg : ℕ) (segment : Segment) → segment.config ≡ (log.segments seg).config →
+placed-put : (log : Log) {seg : ℕ} (segment : Segment) → segment.config ≡ (log.segments seg).config →
     PlacedKept log (with_segment seg segment log)
-placed-put log seg segment same placed is = ap all_placed (same_configs-put log.segments seg segment same log.head) ∙ placed is
+placed-put log segment same placed is = ap all_placed (same_configs-put log.segments segment same log.head) ∙ placed is
 
 placed-joined : LogJoined PlacedKept
 placed-joined = record { still = λ log placed. placed; both = λ one two three p q placed. q (p placed) }
@@ -56,15 +56,15 @@ placed-written = record {
 
 placed-followed : LogFollowed PlacedKept
 placed-followed = record {
-  marks = λ log is. placed-put log (log.head - 1) (record (old_head_of log) { shut = true }) refl;
+  marks = λ log is. placed-put log (record (old_head_of log) { shut = true }) refl;
   starts = λ log may placed is. true_false (sym is);
   places = λ log may placed is. (and_parts (has_old_head log) (all_placed (head_of log).config)
       (and_parts (is_opening log.phase) (has_old_head log && all_placed (head_of log).config) may).1).1;
-  closes = λ log due. placed-put log (log.head - 1) (with_closes_sent (old_head_of log)) refl;
+  closes = λ log due. placed-put log (with_closes_sent (old_head_of log)) refl;
   shuts = λ log may placed is. (
       let after : (writes_on log).phase ≡ Writing = freed-phase (left_out log) (record log { phase = Writing }) in
       true_false (sym is ∙ ap is_closing after));
-  commits = λ log seg. placed-put log seg (record (log.segments seg) { commit_sent = true }) refl;
+  commits = λ log seg. placed-put log (record (log.segments seg) { commit_sent = true }) refl;
   counts = λ log more placed. placed;
 }
 
@@ -81,13 +81,13 @@ PhaseKept old new = (new ≡ old) ⊎ (new ≡ Opening)
 abbrev LogKept : Log → Log → Type 0
 LogKept old new = PhaseKept old.phase new.phase
 
-kept-both : (one two three : Phase) → PhaseKept one two → PhaseKept two three → PhaseKept one three
-kept-both one two three p (inr opened) = inr opened
-kept-both one two three (inl was) (inl same) = inl (same ∙ was)
-kept-both one two three (inr opened) (inl same) = inr (same ∙ opened)
+kept-both : {one two three : Phase} → PhaseKept one two → PhaseKept two three → PhaseKept one three
+kept-both p (inr opened) = inr opened
+kept-both (inl was) (inl same) = inl (same ∙ was)
+kept-both (inr opened) (inl same) = inr (same ∙ opened)
 
 kept-joined : LogJoined LogKept
-kept-joined = record { still = λ log. inl refl; both = λ one two three. kept-both one.phase two.phase three.phase }
+kept-joined = record { still = λ log. inl refl; both = λ one two three. kept-both }
 
 same-change : (seg : ℕ) (log : Log) (answer : Config × Result Bool Fault) → (opens_change seg log answer).0.phase ≡ log.phase
 same-change seg log (config, Ok true) = refl
@@ -111,13 +111,12 @@ kept-if log b seg config = either (LogKept log) b (with_config seg config log) l
 -- no input makes the phase Closing
 pub kept-input : (master : Master) (from : Addr) (body : Body) → OfLog LogKept master (master_takes_first master from body)
 kept-input master from body =
-    kept-takes_first (OfLog LogKept) (of_log-joined LogKept kept-joined) (of_log-listed LogKept kept-joined kept-listed) master from body
+    kept-takes_first (OfLog LogKept) (of_log-joined LogKept kept-joined) (of_log-listed LogKept kept-joined kept-listed) from body
     (of_log-taken LogKept kept-joined
     (record {
       rolls = λ servers log digest ids writing room chosen. inr refl;
       writes = λ log entry client writing room. inl refl;
-    }) master from body
-    (λ teller seg epoch len closed is says.
+    }) (λ teller seg epoch len closed is says.
     kept-if master.log (has_segment master.log seg) seg (noted teller epoch len closed (master.log.segments seg).config))
     (λ seg epoch is. kept-if master.log (has_segment master.log seg) seg (committed_at epoch (master.log.segments seg).config)))
 
@@ -138,7 +137,7 @@ pub takes-placed : (master : Master) (from : Addr) (body : Body) → is_closing 
 takes-placed master from body isn't =
     either (λ (after : Master × List Message). HeadPlaced after.0) master.deposed (deposed_takes master body)
     (then_does (master_takes_first master from body) goes_on)
-    (λ _. placed-after master (deposed_takes master body).0 isn't (inl (ap (λ (m : Master). m.log.phase) (same-deposed master body))))
+    (λ _. placed-after master (deposed_takes master body).0 isn't (inl (ap (λ (m : Master). m.log.phase) (same-deposed body))))
     (λ _. placed-goes_on (master_takes_first master from body).0
     (placed-after master (master_takes_first master from body).0 isn't (kept-input master from body)))
 

@@ -13,12 +13,12 @@ use Rattle.rc_model.proofs.Tables.{put-same}
 -- Tests over lists
 
 -- what all pass, each passes
-pub all-get : {X : Type 0} (test : X → Bool) (xs : List X) (k : ℕ) (x : X) → list_all test xs ≡ true →
+pub all-get : {X : Type 0} (test : X → Bool) (xs : List X) (k : ℕ) {x : X} → list_all test xs ≡ true →
     slice_get xs k ≡ Some x → test x ≡ true
-all-get test [] k x all found = cc
-all-get test (y ∷ ys) zero x all found =
+all-get test [] k all found = cc
+all-get test (y ∷ ys) zero {x} all found =
     let same : y ≡ x = cc in ap test (sym same) ∙ (and_parts (test y) (list_all test ys) all).0
-all-get test (y ∷ ys) (suc k) x all found = all-get test ys k x (and_parts (test y) (list_all test ys) all).1 found
+all-get test (y ∷ ys) (suc k) all found = all-get test ys k (and_parts (test y) (list_all test ys) all).1 found
 
 -- one that passes
 pub record Passes {X : Type 0} (test : X → Bool) (xs : List X) : Type 0 where
@@ -28,9 +28,9 @@ pub record Passes {X : Type 0} (test : X → Bool) (xs : List X) : Type 0 where
   pub passes : test one ≡ true
 
 -- where any passes, one does
-pub any-get : {X : Type 0} (test : X → Bool) (xs : List X) → list_any test xs ≡ true → Passes test xs
-any-get test [] any = cc
-any-get test (y ∷ ys) any = by (test y) refl any (any-get test ys)
+pub any-get : {X : Type 0} {test : X → Bool} (xs : List X) → list_any test xs ≡ true → Passes test xs
+any-get [] any = cc
+any-get {test} (y ∷ ys) any = by (test y) refl any (any-get ys)
   where
     by : (b : Bool) → test y ≡ b → b || list_any test ys ≡ true → (list_any test ys ≡ true → Passes test ys) → Passes test (y ∷ ys)
     by true is any rec = record { place = 0; one = y; found = refl; passes = is }
@@ -38,9 +38,9 @@ any-get test (y ∷ ys) any = by (test y) refl any (any-get test ys)
         let rest : Passes test ys = rec any in record { place = suc rest.place; one = rest.one; found = rest.found; passes = rest.passes }
 
 -- a number that is there and passes is there among those that pass
-kept : (test : ℕ → Bool) (n : ℕ) (ns : List ℕ) → list_any (nat_eq n) ns ≡ true → test n ≡ true → list_any (nat_eq n) (filter test ns) ≡ true
-kept test n [] there is = cc
-kept test n (m ∷ ms) there is = by (nat_eq n m) refl (test m) refl there (λ rest. kept test n ms rest is)
+kept : (test : ℕ → Bool) {n : ℕ} (ns : List ℕ) → list_any (nat_eq n) ns ≡ true → test n ≡ true → list_any (nat_eq n) (filter test ns) ≡ true
+kept test [] there is = cc
+kept test {n} (m ∷ ms) there is = by (nat_eq n m) refl (test m) refl there (λ rest. kept test ms rest is)
   where
     by : (b : Bool) → nat_eq n m ≡ b → (t : Bool) → test m ≡ t → b || list_any (nat_eq n) ms ≡ true →
         (list_any (nat_eq n) ms ≡ true → list_any (nat_eq n) (filter test ms) ≡ true) →
@@ -51,9 +51,9 @@ kept test n (m ∷ ms) there is = by (nat_eq n m) refl (test m) refl there (λ r
     by false other false fails there rec = rec there
 
 -- a number among those that pass passes
-passed : (test : ℕ → Bool) (n : ℕ) (ns : List ℕ) → list_any (nat_eq n) (filter test ns) ≡ true → test n ≡ true
-passed test n [] there = cc
-passed test n (m ∷ ms) there = by (test m) refl there (passed test n ms)
+passed : (test : ℕ → Bool) {n : ℕ} (ns : List ℕ) → list_any (nat_eq n) (filter test ns) ≡ true → test n ≡ true
+passed test [] there = cc
+passed test {n} (m ∷ ms) there = by (test m) refl there (passed test ms)
   where
     here : (b : Bool) → nat_eq n m ≡ b → test m ≡ true → b || list_any (nat_eq n) (filter test ms) ≡ true →
         (list_any (nat_eq n) (filter test ms) ≡ true → test n ≡ true) → test n ≡ true
@@ -88,7 +88,7 @@ left-dead log dead seg there gone = by (nat_eq seg log.head || not (list_any (na
         (list_any (nat_eq seg) dead ≡ true) × (nat_eq seg log.head ≡ false)
     by true stays =
         let still : list_any (nat_eq seg) (filter (λ s. nat_eq s log.head || not (list_any (nat_eq s) dead)) (head_of log).digest) ≡ true =
-        kept (λ s. nat_eq s log.head || not (list_any (nat_eq s) dead)) seg (head_of log).digest there stays in
+        kept (λ s. nat_eq s log.head || not (list_any (nat_eq s) dead)) (head_of log).digest there stays in
         true_false (sym (joined-left seg (filter (λ s. nat_eq s log.head || not (list_any (nat_eq s) dead))
         (head_of log).digest) ((log.head + 1) ∷ []) still) ∙ gone)
     by false goes =
@@ -105,12 +105,11 @@ leaves-opened_on : (old : Log) (dead : List ℕ) (seg : ℕ) (chosen : Option (L
 leaves-opened_on old dead seg None began e there gone = cc
 leaves-opened_on old dead seg (Some ids) began e there gone =
     let digest : (head_of (opened_on old (next_digest old dead) (Some ids)).0).digest ≡ next_digest old dead =
-    ap (λ (s : Segment). s.digest) (put-same old.segments (old.head + 1) (new_segment (old.head + 1) (next_digest old dead) ids)) in
+    ap (λ (s : Segment). s.digest) (put-same old.segments (old.head + 1)) in
     left-dead old dead seg there (ap (list_any (nat_eq seg)) (sym digest) ∙ gone)
 
 leaves-begun : (old : Log) (servers : ServerList) (dead : List ℕ) (seg : ℕ) → LeavesDead old dead seg (begin_roll servers dead old)
-leaves-begun old servers dead seg =
-    either (LeavesDead old dead seg) (nat_lt old.head LAST_SEGMENT)
+leaves-begun old servers dead seg = either (LeavesDead old dead seg) (nat_lt old.head LAST_SEGMENT)
     (opened_on old (next_digest old dead) (choose (old.head + 1) old.own old.factor servers)) (old, Err LogFull)
     (λ _. leaves-opened_on old dead seg (choose (old.head + 1) old.own old.factor servers)) (λ _ began e there gone. cc)
 
@@ -120,7 +119,7 @@ listed-dead master seg there = by master.free there
   where
     by : (b : Bool) → list_any (nat_eq seg) (cond b (filter (is_dead_segment master) (head_of master.log).digest) []) ≡
         true → is_dead_segment master seg ≡ true
-    by true there = passed (is_dead_segment master) seg (head_of master.log).digest there
+    by true there = passed (is_dead_segment master) (head_of master.log).digest there
     by false there = cc
 
 -- a roll leaves out dead segments alone
@@ -142,7 +141,7 @@ above : (durable : List Entry) (entry : Entry) → is_outdated durable entry ≡
     (is_of entry.term entry.table entry.key other ≡ true) × (entry.version < other.version)
 above durable entry is =
     let one : Passes (λ (other : Entry). is_of entry.term entry.table entry.key other && nat_lt entry.version other.version) durable =
-    any-get (λ (other : Entry). is_of entry.term entry.table entry.key other && nat_lt entry.version other.version) durable is in
+    any-get durable is in
     let parts : (is_of entry.term entry.table entry.key one.one ≡ true) × (nat_lt entry.version one.one.version ≡ true) =
     and_parts (is_of entry.term entry.table entry.key one.one) (nat_lt entry.version one.one.version) one.passes in
     (one.place, one.one, one.found, parts.0, ltb-true entry.version one.one.version parts.1)
@@ -159,5 +158,5 @@ dead-outdated master seg k entry dead found =
     (is_dead (durable_entries master) (map (λ one. one.0) (master.log.segments seg).entries)) dead in (
       parts.0,
       above (durable_entries master) entry
-          (all-get (is_outdated (durable_entries master)) (map (λ one. one.0) (master.log.segments seg).entries) k entry parts.1 found),
+          (all-get (is_outdated (durable_entries master)) (map (λ one. one.0) (master.log.segments seg).entries) k parts.1 found),
     )

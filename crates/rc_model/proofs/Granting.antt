@@ -16,8 +16,7 @@ abbrev pub by_part : Coordinator → ServerId → ℕ → Option Part → Coordi
 by_part c id number part = option_map_or (grants_part c id number) part (c, refuses_server id StaleAttempt ∷ [])
 
 abbrev pub by_grant : Coordinator → ServerId → ℕ → ℕ → Option Grant → Coordinator × List Message
-by_grant c id number term grant =
-    option_map_or (λ one. (c, from_coordinator id (own_body one) ∷ [])) grant
+by_grant c id number term grant = option_map_or (λ one. (c, from_coordinator id (own_body one) ∷ [])) grant
     (by_part c id number (part_of_sender c id number term))
 
 -- no pair is below itself, and of two one isn't below the other
@@ -39,17 +38,14 @@ pub least-rises : (c : Coordinator) (id other : ServerId) (pair : Pair) →
 least-rises c id other pair =
     either (λ (after : Coordinator × List Message). is_below (after.0.least other) (c.least other) ≡ false) (is_up c.servers id)
     (record c { least = put_id c.least id (greater_pair (c.least id) pair) }, from_coordinator id (CommitOk pair.seg pair.epoch) ∷ [])
-    (c, refuses_server id Deposed ∷ [])
-    (λ _. put_id_each (λ one least. is_below least (c.least one) ≡ false) c.least id (greater_pair (c.least id) pair)
-    (greater-left (c.least id) pair)
-    (λ one. below-itself (c.least one)) other)
-    (λ _. below-itself (c.least other))
+    (c, refuses_server id Deposed ∷ []) (λ _. put_id_each (λ one least. is_below least (c.least one) ≡ false)
+    (greater-left (c.least id) pair) (λ one. below-itself (c.least one)) other) (λ _. below-itself (c.least other))
 
 -- and is at least what is committed
 pub least-covers : (c : Coordinator) (id : ServerId) (pair : Pair) → is_up c.servers id ≡ true →
     is_below ((commits_pair c id pair).0.least id) pair ≡ false
 least-covers c id pair is =
-    rw is (ap (λ least. is_below least pair) (put_id-same c.least id (greater_pair (c.least id) pair)) ∙ greater-right (c.least id) pair)
+    rw is (ap (λ least. is_below least pair) (put_id-same c.least id) ∙ greater-right (c.least id) pair)
 
 -- who isn't up is refused
 pub commit-refused : (c : Coordinator) (id : ServerId) (pair : Pair) → is_up c.servers id ≡ false →

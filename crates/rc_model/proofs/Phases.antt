@@ -25,15 +25,14 @@ keeps-change : (master : Master) (open_one : Option ℕ) → AllDone (KeepsPhase
     (option_and_then (λ one. when (wants_commit (master.log.segments one)) (commits master one)) open_one)
 keeps-change master None = tt
 keeps-change master (Some seg) =
-    done-when (KeepsPhaseDone master) (wants_commit (master.log.segments seg)) (commits master seg) (λ _. record { phase = inl refl })
+    done-when (KeepsPhaseDone master) (wants_commit (master.log.segments seg)) (λ _. record { phase = inl refl })
 
 keeps-roll : (master : Master) (chosen : Option (List ServerId)) →
     AllDone (KeepsPhaseDone master) (rolls_for_replay master (opened_on master.log (next_digest master.log (dead_segments master)) chosen))
 keeps-roll master None = tt
 keeps-roll master (Some ids) = record { phase = inr refl }
 
-keeps-full : (master : Master) →
-    AllDone (KeepsPhaseDone master)
+keeps-full : (master : Master) → AllDone (KeepsPhaseDone master)
     (rolls_for_replay master (begin_roll master.known (dead_segments master) master.log))
 keeps-full master =
     either (λ answer. AllDone (KeepsPhaseDone master) (rolls_for_replay master answer)) (nat_lt master.log.head LAST_SEGMENT)
@@ -43,8 +42,7 @@ keeps-full master =
 
 keeps-replay : (master : Master) (replay : List Entry) → AllDone (KeepsPhaseDone master) (replays master replay)
 keeps-replay master [] = tt
-keeps-replay master (entry ∷ entries) =
-    either (AllDone (KeepsPhaseDone master)) (is_full master.log)
+keeps-replay master (entry ∷ entries) = either (AllDone (KeepsPhaseDone master)) (is_full master.log)
     (rolls_for_replay master (begin_roll master.known (dead_segments master) master.log))
     (Some (appends_entry (record master { ownership = after_replay master.ownership }) entry false))
     (λ _. keeps-full master) (λ _. record { phase = inl refl })
@@ -59,15 +57,15 @@ keeps-answer master None = tt
 keeps-answer master (Some term) = record { phase = inl refl }
 
 -- all rules, given what the first four do, and what follows where the phase stays or a roll opens
-by_rules : (P : Master × List Message → Type 0) (master : Master) →
+by_rules : (P : Master × List Message → Type 0) {master : Master} →
     ((done : Master × List Message) → KeepsPhaseDone master done → P done) →
     AllDone P (follows_start master) → AllDone P (follows_placed master) → AllDone P (follows_closing master) →
     AllDone P (follows_shut master) →
     AllDone P (follow_up master)
-by_rules P master keeps start placed closing shut =
+by_rules P {master} keeps start placed closing shut =
     done-or P _ _ start (done-or P _ _ placed (done-or P _ _ closing (done-or P _ _ shut
     (done-or P _ _ (weaker _ (keeps-change master (first_open master.log)))
-    (done-or P _ _ (done-when P _ (_, _) (λ _. keeps _ (record { phase = inl refl })))
+    (done-or P _ _ (done-when P _ (λ _. keeps _ (record { phase = inl refl })))
     (done-or P _ _ (weaker _ (keeps-data master))
     (weaker _ (keeps-answer master (to_answer (durable_replayed master) master.ownership)))))))))
   where
@@ -85,14 +83,13 @@ ClosesPlaced master done = is_closing master.log.phase ≡ false → is_closing 
     all_placed (head_of done.0.log).config ≡ true
 
 pub closes-placed : (master : Master) → AllDone (ClosesPlaced master) (follow_up master)
-closes-placed master =
-    by_rules (ClosesPlaced master) master keeps
-    (done-when (ClosesPlaced master) (may_start master.log) (_, _) (λ _ _ is. cc))
-    (done-when (ClosesPlaced master) (may_close master.log) (_, _) (λ may _ _.
+closes-placed master = by_rules (ClosesPlaced master) keeps
+    (done-when (ClosesPlaced master) (may_start master.log) (λ _ _ is. cc))
+    (done-when (ClosesPlaced master) (may_close master.log) (λ may _ _.
     (and_parts (has_old_head master.log) (all_placed (head_of master.log).config)
     (and_parts (is_opening master.log.phase) (has_old_head master.log && all_placed (head_of master.log).config) may).1).1))
-    (done-when (ClosesPlaced master) (close_is_due master.log) (_, _) (λ _ isn't is. true_false (sym is ∙ isn't)))
-    (done-when (ClosesPlaced master) (may_write master.log) (_, _) (λ _ _ is.
+    (done-when (ClosesPlaced master) (close_is_due master.log) (λ _ isn't is. true_false (sym is ∙ isn't)))
+    (done-when (ClosesPlaced master) (may_write master.log) (λ _ _ is.
     let after : (writes_on master.log).phase ≡ Writing = freed-phase (left_out master.log) (record master.log { phase = Writing }) in
     true_false (sym is ∙ ap is_closing after)))
   where
@@ -110,12 +107,11 @@ WritesShut master done = is_writing master.log.phase ≡ false → is_writing do
     × (nat_eq master.log.head 1 || (old_head_of master.log).shut ≡ true)
 
 pub writes-shut : (master : Master) → AllDone (WritesShut master) (follow_up master)
-writes-shut master =
-    by_rules (WritesShut master) master keeps
-    (done-when (WritesShut master) (may_start master.log) (_, _) (λ may _ _. start may))
-    (done-when (WritesShut master) (may_close master.log) (_, _) (λ _ _ is. cc))
-    (done-when (WritesShut master) (close_is_due master.log) (_, _) (λ _ isn't is. true_false (sym is ∙ isn't)))
-    (done-when (WritesShut master) (may_write master.log) (_, _) (λ may _ _. shut may))
+writes-shut master = by_rules (WritesShut master) keeps
+    (done-when (WritesShut master) (may_start master.log) (λ may _ _. start may))
+    (done-when (WritesShut master) (may_close master.log) (λ _ _ is. cc))
+    (done-when (WritesShut master) (close_is_due master.log) (λ _ isn't is. true_false (sym is ∙ isn't)))
+    (done-when (WritesShut master) (may_write master.log) (λ may _ _. shut may))
   where
     keeps : (done : Master × List Message) → KeepsPhaseDone master done → WritesShut master done
     keeps done kept isn't is = by kept.phase

@@ -12,20 +12,19 @@ use Rattle.rc_model.proofs.Ids.{same_id-true, same_id-refl}
 
 -- Who sends
 
-pub is_server-true : (m : ServerId) (from : Addr) → is_server m from ≡ true → from ≡ Server m
-is_server-true m (Server other) e = ap Server (sym (same_id-true m other e))
-is_server-true m Coordinator e = cc
-is_server-true m Outside e = cc
+pub is_server-true : {m : ServerId} (from : Addr) → is_server m from ≡ true → from ≡ Server m
+is_server-true (Server other) e = ap Server (sym (same_id-true e))
+is_server-true Coordinator e = cc
+is_server-true Outside e = cc
 
-pub is_server-from : (m : ServerId) (from : Addr) → from ≡ Server m → is_server m from ≡ true
-is_server-from m from e = subst (λ a. is_server m a ≡ true) (sym e) (same_id-refl m)
+pub is_server-from : {m : ServerId} {from : Addr} → from ≡ Server m → is_server m from ≡ true
+is_server-from {m} e = subst (λ a. is_server m a ≡ true) (sym e) (same_id-refl m)
 
 -- What was made
 
 made-says : (sent : List Message) (m : ServerId) (s o : ℕ) (entry : Entry) → In entry (made sent m s o) → HasMade sent m s o entry
 made-says [] m s o entry at = absurd at
-made-says (first ∷ sent) m s o entry at =
-    by (made-says sent m s o entry)
+made-says (first ∷ sent) m s o entry at = by (made-says sent m s o entry)
     (In-gathered entry (is_server m first.from) (option_to_list (entry_at first.body s o)) (made sent m s o) at)
   where
     by : (In entry (made sent m s o) → HasMade sent m s o entry) →
@@ -34,7 +33,7 @@ made-says (first ∷ sent) m s o entry at =
     by later (inl here) = record {
       message = first;
       among = inl refl;
-      from = is_server-true m first.from here.0;
+      from = is_server-true first.from here.0;
       holds = In-option entry (entry_at first.body s o) here.1;
     }
     by later (inr there) = let p = later there in record { message = p.message; among = inr p.among; from = p.from; holds = p.holds }
@@ -44,7 +43,7 @@ made-said : (sent : List Message) (m : ServerId) (s o : ℕ) (entry : Entry) (me
 made-said [] m s o entry message at from holds = absurd at
 made-said (first ∷ sent) m s o entry message (inl e) from holds =
     In-gathered_piece entry (is_server m first.from) (option_to_list (entry_at first.body s o)) (made sent m s o)
-    (is_server-from m first.from (sym (ap (λ (x : Message). x.from) e) ∙ from))
+    (is_server-from (sym (ap (λ (x : Message). x.from) e) ∙ from))
     (In-from_option entry (entry_at first.body s o) (sym (ap (λ (x : Message). entry_at x.body s o) e) ∙ holds))
 made-said (first ∷ sent) m s o entry message (inr rest) from holds =
     In-gathered_rest entry (is_server m first.from) (option_to_list (entry_at first.body s o)) (made sent m s o)
@@ -66,8 +65,8 @@ ack_in-says ack (WriteOk seg offset term table key version) (inl e) = ap says_ac
 ack_in-says ack (WriteOk seg offset term table key version) (inr rest) = absurd rest
 ack_in-says ack _ at = absurd at
 
-ack_in-said : (ack : Ack) (body : Body) → body ≡ says_ack ack → In ack (ack_in body)
-ack_in-said ack body e = subst (λ b. In ack (ack_in b)) (sym e) (inl refl)
+ack_in-said : {ack : Ack} {body : Body} → body ≡ says_ack ack → In ack (ack_in body)
+ack_in-said {ack} e = subst (λ b. In ack (ack_in b)) (sym e) (inl refl)
 
 pub HasAcknowledged-from : (sent : List Message) (m : ServerId) (ack : Ack) → In ack (acknowledged sent m) → HasAcknowledged sent m ack
 HasAcknowledged-from [] m ack at = absurd at
@@ -80,7 +79,7 @@ HasAcknowledged-from (first ∷ sent) m ack at =
     by later (inl here) = record {
       message = first;
       among = inl refl;
-      from = is_server-true m first.from here.0;
+      from = is_server-true first.from here.0;
       says = ack_in-says ack first.body here.1;
     }
     by later (inr there) = let p = later there in record { message = p.message; among = inr p.among; from = p.from; says = p.says }
@@ -90,8 +89,8 @@ ack-said : (sent : List Message) (m : ServerId) (ack : Ack) (message : Message) 
 ack-said [] m ack message at from says = absurd at
 ack-said (first ∷ sent) m ack message (inl e) from says =
     In-gathered_piece ack (is_server m first.from) (ack_in first.body) (acknowledged sent m)
-    (is_server-from m first.from (sym (ap (λ (x : Message). x.from) e) ∙ from))
-    (ack_in-said ack first.body (sym (ap (λ (x : Message). x.body) e) ∙ says))
+    (is_server-from (sym (ap (λ (x : Message). x.from) e) ∙ from))
+    (ack_in-said (sym (ap (λ (x : Message). x.body) e) ∙ says))
 ack-said (first ∷ sent) m ack message (inr rest) from says =
     In-gathered_rest ack (is_server m first.from) (ack_in first.body) (acknowledged sent m) (ack-said sent m ack message rest from says)
 
@@ -112,7 +111,7 @@ any-said : (sent : List Message) (ack : Ack) (message : Message) → In message 
     In ack (all_acknowledged sent)
 any-said [] ack message at says = absurd at
 any-said (first ∷ sent) ack message (inl e) says = In-left ack (ack_in first.body) (all_acknowledged sent)
-    (ack_in-said ack first.body (sym (ap (λ (x : Message). x.body) e) ∙ says))
+    (ack_in-said (sym (ap (λ (x : Message). x.body) e) ∙ says))
 any-said (first ∷ sent) ack message (inr rest) says =
     In-right ack (ack_in first.body) (all_acknowledged sent) (any-said sent ack message rest says)
 
@@ -151,8 +150,7 @@ WasAccepted-from (first ∷ sent) plan at = by (WasAccepted-from sent plan) (In-
 plan-said : (sent : List Message) (plan : Accepted) (message : Message) (head : ℕ) (parts : List Part) →
     In message sent → message.body ≡ Plan head plan.attempt plan.master plan.rows parts → In plan (accepted sent)
 plan-said [] plan message head parts at says = absurd at
-plan-said (first ∷ sent) plan message head parts (inl e) says =
-    In-left plan (plan_in first.body) (accepted sent)
+plan-said (first ∷ sent) plan message head parts (inl e) says = In-left plan (plan_in first.body) (accepted sent)
     (subst (λ b. In plan (plan_in b)) (sym (sym (ap (λ (x : Message). x.body) e) ∙ says)) (inl refl))
 plan-said (first ∷ sent) plan message head parts (inr rest) says =
     In-right plan (plan_in first.body) (accepted sent) (plan-said sent plan message head parts rest says)
