@@ -1,6 +1,6 @@
 -- The test of which term is the earlier one says what the relation says.
 use Rattle.std.proofs.Common.{◌≡◌, ◌⊎◌, ℕ, zero, suc, Bool, true, ◌&&◌, ◌||◌, nat_eq, List, [], ◌∷◌, slice_get, Some}
-use Rattle.std.proofs.Common.{refl, sym, subst, inl, inr}
+use Rattle.std.proofs.Common.{refl, sym, subst, inl, inr, arith}
 use Rattle.std.proofs.lemmas.Bool.{eqb-true, eq-eqb, and_parts, and_from, or_cases, or_left, or_right}
 use Rattle.rc_model.specs.Owners.{Granted, IsBefore, previous, onward, is_before}
 
@@ -66,11 +66,7 @@ before_by {grant} {grants} {earlier} {later} (inr (to, from)) = last to
 
 -- the test for "the same term, or an earlier one"
 at_or-finds : {b : Bool} {a c : ℕ} (P : Type 0) → (b ≡ true → P) → (nat_eq a c || b) ≡ true → (a ≡ c) ⊎ P
-at_or-finds {b} {a} {c} P before h = either (or_cases (nat_eq a c) b h)
-  where
-    either : (nat_eq a c ≡ true) ⊎ (b ≡ true) → (a ≡ c) ⊎ P
-    either (inl same) = inl (eqb-true a c same)
-    either (inr found) = inr (before found)
+at_or-finds {b} {a} {c} P before h = search (arith, or_cases, nat_eq, eqb-true)
 
 at_or-found : {b : Bool} {a c : ℕ} (P : Type 0) → (P → b ≡ true) → (a ≡ c) ⊎ P → (nat_eq a c || b) ≡ true
 at_or-found {b} {a} {c} P found (inl same) = or_left (nat_eq a c) b (eq-eqb a c same)
@@ -82,17 +78,7 @@ way-finds : {whole to from : Bool} (grant : Granted) {grants : List Granted} {ea
     (from ≡ true → IsBefore grants earlier grant.previous) →
     (whole || ((nat_eq later grant.term || to) && (nat_eq earlier grant.previous || from))) ≡ true → Way grant grants earlier later
 way-finds {whole} {to} {from} grant {grants} {earlier} {later} at_whole at_to at_from h =
-    either (or_cases whole ((nat_eq later grant.term || to) && (nat_eq earlier grant.previous || from)) h)
-  where
-    either : (whole ≡ true) ⊎ (((nat_eq later grant.term || to) && (nat_eq earlier grant.previous || from)) ≡ true) →
-        Way grant grants earlier later
-    either (inl found) = inl (at_whole found)
-    either (inr found) =
-        let parts = and_parts (nat_eq later grant.term || to) (nat_eq earlier grant.previous || from) found in
-        inr (
-          at_or-finds (IsBefore grants grant.term later) at_to parts.0,
-          at_or-finds (IsBefore grants earlier grant.previous) at_from parts.1,
-        )
+    search (arith, or_cases, nat_eq, and_parts, at_or-finds)
 
 way-found : {whole to from : Bool} (grant : Granted) {grants : List Granted} {earlier later : ℕ} →
     (IsBefore grants earlier later → whole ≡ true) → (IsBefore grants grant.term later → to ≡ true) →
@@ -101,10 +87,7 @@ way-found : {whole to from : Bool} (grant : Granted) {grants : List Granted} {ea
 way-found {whole} {to} {from} grant {earlier} {later} at_whole at_to at_from (inl rest) =
     or_left whole ((nat_eq later grant.term || to) && (nat_eq earlier grant.previous || from)) (at_whole rest)
 way-found {whole} {to} {from} grant {grants} {earlier} {later} at_whole at_to at_from (inr way) =
-    or_right whole ((nat_eq later grant.term || to) && (nat_eq earlier grant.previous || from))
-    (and_from (nat_eq later grant.term || to) (nat_eq earlier grant.previous || from)
-    (at_or-found (IsBefore grants grant.term later) at_to way.0)
-    (at_or-found (IsBefore grants earlier grant.previous) at_from way.1))
+    search (arith, or_right, nat_eq, and_from, at_or-found)
 
 -- what the test finds is before
 pub is_before-finds : (grants : List Granted) {earlier later : ℕ} → is_before grants earlier later ≡ true → IsBefore grants earlier later

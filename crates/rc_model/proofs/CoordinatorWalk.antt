@@ -1,6 +1,6 @@
 -- One walk over the rules of the coordinator: what holds of each single rule holds of its whole steps.
-use Rattle.std.proofs.Common.{◌≡◌, ℕ, suc, ◌+◌, ◌-◌, not, Bool, true, false, cond, nat_eq, ◌&&◌, List, [], ◌∷◌, ◌++◌, filter}
-use Rattle.std.proofs.Common.{slice_get, Option, Some, None, Result, Ok, Err, refl, sym, ap, ◌∙◌, subst, arith}
+use Rattle.std.proofs.Common.{◌≡◌, ℕ, suc, ◌+◌, not, Bool, true, false, cond, nat_eq, ◌&&◌, List, [], ◌∷◌, ◌++◌, filter}
+use Rattle.std.proofs.Common.{slice_get, Option, Some, None, Result, Ok, Err, refl, ◌∙◌, subst, arith}
 use Rattle.std.proofs.lemmas.Bool.{and_parts, not-false}
 use Rattle.std.proofs.lemmas.Bool.Decides.{nat_tests}
 use Rattle.std.proofs.lemmas.List.{append-nil}
@@ -11,7 +11,7 @@ use Rattle.rc_model.specs.Model.{Commit, CommitOk, Replicas, Recovered, Gather, 
 use Rattle.rc_model.specs.Model.{coordinator_refuses, coordinator_tells, is_up, has_crashed, is_newest, enlisted, up, holds, has_table}
 use Rattle.rc_model.specs.Model.{tablet_of, split_at, marked_crashed, has_range, assigned, pick, greater_pair, Attempt, Decision}
 use Rattle.rc_model.specs.Model.{has_answered, is_gathering, parts_of, plan_message, plan_messages, refuses_server}
-use Rattle.rc_model.specs.Model.{list_body, spreads_list, begins_attempt, has_tablets, begins_if_needed, attempt_at, with_attempt}
+use Rattle.rc_model.specs.Model.{list_body, spreads_list, begins_attempt, begins_if_needed, attempt_at, with_attempt}
 use Rattle.rc_model.specs.Model.{up_of_host, follows_generation, enlists, notes_ready, with_crashed, suspects, spreads_then_begins}
 use Rattle.rc_model.specs.Model.{commits_pair, is_current, with_answer, keeps_answer_in, ready_ids, decision_of, decides_on, decides_with}
 use Rattle.rc_model.specs.Model.{decides_attempt, own_body, grant_of, grant_to, part_of_sender, grants_part}
@@ -60,14 +60,7 @@ pub record Stays (c : Coordinator) (H : Addr → Body → Type 0) (M : Coordinat
 -- whatever is sent
 pub any-stays : {c : Coordinator} (H : Addr → Body → Type 0) (M : Coordinator × List Message → Type 0) →
     ((messages : List Message) → M (c, messages)) → Stays c H M
-any-stays {c} H M any = record {
-  refuses = λ fault. any (coordinator_refuses fault ∷ []);
-  denies = λ id fault other. any (refuses_server id fault ∷ []);
-  lists = λ id. any (from_coordinator id (list_body c.servers) ∷ []);
-  repeats = λ id term grant is found. any (from_coordinator id (own_body grant) ∷ []);
-  lacks = λ id number term part is none. any (refuses_server id NoTable ∷ []);
-  ticks = any (coordinator_ticks c);
-}
+any-stays {c} H M any = search arith
 
 -- where it changes: N holds before an attempt may begin
 pub record Moves (c : Coordinator) (H : Addr → Body → Type 0) (N M : Coordinator × List Message → Type 0) : Type 0 where
@@ -127,14 +120,7 @@ holds-found table at (first ∷ tablets) one e =
 
 -- the attempt of a number
 attempt-found : (c : Coordinator) (k : ℕ) → attempt_at c (1 + k) ≡ slice_get c.attempts k
-attempt-found c k =
-    ap (λ b. cond b None (slice_get c.attempts (1 + k - 1))) (above k) ∙ ap (slice_get c.attempts) (back k)
-  where
-    above : (n : ℕ) → nat_eq (1 + n) 0 ≡ false
-    above n = grind (arith, nat_tests)
-
-    back : (n : ℕ) → 1 + n - 1 ≡ n
-    back n = omega arith
+attempt-found c k = search (arith, slice_get, nat_eq, nat_tests)
 
 -- The walk
 
@@ -142,11 +128,7 @@ module _ (c : Coordinator) (H : Addr → Body → Type 0) (N M : Coordinator × 
     (w : Moves c H N M) where
   walked-begins : {new : Coordinator} {messages : List Message} (master : ServerId) → N (new, messages) →
       M ((begins_if_needed new master).0, messages ++ (begins_if_needed new master).1)
-  walked-begins {new} {messages} master n =
-      either (λ (after : Coordinator × List Message). M (after.0, messages ++ after.1))
-      (has_crashed new.servers master && has_tablets new master) (begins_attempt new master) (new, [])
-      (λ both. w.begins new messages master n (and_parts (has_crashed new.servers master) (has_tablets new master) both).0)
-      (λ _. subst (λ all. M (new, all)) (sym (append-nil messages)) (w.done new messages n))
+  walked-begins {new} {messages} master n = search (arith, either, and_parts, append-nil)
 
   pub walked-suspects : (id : ServerId) → M (suspects c id)
   walked-suspects id =
@@ -181,13 +163,7 @@ module _ (c : Coordinator) (H : Addr → Body → Type 0) (N M : Coordinator × 
   walked-keeps : {from : ServerId} {number : ℕ} {rows : List Row} (found : Option Attempt) → attempt_at c number ≡ found →
       H (Server from) (Replicas number rows) → M (option_map_or (keeps_answer_in c from number rows) found c, [])
   walked-keeps None is h = w.done c [] w.same
-  walked-keeps {from} {number} {rows} (Some attempt) is h = either (λ (new : Coordinator). M (new, []))
-      (is_current c number attempt && (is_gathering attempt && not (has_answered from attempt.replies)))
-      (with_attempt c number (with_answer from rows attempt)) c
-      (λ all. w.answers from number rows attempt h is (undecided-none attempt.decided
-      (and_parts (is_gathering attempt) (not (has_answered from attempt.replies))
-      (and_parts (is_current c number attempt) (is_gathering attempt && not (has_answered from attempt.replies))
-      all).1).0)) (λ _. w.done c [] w.same)
+  walked-keeps {from} {number} {rows} (Some attempt) is h = search (arith, either, undecided-none, and_parts)
 
   walked-picks : (master : ServerId) {attempt : Attempt} (picked : Result Plan Fault) (ids : List ServerId) →
       attempt_at c (c.current master) ≡ Some attempt → attempt.decided ≡ None →
@@ -206,13 +182,7 @@ module _ (c : Coordinator) (H : Addr → Body → Type 0) (N M : Coordinator × 
       (undecided-none attempt.decided e) refl) (λ _. s.refuses StaleAttempt)
 
   walked-part : {id : ServerId} {number term : ℕ} {part : Part} → IsAsked c H id number term part → M (grants_part c id number part)
-  walked-part {id} {number} {term} {part} is = either M (has_range part.range c.tablets) (
-    record c {
-      tablets = assigned part.range id part.term c.tablets;
-      grants = c.grants ++ grant_of number id part ∷ [];
-    },
-    from_coordinator id (own_body (grant_of number id part)) ∷ [],
-  ) (c, refuses_server id NoTable ∷ []) (w.grants id number term part is) (s.lacks id number term part is)
+  walked-part {id} {number} {term} {part} is = search (arith, either)
 
   walked-given : {id : ServerId} {number term : ℕ} (part : Option Part) → H (Server id) (Recovered number term) →
       is_up c.servers id ≡ true → grant_to c id term ≡ None → part_of_sender c id number term ≡ part →

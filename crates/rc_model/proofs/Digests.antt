@@ -1,11 +1,11 @@
 -- What the digest of the next head leaves out, and when a segment is dead.
-use Rattle.std.proofs.Common.{◌≡◌, ℕ, zero, suc, ◌+◌, ◌<◌, Bool, true, false, cond, not, ◌&&◌, ◌||◌, nat_eq, nat_lt, List, [], ◌∷◌, ◌++◌}
-use Rattle.std.proofs.Common.{map, filter, Option, Some, None, Result, Ok, Err, slice_get, refl, sym, ap, ◌∙◌, subst}
+use Rattle.std.proofs.Common.{◌≡◌, ℕ, zero, suc, ◌+◌, ◌<◌, Bool, true, false, cond, ◌&&◌, ◌||◌, nat_eq, nat_lt, List, [], ◌∷◌, ◌++◌}
+use Rattle.std.proofs.Common.{map, filter, Option, Some, None, Result, Ok, Err, slice_get, refl, sym, ap, ◌∙◌, subst, arith}
 use Rattle.std.specs.List.{list_any, list_all}
 use Rattle.std.proofs.lemmas.Bool.{and_parts, eqb-true, ltb-true, or_left, or_right, or_parts, not-false}
 use Rattle.rc_model.specs.Heads.{opened_on}
-use Rattle.rc_model.specs.Model.{ServerId, Entry, Fault, LogFull, LAST_SEGMENT, ServerList, choose, Segment, new_segment, Log, head_of}
-use Rattle.rc_model.specs.Model.{next_digest, begin_roll, is_of, is_outdated, is_dead, Master, durable_entries, is_dead_segment}
+use Rattle.rc_model.specs.Model.{ServerId, Entry, Fault, LogFull, LAST_SEGMENT, ServerList, choose, Log, head_of}
+use Rattle.rc_model.specs.Model.{next_digest, begin_roll, is_of, is_outdated, Master, durable_entries, is_dead_segment}
 use Rattle.rc_model.specs.Model.{dead_segments}
 use Rattle.rc_model.proofs.Tests.{either, true_false}
 use Rattle.rc_model.proofs.Tables.{put-same}
@@ -82,19 +82,7 @@ joined-left n (k ∷ ks) ms there = by (nat_eq n k) refl there (joined-left n ks
 left-dead : (log : Log) (dead : List ℕ) (seg : ℕ) → list_any (nat_eq seg) (head_of log).digest ≡ true →
     list_any (nat_eq seg) (next_digest log dead) ≡ false →
     (list_any (nat_eq seg) dead ≡ true) × (nat_eq seg log.head ≡ false)
-left-dead log dead seg there gone = by (nat_eq seg log.head || not (list_any (nat_eq seg) dead)) refl
-  where
-    by : (b : Bool) → nat_eq seg log.head || not (list_any (nat_eq seg) dead) ≡ b →
-        (list_any (nat_eq seg) dead ≡ true) × (nat_eq seg log.head ≡ false)
-    by true stays =
-        let still : list_any (nat_eq seg) (filter (λ s. nat_eq s log.head || not (list_any (nat_eq s) dead)) (head_of log).digest) ≡ true =
-        kept (λ s. nat_eq s log.head || not (list_any (nat_eq s) dead)) (head_of log).digest there stays in
-        true_false (sym (joined-left seg (filter (λ s. nat_eq s log.head || not (list_any (nat_eq s) dead))
-        (head_of log).digest) ((log.head + 1) ∷ []) still) ∙ gone)
-    by false goes =
-        let parts : (nat_eq seg log.head ≡ false) × (not (list_any (nat_eq seg) dead) ≡ false) =
-        or_parts (nat_eq seg log.head) (not (list_any (nat_eq seg) dead)) goes in
-        (not-false (list_any (nat_eq seg) dead) parts.1, parts.0)
+left-dead log dead seg there gone = search (arith, nat_eq, kept, true_false, joined-left, or_parts, not-false)
 
 abbrev LeavesDead : Log → List ℕ → ℕ → Log × Result Bool Fault → Type 0
 LeavesDead old dead seg answer = (began : Bool) → answer.1 ≡ Ok began → list_any (nat_eq seg) (head_of old).digest ≡ true →
@@ -103,10 +91,7 @@ LeavesDead old dead seg answer = (began : Bool) → answer.1 ≡ Ok began → li
 leaves-opened_on : (old : Log) (dead : List ℕ) (seg : ℕ) (chosen : Option (List ServerId)) →
     LeavesDead old dead seg (opened_on old (next_digest old dead) chosen)
 leaves-opened_on old dead seg None began e there gone = cc
-leaves-opened_on old dead seg (Some ids) began e there gone =
-    let digest : (head_of (opened_on old (next_digest old dead) (Some ids)).0).digest ≡ next_digest old dead =
-    ap (λ (s : Segment). s.digest) (put-same old.segments (old.head + 1)) in
-    left-dead old dead seg there (ap (list_any (nat_eq seg)) (sym digest) ∙ gone)
+leaves-opened_on old dead seg (Some ids) began e there gone = search (arith, put-same, left-dead, nat_eq)
 
 leaves-begun : (old : Log) (servers : ServerList) (dead : List ℕ) (seg : ℕ) → LeavesDead old dead seg (begin_roll servers dead old)
 leaves-begun old servers dead seg = either (LeavesDead old dead seg) (nat_lt old.head LAST_SEGMENT)
@@ -115,12 +100,7 @@ leaves-begun old servers dead seg = either (LeavesDead old dead seg) (nat_lt old
 
 -- a number in the list of the dead segments is that of a dead one
 listed-dead : (master : Master) (seg : ℕ) → list_any (nat_eq seg) (dead_segments master) ≡ true → is_dead_segment master seg ≡ true
-listed-dead master seg there = by master.free there
-  where
-    by : (b : Bool) → list_any (nat_eq seg) (cond b (filter (is_dead_segment master) (head_of master.log).digest) []) ≡
-        true → is_dead_segment master seg ≡ true
-    by true there = passed (is_dead_segment master) (head_of master.log).digest there
-    by false there = cc
+listed-dead master seg there = search (arith, nat_eq, passed)
 
 -- a roll leaves out dead segments alone
 pub rolls-leave : (master : Master) (log : Log) (began : Bool) (seg : ℕ) →
@@ -151,12 +131,4 @@ pub dead-outdated : (master : Master) (seg k : ℕ) (entry : Entry) → is_dead_
     slice_get (map (λ one. one.0) (master.log.segments seg).entries) k ≡ Some entry →
     ((master.log.segments seg).shut ≡ true) × ((j : ℕ) × (other : Entry) × (slice_get (durable_entries master) j ≡ Some other)
     × (is_of entry.term entry.table entry.key other ≡ true) × (entry.version < other.version))
-dead-outdated master seg k entry dead found =
-    let parts : ((master.log.segments seg).shut ≡ true) ×
-    (is_dead (durable_entries master) (map (λ one. one.0) (master.log.segments seg).entries) ≡ true) =
-    and_parts (master.log.segments seg).shut
-    (is_dead (durable_entries master) (map (λ one. one.0) (master.log.segments seg).entries)) dead in (
-      parts.0,
-      above (durable_entries master) entry
-          (all-get (is_outdated (durable_entries master)) (map (λ one. one.0) (master.log.segments seg).entries) k parts.1 found),
-    )
+dead-outdated master seg k entry dead found = search (arith, and_parts, above, all-get)

@@ -1,9 +1,9 @@
 -- The coordinator grants commits and ranges only to ids that are up.
 use Rattle.std.proofs.Common.{◌≡◌, ℕ, ◌+◌, true, false, List, [], ◌∷◌, length, refl, sym, ◌∙◌, subst}
-use Rattle.rc_model.specs.Model.{ServerId, Server, Message, Body, CommitOk, Gather, SplitOk, from_coordinator, coordinator_refuses}
-use Rattle.rc_model.specs.Model.{coordinator_tells, is_up, up, ServerList, Decision, refuses_server, list_body, spreads_list}
+use Rattle.rc_model.specs.Model.{ServerId, Server, Message, Body, CommitOk, Gather, from_coordinator}
+use Rattle.rc_model.specs.Model.{is_up, up, ServerList, Decision, list_body, spreads_list}
 use Rattle.rc_model.specs.Model.{own_body, grant_of, first_grant, decision_of}
-use Rattle.rc_model.specs.Model.{NoTable, begins_attempt, with_crashed, enlisted, plan_messages}
+use Rattle.rc_model.specs.Model.{begins_attempt, with_crashed, enlisted, plan_messages}
 use Rattle.rc_types.specs.declared.messages.Body.TheVariants.{Plan as PlanBody}
 use Rattle.rc_model.specs.Coordinator.{Coordinator}
 use Rattle.rc_model.specs.CoordinatorClaims.{is_granting, GrantsGoOnlyToTheUp}

@@ -6,7 +6,7 @@ use Rattle.std.proofs.lemmas.Bool.{or_from, or_parts, not-false, not_from_true, 
 use Rattle.std.specs.Option.{option_or}
 use Rattle.rc_model.specs.Model.{ServerId, Entry, PlanRow, Message, Body, Place, Append, Breach, Missing, Invented, Version, is_server}
 use Rattle.rc_model.specs.Model.{ascending, entry_at, made, Ack, acknowledged, all_acknowledged, Accepted, accepted, reach, is_recovered}
-use Rattle.rc_model.specs.Model.{is_earlier, grants_of, same_numbers, same_value, same_entry, is_of_ack, agrees, all_agree, is_greater}
+use Rattle.rc_model.specs.Model.{same_numbers, same_value, same_entry, is_of_ack, agrees, all_agree, is_greater}
 use Rattle.rc_model.specs.Model.{has_greater, holds_greater, is_superseded, is_missing, first_missing, all_same, is_one_entry}
 use Rattle.rc_model.specs.Model.{first_invented_from, first_invented, segments_of, falls, first_fall, missing_of, invented_of}
 use Rattle.rc_model.specs.Model.{falls_of, breach, In, IsHeld, IsOfAck, IsSuperseded, IsThere, IsOneEntry, RisesOver, Headline}
@@ -20,20 +20,10 @@ use Rattle.rc_model.proofs.Said.{WasAcknowledged-from, WasAcknowledged-in, WasAc
 -- Of the acknowledged term, table and key
 
 is_of_ack-true : {ack : Ack} {entry : Entry} → is_of_ack ack entry ≡ true → IsOfAck ack entry
-is_of_ack-true {ack} {entry} e =
-    let one = and_parts (nat_eq entry.term ack.term) (nat_eq entry.table ack.table && nat_eq entry.key ack.key) e in
-    let two = and_parts (nat_eq entry.table ack.table) (nat_eq entry.key ack.key) one.1 in
-    record {
-      term = eqb-true entry.term ack.term one.0;
-      table = eqb-true entry.table ack.table two.0;
-      key = eqb-true entry.key ack.key two.1;
-    }
+is_of_ack-true {ack} {entry} e = search (arith, and_parts, nat_eq, eqb-true)
 
 is_of_ack-from : {ack : Ack} {entry : Entry} → IsOfAck ack entry → is_of_ack ack entry ≡ true
-is_of_ack-from {ack} {entry} p =
-    and_from (nat_eq entry.term ack.term) (nat_eq entry.table ack.table && nat_eq entry.key ack.key) (eq-eqb entry.term ack.term p.term)
-    (and_from (nat_eq entry.table ack.table) (nat_eq entry.key ack.key) (eq-eqb entry.table ack.table p.table)
-    (eq-eqb entry.key ack.key p.key))
+is_of_ack-from {ack} {entry} p = search (arith, and_from, nat_eq, eq-eqb)
 
 abbrev Agrees : Ack → Entry → Type 0
 Agrees ack entry = IsOfAck ack entry × (entry.version ≡ ack.version)
@@ -48,9 +38,7 @@ agrees-from {ack} {entry} p = and_from (is_of_ack ack entry) (nat_eq entry.versi
 
 all_agree-true : (ack : Ack) (entries : List Entry) → all_agree ack entries ≡ true → (entry : Entry) → In entry entries → Agrees ack entry
 all_agree-true ack [] e entry at = absurd at
-all_agree-true ack (first ∷ entries) e entry (inl same) =
-    let parts = and_parts (agrees ack first) (all_agree ack entries) e in subst (λ x. Agrees ack x) (sym same)
-    (agrees-true parts.0)
+all_agree-true ack (first ∷ entries) e entry (inl same) = search (arith, and_parts, agrees-true)
 all_agree-true ack (first ∷ entries) e entry (inr rest) =
     let parts = and_parts (agrees ack first) (all_agree ack entries) e in all_agree-true ack entries parts.1 entry rest
 
@@ -85,15 +73,7 @@ has_greater-true rows ack s o (first ∷ entries) e =
     by : (has_greater rows ack s (o + 1) entries ≡ true → GreaterAt rows ack s (o + 1) entries) →
         ((is_recovered rows s o && is_greater ack first) ≡ true) ⊎ (has_greater rows ack s (o + 1) entries ≡ true) →
         GreaterAt rows ack s o (first ∷ entries)
-    by later (inl found) =
-        let parts = and_parts (is_recovered rows s o) (is_greater ack first) found in
-        record {
-          k = 0;
-          entry = first;
-          at = refl;
-          recovered = subst (λ x. is_recovered rows s x ≡ true) (sym here) parts.0;
-          greater = parts.1;
-        }
+    by later (inl found) = search (arith, and_parts, here)
     by later (inr found) =
         let p = later found in record {
           k = suc p.k;
@@ -107,11 +87,7 @@ has_greater-from : (rows : List PlanRow) (ack : Ack) (s o : ℕ) (entries : List
     slice_get entries k ≡ Some entry → is_recovered rows s (o + k) ≡ true → is_greater ack entry ≡ true →
     has_greater rows ack s o entries ≡ true
 has_greater-from rows ack s o [] k entry at recovered greater = cc
-has_greater-from rows ack s o (first ∷ entries) zero entry at recovered greater =
-    let same : first ≡ entry = cc in let here : o + 0 ≡ o = omega arith in
-    or_left (is_recovered rows s o && is_greater ack first) (has_greater rows ack s (o + 1) entries)
-    (and_from (is_recovered rows s o) (is_greater ack first) (subst (λ x. is_recovered rows s x ≡ true) here recovered)
-    (subst (λ x. is_greater ack x ≡ true) (sym same) greater))
+has_greater-from rows ack s o (first ∷ entries) zero entry at recovered greater = search (arith, or_left, and_from)
 has_greater-from rows ack s o (first ∷ entries) (suc k) entry at recovered greater =
     let next : o + suc k ≡ (o + 1) + k = omega arith in
     or_right (is_recovered rows s o && is_greater ack first) (has_greater rows ack s (o + 1) entries)
@@ -164,18 +140,9 @@ holds_greater-true rows ack _ e = cc
 holds_greater-from : (rows : List PlanRow) (ack : Ack) (body : Body) (s o : ℕ) (entry : Entry) →
     entry_at body s o ≡ Some entry → is_recovered rows s o ≡ true → is_greater ack entry ≡ true → holds_greater rows ack body ≡ true
 holds_greater-from rows ack (Place seg epoch digest entries closed) s o entry at recovered greater =
-    let parts = chosen-parts (nat_eq seg s) at in let same : seg ≡ s =
-    eqb-true seg s parts.0 in let from : o ≡ 0 + o = omega arith in
-    has_greater-from rows ack seg 0 entries o entry parts.1 (subst (λ x. is_recovered rows seg x ≡ true) from
-    (subst (λ x. is_recovered rows x o ≡ true) (sym same) recovered)) greater
+    search (arith, chosen-parts, nat_eq, eqb-true, has_greater-from)
 holds_greater-from rows ack (Append seg offset entries) s o entry at recovered greater =
-    let parts = chosen-parts (nat_eq seg s && nat_le offset o) at in
-    let tests = and_parts (nat_eq seg s) (nat_le offset o) parts.0 in
-    let same : seg ≡ s = eqb-true seg s tests.0 in let le : offset ≤ o =
-    leb-true offset o tests.1 in let from : o ≡ offset + (o - offset) = omega (arith, le) in
-    has_greater-from rows ack seg offset entries (o - offset) entry parts.1
-    (subst (λ x. is_recovered rows seg x ≡ true) from
-    (subst (λ x. is_recovered rows x o ≡ true) (sym same) recovered)) greater
+    search (arith, chosen-parts, nat_eq, nat_le, and_parts, eqb-true, leb-true, has_greater-from)
 holds_greater-from rows ack _ s o entry at recovered greater = cc
 
 -- a greater version that the master has sent
@@ -194,19 +161,13 @@ is_superseded-sent (first ∷ sent) plan ack e = by (is_superseded-sent sent pla
     by : (is_superseded sent plan ack ≡ true → GreaterSent sent plan ack) →
         ((is_server plan.master first.from && holds_greater plan.rows ack first.body) ≡ true) ⊎
         (is_superseded sent plan ack ≡ true) → GreaterSent (first ∷ sent) plan ack
-    by later (inl found) =
-        let parts = and_parts (is_server plan.master first.from) (holds_greater plan.rows ack first.body) found in
-        record { message = first; among = inl refl; from = parts.0; holds = parts.1 }
+    by later (inl found) = search (arith, and_parts)
     by later (inr found) = let p = later found in record { message = p.message; among = inr p.among; from = p.from; holds = p.holds }
 
 sent-is_superseded : (sent : List Message) (plan : Accepted) (ack : Ack) (message : Message) → In message sent →
     is_server plan.master message.from ≡ true → holds_greater plan.rows ack message.body ≡ true → is_superseded sent plan ack ≡ true
 sent-is_superseded [] plan ack message at from holds = absurd at
-sent-is_superseded (first ∷ sent) plan ack message (inl e) from holds =
-    or_left (is_server plan.master first.from && holds_greater plan.rows ack first.body) (is_superseded sent plan ack)
-    (and_from (is_server plan.master first.from) (holds_greater plan.rows ack first.body)
-    (subst (λ (x : Message). is_server plan.master x.from ≡ true) e from)
-    (subst (λ (x : Message). holds_greater plan.rows ack x.body ≡ true) e holds))
+sent-is_superseded (first ∷ sent) plan ack message (inl e) from holds = search (arith, or_left, and_from)
 sent-is_superseded (first ∷ sent) plan ack message (inr rest) from holds =
     or_right (is_server plan.master first.from && holds_greater plan.rows ack first.body) (is_superseded sent plan ack)
     (sent-is_superseded sent plan ack message rest from holds)
@@ -227,11 +188,17 @@ is_superseded-true sent plan ack e =
 
 is_superseded-from : {sent : List Message} {plan : Accepted} {ack : Ack} → IsSuperseded sent plan ack → is_superseded sent plan ack ≡ true
 is_superseded-from {sent} {plan} {ack} p =
-    sent-is_superseded sent plan ack p.made.message p.made.among (is_server-from p.made.from)
-    (holds_greater-from plan.rows ack p.made.message.body p.seg p.offset p.entry p.made.holds
-    (held-is_recovered p.held)
-    (and_from (is_of_ack ack p.entry) (nat_lt ack.version p.entry.version) (is_of_ack-from p.of_ack)
-    (lt-ltb ack.version p.entry.version p.greater)))
+    search (
+      arith,
+      sent-is_superseded,
+      is_server-from,
+      holds_greater-from,
+      held-is_recovered,
+      and_from,
+      nat_lt,
+      is_of_ack-from,
+      lt-ltb,
+    )
 
 -- Missing
 
@@ -340,28 +307,13 @@ same_value-refl None = refl
 same_value-refl (Some ns) = same_numbers-refl ns
 
 entry_from : {a b : Entry} → a.term ≡ b.term → a.table ≡ b.table → a.key ≡ b.key → a.version ≡ b.version → a.value ≡ b.value → a ≡ b
-entry_from {a} {b} term table key version value =
-    let whole : ◌≡◌ {A = Entry} (record { term = a.term; table = a.table; key = a.key; version = a.version; value = a.value })
-    (record { term = b.term; table = b.table; key = b.key; version = b.version; value = b.value }) = cc in whole
+entry_from {a} {b} term table key version value = search arith
 
 pub same_entry-true : {a b : Entry} → same_entry a b ≡ true → a ≡ b
-same_entry-true {a} {b} e =
-    let one = and_parts (nat_eq a.term b.term)
-    (nat_eq a.table b.table && (nat_eq a.key b.key && (nat_eq a.version b.version && same_value a.value b.value)))
-    e in
-    let two = and_parts (nat_eq a.table b.table) (nat_eq a.key b.key && (nat_eq a.version b.version && same_value a.value b.value)) one.1 in
-    let three = and_parts (nat_eq a.key b.key) (nat_eq a.version b.version && same_value a.value b.value) two.1 in
-    let four = and_parts (nat_eq a.version b.version) (same_value a.value b.value) three.1 in
-    entry_from (eqb-true a.term b.term one.0) (eqb-true a.table b.table two.0) (eqb-true a.key b.key three.0)
-    (eqb-true a.version b.version four.0) (same_value-true a.value b.value four.1)
+same_entry-true {a} {b} e = search (arith, and_parts, nat_eq, entry_from, eqb-true, same_value-true)
 
 same_entry-refl : (a : Entry) → same_entry a a ≡ true
-same_entry-refl a = and_from (nat_eq a.term a.term)
-    (nat_eq a.table a.table && (nat_eq a.key a.key && (nat_eq a.version a.version && same_value a.value a.value)))
-    (eq-eqb a.term a.term refl) (and_from (nat_eq a.table a.table)
-    (nat_eq a.key a.key && (nat_eq a.version a.version && same_value a.value a.value)) (eq-eqb a.table a.table refl)
-    (and_from (nat_eq a.key a.key) (nat_eq a.version a.version && same_value a.value a.value) (eq-eqb a.key a.key refl)
-    (and_from (nat_eq a.version a.version) (same_value a.value a.value) (eq-eqb a.version a.version refl) (same_value-refl a.value))))
+same_entry-refl a = search (arith, and_from, nat_eq, eq-eqb, same_value-refl)
 
 all_same-each : (entry : Entry) (entries : List Entry) → all_same entry entries ≡ true → (other : Entry) → In other entries → other ≡ entry
 all_same-each entry [] e other at = absurd at
@@ -422,13 +374,8 @@ or_some-none false breach e is = cc
 
 first_invented_from-each : {sent : List Message} (plan : Accepted) {s : ℕ} (o places : ℕ) →
     first_invented_from sent plan s o places ≡ None → (k : ℕ) → k < places → IsOneEntry sent plan.master s (o + k)
-first_invented_from-each plan o zero e k less = absurd (none less)
-  where
-    none : k < 0 → ⊥
-    none h = omega (arith, h)
-first_invented_from-each {sent} plan {s} o (suc places) e zero less =
-    let parts = or_some-true (is_one_entry (made sent plan.master s o)) (Invented plan.attempt plan.master s o) e in
-    let here : o ≡ o + 0 = omega arith in subst (λ x. IsOneEntry sent plan.master s x) here (is_one_entry-made parts.0)
+first_invented_from-each plan o zero e k less = search arith
+first_invented_from-each {sent} plan {s} o (suc places) e zero less = search (arith, or_some-true, is_one_entry-made)
 first_invented_from-each {sent} plan {s} o (suc places) e (suc k) less =
     let parts = or_some-true (is_one_entry (made sent plan.master s o)) (Invented plan.attempt plan.master s o) e in
     let next : (o + 1) + k ≡ o + suc k = omega arith in let fewer : k < places = omega (arith, less) in
@@ -472,10 +419,7 @@ first_invented-held {sent} plan e s o p = first_invented-each sent plan (ascendi
 invented_of-each : (sent : List Message) (plans : List Accepted) → invented_of sent plans ≡ None → (plan : Accepted) →
     In plan plans → (s o : ℕ) → IsHeld plan.rows s o → IsOneEntry sent plan.master s o
 invented_of-each sent [] e plan at = absurd at
-invented_of-each sent (first ∷ plans) e plan (inl same) =
-    let parts = option_or-parts (first_invented sent first (ascending (segments_of first.rows))) e in
-    let P : Accepted → Type 0 = λ x. (s o : ℕ) → IsHeld x.rows s o → IsOneEntry sent x.master s o in
-    subst P (sym same) (first_invented-held first parts.0)
+invented_of-each sent (first ∷ plans) e plan (inl same) = search (arith, option_or-parts, first_invented-held)
 invented_of-each sent (first ∷ plans) e plan (inr rest) =
     let parts = option_or-parts (first_invented sent first (ascending (segments_of first.rows)))
     e in invented_of-each sent plans parts.1 plan rest
@@ -492,46 +436,17 @@ invented_of-none (first ∷ plans) each = option_or-none (first_invented-none fi
 
 -- the four tests of a fall
 falls-rises : (sent : List Message) (later earlier : Ack) → falls sent later earlier ≡ false → RisesOver sent later earlier
-falls-rises sent later earlier e table key before = ltb-true earlier.version later.version
-    (true_from_ne_false (nat_lt earlier.version later.version) (λ no. false_true (sym e ∙
-    and_from (nat_eq earlier.table later.table) (nat_eq earlier.key later.key &&
-    (not (nat_lt earlier.version later.version) && is_earlier sent later.table later.key earlier.term later.term))
-    (eq-eqb earlier.table later.table table)
-    (and_from (nat_eq earlier.key later.key) (not (nat_lt earlier.version later.version) &&
-    is_earlier sent later.table later.key earlier.term later.term) (eq-eqb earlier.key later.key key)
-    (and_from (not (nat_lt earlier.version later.version)) (is_earlier sent later.table later.key earlier.term later.term) (ap not no)
-    (is_before-found (grants_of sent later.table later.key) before))))))
-  where
-    false_true : false ≡ true → ⊥
-    false_true h = cc
+falls-rises sent later earlier e table key before =
+    search (arith, ltb-true, true_from_ne_false, nat_lt, and_from, nat_eq, eq-eqb, is_before-found)
 
 rises-falls : (sent : List Message) (later earlier : Ack) → RisesOver sent later earlier → falls sent later earlier ≡ false
-rises-falls sent later earlier rises = false_from_ne_true (falls sent later earlier) no_fall
-  where
-    clash : (b : Bool) → b ≡ true → not b ≡ true → ⊥
-    clash b e n = cc
-
-    no_fall : falls sent later earlier ≡ true → ⊥
-    no_fall e =
-        let one = and_parts (nat_eq earlier.table later.table) (nat_eq earlier.key later.key &&
-        (not (nat_lt earlier.version later.version) && is_earlier sent later.table later.key earlier.term
-        later.term)) e in
-        let two = and_parts (nat_eq earlier.key later.key) (not (nat_lt earlier.version later.version) &&
-        is_earlier sent later.table later.key earlier.term later.term) one.1 in
-        let three = and_parts (not (nat_lt earlier.version later.version))
-        (is_earlier sent later.table later.key earlier.term later.term) two.1 in
-        clash (nat_lt earlier.version later.version)
-        (lt-ltb earlier.version later.version (rises (eqb-true earlier.table later.table one.0) (eqb-true earlier.key later.key two.0)
-        (is_before-finds (grants_of sent later.table later.key) three.1))) three.0
+rises-falls sent later earlier rises =
+    search (arith, false_from_ne_true, and_parts, nat_eq, nat_lt, lt-ltb, eqb-true, is_before-finds)
 
 first_fall-each : (sent : List Message) (later : Ack) (acks : List Ack) → first_fall sent later acks ≡ None →
     (earlier : Ack) → In earlier acks → RisesOver sent later earlier
 first_fall-each sent later [] e earlier at = absurd at
-first_fall-each sent later (first ∷ acks) e earlier (inl same) =
-    let parts = some_or-false (falls sent later first)
-    (Version later.table later.key first.term first.version later.term later.version)
-    e in
-    subst (λ x. RisesOver sent later x) (sym same) (falls-rises sent later first parts.0)
+first_fall-each sent later (first ∷ acks) e earlier (inl same) = search (arith, some_or-false, falls-rises)
 first_fall-each sent later (first ∷ acks) e earlier (inr rest) =
     let parts = some_or-false (falls sent later first)
     (Version later.table later.key first.term first.version later.term later.version)
@@ -549,10 +464,7 @@ first_fall-none sent later (first ∷ acks) each =
 falls_of-each : (sent : List Message) (acks : List Ack) → falls_of sent acks ≡ None → (later : Ack) → In later acks →
     (earlier : Ack) → In earlier (all_acknowledged sent) → RisesOver sent later earlier
 falls_of-each sent [] e later at = absurd at
-falls_of-each sent (first ∷ acks) e later (inl same) =
-    let parts = option_or-parts (first_fall sent first (all_acknowledged sent)) e in
-    let P : Ack → Type 0 = λ x. (earlier : Ack) → In earlier (all_acknowledged sent) → RisesOver sent x earlier in
-    subst P (sym same) (first_fall-each sent first (all_acknowledged sent) parts.0)
+falls_of-each sent (first ∷ acks) e later (inl same) = search (arith, option_or-parts, first_fall-each)
 falls_of-each sent (first ∷ acks) e later (inr rest) =
     let parts = option_or-parts (first_fall sent first (all_acknowledged sent)) e in
     falls_of-each sent acks parts.1 later rest

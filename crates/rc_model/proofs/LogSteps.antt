@@ -1,9 +1,9 @@
 -- What a step does to a log: which segments take entries, and where a head begins to be written in.
 use Rattle.std.proofs.Common.{◌≡◌, ◌⊎◌, inl, inr, ℕ, ◌+◌, ◌-◌, ◌<◌, ◌≤◌, Bool, true, false, cond, nat_eq, ◌&&◌, List, [], ◌∷◌}
-use Rattle.std.proofs.Common.{Result, Ok, Err, refl, sym, ap, ◌∙◌, subst, arith}
+use Rattle.std.proofs.Common.{Result, Ok, Err, refl, sym, ap, ◌∙◌, arith}
 use Rattle.std.proofs.lemmas.Bool.{and_parts, eqb-true, eq-eqb}
-use Rattle.rc_model.specs.Model.{ServerId, Addr, Fault, Phase, Opening, Closing, Writing, Entry, Body, put, ServerList, Config}
-use Rattle.rc_model.specs.Model.{all_placed, lose, refill, noted, committed_at, Segment, new_segment, with_entry, with_closes_sent, Log}
+use Rattle.rc_model.specs.Model.{ServerId, Addr, Fault, Phase, Opening, Entry, Body, ServerList, Config}
+use Rattle.rc_model.specs.Model.{all_placed, noted, committed_at, Segment, with_closes_sent, Log}
 use Rattle.rc_model.specs.Model.{head_of, with_segment, old_head_of, has_old_head, has_segment, is_opening, is_closing, is_writing}
 use Rattle.rc_model.specs.Model.{is_ready, may_start, may_close, may_write, left_out, with_freed, starts, writes_on, with_config}
 use Rattle.rc_model.specs.Model.{opens_change, refills, loses}
@@ -23,14 +23,7 @@ has-refl : {log : Log} {s : ℕ} → s ≤ log.head → HasItsEntries log log s
 has-refl upto = record { still = λ _. refl; none = λ above. absurd (omega (arith, upto, above)) }
 
 has-both : {a b c : Log} {s : ℕ} → a.head ≤ b.head → HasItsEntries a b s → HasItsEntries b c s → HasItsEntries a c s
-has-both {a} {b} {c} {s} less p q = record {
-  still = λ upto. q.still (omega (arith, upto, less)) ∙ p.still upto;
-  none = λ above. by above upto_or;
-}
-  where
-    by : a.head < s → (s ≤ b.head) ⊎ (b.head < s) → (c.segments s).entries ≡ []
-    by above (inl upto) = q.still upto ∙ p.none above
-    by above (inr over) = q.none over
+has-both {a} {b} {c} {s} less p q = search (arith, upto_or)
 
 -- Inputs
 
@@ -43,13 +36,7 @@ pub record InputLeads (old new : Log) : Type 0 where
   pub entries : (s : ℕ) → s ≤ new.head → HasItsEntries old new s ⊎ IsWritingIn old s
 
 pub input-refl : (log : Log) → InputLeads log log
-input-refl log = record {
-  own = refl;
-  head = omega arith;
-  phase = inl (refl, refl);
-  asked = λ s e. e;
-  entries = λ s upto. inl (has-refl upto);
-}
+input-refl log = search (arith, has-refl)
 
 -- what was so in a phase was so in it before
 phase-was : (test : Phase → Bool) (old new : Log) → test Opening ≡ false →
@@ -90,11 +77,7 @@ input-both a b c p q = record {
 
     by : (s : ℕ) → HasItsEntries b c s ⊎ IsWritingIn b s → HasItsEntries a c s ⊎ IsWritingIn a s
     by s (inr wrote) = inr (writing-was p wrote)
-    by s (inl has) = which upto_or
-      where
-        which : (s ≤ b.head) ⊎ (b.head < s) → HasItsEntries a c s ⊎ IsWritingIn a s
-        which (inl upto) = known s has (p.entries s upto)
-        which (inr over) = new s over has
+    by s (inl has) = search (arith, upto_or, known, new)
 
 inputs : LogJoined InputLeads
 inputs = record { still = input-refl; both = input-both }
@@ -102,81 +85,30 @@ inputs = record { still = input-refl; both = input-both }
 -- a segment changes, but for its entries
 input-put : (log : Log) (seg : ℕ) (segment : Segment) → segment.entries ≡ (log.segments seg).entries →
     (segment.commit_sent ≡ true → (log.segments seg).commit_sent ≡ true) → InputLeads log (with_segment seg segment log)
-input-put log seg segment same asked = record {
-  own = refl;
-  head = omega arith;
-  phase = inl (refl, refl);
-  asked = put_each (λ k (one : Segment). one.commit_sent ≡ true → (log.segments k).commit_sent ≡ true) log.segments seg segment
-      asked (λ k e. e);
-  entries = λ s upto. inl (record {
-    still = λ _. put_each (λ k (one : Segment). one.entries ≡ (log.segments k).entries) log.segments seg segment same (λ k. refl) s;
-    none = λ above. absurd (omega (arith, upto, above));
-  });
-}
+input-put log seg segment same asked = search (arith, put_each)
 
 -- the entries of a segment below the head are not the new head's
 below-head : (log : Log) (digest : List ℕ) (ids : List ServerId) {s : ℕ} → s ≤ log.head →
     (opens_head log digest ids).segments s ≡ log.segments s
-below-head log digest ids {s} upto =
-    put-other log.segments (log.head + 1) (new_segment (log.head + 1) digest ids) (isn't (nat_eq (log.head + 1) s) refl)
-  where
-    isn't : (b : Bool) → nat_eq (log.head + 1) s ≡ b → nat_eq (log.head + 1) s ≡ false
-    isn't true e = absurd (let same : log.head + 1 ≡ s = eqb-true (log.head + 1) s e in omega (arith, same, upto))
-    isn't false e = e
+below-head log digest ids {s} upto = search (arith, put-other, nat_eq, eqb-true)
 
 opened-entries : {log : Log} (digest : List ℕ) (ids : List ServerId) {s : ℕ} → s ≤ log.head + 1 →
     HasItsEntries log (opens_head log digest ids) s
-opened-entries {log} digest ids {s} upto = record {
-  still = λ there. ap (λ (one : Segment). one.entries) (below-head log digest ids there);
-  none = λ above. (let same : s ≡ log.head + 1 = omega (arith, above, upto) in
-      ap (λ k. ((opens_head log digest ids).segments k).entries) same ∙
-      ap (λ (one : Segment). one.entries) (put-same log.segments (log.head + 1)));
-}
+opened-entries {log} digest ids {s} upto = search (arith, below-head, put-same)
 
 input-opens : {log : Log} (digest : List ℕ) (ids : List ServerId) → InputLeads log (opens_head log digest ids)
-input-opens {log} digest ids = record {
-  own = refl;
-  head = omega arith;
-  phase = inr refl;
-  asked = put_each (λ k (one : Segment). one.commit_sent ≡ true → (log.segments k).commit_sent ≡ true) log.segments
-      (log.head + 1) (new_segment (log.head + 1) digest ids) (λ e. true_false (sym e)) (λ k e. e);
-  entries = λ s upto. inl (opened-entries digest ids upto);
-}
+input-opens {log} digest ids = search (arith, put_each, true_false, opened-entries)
 
 -- the head takes an entry
 beside-head : (log : Log) (entry : Entry) (client : Bool) {s : ℕ} → (s ≡ log.head → ⊥) →
     (appends entry client log).segments s ≡ log.segments s
-beside-head log entry client {s} isn't =
-    put-other log.segments log.head (with_entry entry client (head_of log)) (by (nat_eq log.head s) refl)
-  where
-    by : (b : Bool) → nat_eq log.head s ≡ b → nat_eq log.head s ≡ false
-    by true e = absurd (isn't (sym (eqb-true log.head s e)))
-    by false e = e
+beside-head log entry client {s} isn't = search (arith, put-other, nat_eq, eqb-true)
 
 same_or : {a b : ℕ} → (a ≡ b) ⊎ (a ≡ b → ⊥)
-same_or {a} {b} = by (nat_eq a b) refl
-  where
-    by : (c : Bool) → nat_eq a b ≡ c → (a ≡ b) ⊎ (a ≡ b → ⊥)
-    by true e = inl (eqb-true a b e)
-    by false e = inr (λ same. true_false (sym (eq-eqb a b same) ∙ e))
+same_or {a} {b} = search (arith, nat_eq, eqb-true, true_false, eq-eqb)
 
 input-appends : (entry : Entry) (client : Bool) {log : Log} → is_writing log.phase ≡ true → InputLeads log (appends entry client log)
-input-appends entry client {log} writing = record {
-  own = refl;
-  head = omega arith;
-  phase = inl (refl, refl);
-  asked = put_each (λ k (one : Segment). one.commit_sent ≡ true → (log.segments k).commit_sent ≡ true) log.segments
-      log.head (with_entry entry client (head_of log)) (λ e. e) (λ k e. e);
-  entries = λ s upto. by s upto same_or;
-}
-  where
-    by : (s : ℕ) → s ≤ log.head → (s ≡ log.head) ⊎ (s ≡ log.head → ⊥) →
-        HasItsEntries log (appends entry client log) s ⊎ IsWritingIn log s
-    by s upto (inl is) = inr (writing, is)
-    by s upto (inr isn't) = inl (record {
-      still = λ _. ap (λ (one : Segment). one.entries) (beside-head log entry client isn't);
-      none = λ above. absurd (omega (arith, upto, above));
-    })
+input-appends entry client {log} writing = search (arith, put_each, same_or, beside-head)
 
 input-change : (seg : ℕ) {log : Log} (answer : Config × Result Bool Fault) → InputLeads log (opens_change seg log answer).0
 input-change seg {log} (config, Ok true) =
@@ -188,12 +120,7 @@ input-refills : (seg : ℕ) {log : Log} (answer : Config × Result (List ServerI
 input-refills seg {log} (config, answer) = input-put log seg (record (log.segments seg) { config = config }) refl (λ e. e)
 
 input-loses : (servers : ServerList) (seg : ℕ) (log : Log) → InputLeads log (loses servers seg log).0
-input-loses servers seg log =
-    either (λ (after : Log × Result (List ServerId) Fault). InputLeads log after.0) (log.segments seg).shut
-    (refills seg log (refill log.own servers (log.segments seg).config))
-    (opens_change seg log (lose log.own servers (log.segments seg).config))
-    (λ _. input-refills seg (refill log.own servers (log.segments seg).config))
-    (λ _. input-change seg (lose log.own servers (log.segments seg).config))
+input-loses servers seg log = search (arith, either, input-refills, input-change)
 
 input-if : {log : Log} (b : Bool) (seg : ℕ) (config : Config) → InputLeads log (cond b (with_config seg config log) log)
 input-if {log} b seg config = either (InputLeads log) b (with_config seg config log) log
@@ -203,10 +130,7 @@ listed : LogListed InputLeads
 listed = record { replaces = input-loses; opens = λ servers log ids none chosen. input-opens (1 ∷ []) ids }
 
 written : LogWritten InputLeads
-written = record {
-  rolls = λ servers log digest ids writing room chosen. input-opens digest ids;
-  writes = λ log entry client writing room. input-appends entry client writing;
-}
+written = search (arith, input-opens, input-appends)
 
 pub takes_first-leads : (master : Master) (from : Addr) (body : Body) → InputLeads master.log (master_takes_first master from body).0.log
 takes_first-leads master from body =
@@ -238,27 +162,10 @@ pub record FollowLeads (old new : Log) : Type 0 where
 
 -- what may take data still may
 pub may-later : {b c : Log} {s : ℕ} → FollowLeads b c → s ≤ b.head → MayTakeData b s → MayTakeData c s
-may-later {b} {c} {s} q upto p = record {
-  before = by p.before;
-  placed = ap all_placed (q.configs s upto) ∙ p.placed;
-  committed = ap (λ (config : Config). config.committed) (q.configs s upto) ∙ p.committed;
-}
-  where
-    by : (s ≡ 1) ⊎ ((b.segments (s - 1)).shut ≡ true) → (s ≡ 1) ⊎ ((c.segments (s - 1)).shut ≡ true)
-    by (inl first) = inl first
-    by (inr is) = inr (q.shut (s - 1) (omega (arith, upto)) is)
+may-later {b} {c} {s} q upto p = search arith
 
 follow-refl : (log : Log) → FollowLeads log log
-follow-refl log = record {
-  own = refl;
-  head = omega arith;
-  configs = λ s upto. refl;
-  shut = λ s upto is. is;
-  final = λ s below. refl;
-  writing = λ s is. inl is;
-  closing = λ is. inl (is, refl);
-  entries = λ s upto. inl (has-refl upto);
-}
+follow-refl log = search (arith, has-refl)
 
 follow-both : (a b c : Log) → FollowLeads a b → FollowLeads b c → FollowLeads a c
 follow-both a b c p q = record {
@@ -315,39 +222,12 @@ follows = record { still = follow-refl; both = follow-both }
 follow-put : {log : Log} (seg : ℕ) (segment : Segment) → segment.config ≡ (log.segments seg).config →
     segment.entries ≡ (log.segments seg).entries → ((log.segments seg).shut ≡ true → segment.shut ≡ true) →
     FollowLeads log (with_segment seg segment log)
-follow-put {log} seg segment config same shut = record {
-  own = refl;
-  head = omega arith;
-  configs = λ s upto. put_each (λ k (one : Segment). one.config ≡ (log.segments k).config) log.segments seg segment config (λ k. refl) s;
-  shut = λ s upto. put_each (λ k (one : Segment). (log.segments k).shut ≡ true → one.shut ≡ true) log.segments seg segment shut
-      (λ k e. e) s;
-  final = λ s below. kept s;
-  writing = λ s is. inl is;
-  closing = λ is. inl (is, refl);
-  entries = λ s upto. inl (record { still = λ _. kept s; none = λ above. absurd (omega (arith, upto, above)) });
-}
-  where
-    kept : (s : ℕ) → (put log.segments seg segment s).entries ≡ (log.segments s).entries
-    kept s = put_each (λ k (one : Segment). one.entries ≡ (log.segments k).entries) log.segments seg segment same (λ k. refl) s
+follow-put {log} seg segment config same shut = search (arith, put_each)
 
 -- the phase changes
 follow-phase : {log : Log} {phase : Phase} → (is_writing phase ≡ true → MayTakeData log log.head) →
     (is_closing phase ≡ true → all_placed (head_of log).config ≡ true) → FollowLeads log (record log { phase = phase })
-follow-phase {log} may placed = record {
-  own = refl;
-  head = omega arith;
-  configs = λ s upto. refl;
-  shut = λ s upto is. is;
-  final = λ s below. refl;
-  writing = λ s is. inr (let there = may is.0 in
-      record {
-        before = subst (λ k. (k ≡ 1) ⊎ ((log.segments (k - 1)).shut ≡ true)) (sym is.1) there.before;
-        placed = ap (λ k. all_placed (log.segments k).config) is.1 ∙ there.placed;
-        committed = ap (λ k. (log.segments k).config.committed) is.1 ∙ there.committed;
-      });
-  closing = λ is. inr (placed is);
-  entries = λ s upto. inl (record { still = λ _. refl; none = λ above. absurd (omega (arith, upto, above)) });
-}
+follow-phase {log} may placed = search arith
 
 follow-freed : (segs : List ℕ) {log : Log} → FollowLeads log (with_freed segs log)
 follow-freed [] {log} = follow-refl log
@@ -357,38 +237,10 @@ follow-freed (seg ∷ segs) {log} =
     (follow-freed segs)
 
 follow-opens : {log : Log} (digest : List ℕ) (ids : List ServerId) → FollowLeads log (opens_head log digest ids)
-follow-opens {log} digest ids = record {
-  own = refl;
-  head = omega arith;
-  configs = λ s upto. ap (λ (one : Segment). one.config) (below-head log digest ids upto);
-  shut = λ s upto is. ap (λ (one : Segment). one.shut) (below-head log digest ids upto) ∙ is;
-  final = λ s below. ap (λ (one : Segment). one.entries) (below-head log digest ids (omega (arith, below)));
-  writing = λ s is. true_false (sym is.0);
-  closing = λ is. true_false (sym is);
-  entries = λ s upto. inl (opened-entries digest ids upto);
-}
+follow-opens {log} digest ids = search (arith, below-head, true_false, opened-entries)
 
 follow-appends : (entry : Entry) (client : Bool) (log : Log) → is_writing log.phase ≡ true → FollowLeads log (appends entry client log)
-follow-appends entry client log writing = record {
-  own = refl;
-  head = omega arith;
-  configs = λ s upto. put_each (λ k (one : Segment). one.config ≡ (log.segments k).config) log.segments log.head
-      (with_entry entry client (head_of log)) refl (λ k. refl) s;
-  shut = λ s upto. put_each (λ k (one : Segment). (log.segments k).shut ≡ true → one.shut ≡ true) log.segments log.head
-      (with_entry entry client (head_of log)) (λ e. e) (λ k e. e) s;
-  final = λ s below. ap (λ (one : Segment). one.entries) (beside-head log entry client (λ same. absurd (omega (arith, below, same))));
-  writing = λ s is. inl is;
-  closing = λ is. inl (is, refl);
-  entries = λ s upto. by s upto same_or;
-}
-  where
-    by : (s : ℕ) → s ≤ log.head → (s ≡ log.head) ⊎ (s ≡ log.head → ⊥) →
-        HasItsEntries log (appends entry client log) s ⊎ (IsWritingIn log s ⊎ MayTakeData (appends entry client log) s)
-    by s upto (inl is) = inr (inl (writing, is))
-    by s upto (inr isn't) = inl (record {
-      still = λ _. ap (λ (one : Segment). one.entries) (beside-head log entry client isn't);
-      none = λ above. absurd (omega (arith, upto, above));
-    })
+follow-appends entry client log writing = search (arith, put_each, beside-head, same_or)
 
 -- where the first head starts, and the next one writes on
 ready-parts : (segment : Segment) → is_ready segment ≡ true →
@@ -396,19 +248,10 @@ ready-parts : (segment : Segment) → is_ready segment ≡ true →
 ready-parts segment e = and_parts segment.config.committed (all_placed segment.config) e
 
 pub start-may : {log : Log} → may_start log ≡ true → MayTakeData log log.head
-start-may {log} may =
-    let first = and_parts (nat_eq log.head 1) (is_ready (head_of log))
-    (and_parts (is_opening log.phase) (nat_eq log.head 1 && is_ready (head_of log)) may).1 in
-    let ready = ready-parts (head_of log) first.1 in
-    record { before = inl (eqb-true log.head 1 first.0); placed = ready.1; committed = ready.0 }
+start-may {log} may = search (arith, and_parts, nat_eq, ready-parts, eqb-true)
 
 pub write-may : {log : Log} → may_write log ≡ true → MayTakeData log log.head
-write-may {log} may =
-    let tests = and_parts (old_head_of log).shut (is_ready (head_of log))
-    (and_parts (has_old_head log) ((old_head_of log).shut && is_ready (head_of log))
-    (and_parts (is_closing log.phase) (has_old_head log && ((old_head_of log).shut && is_ready (head_of log))) may).1).1 in
-    let ready = ready-parts (head_of log) tests.1 in
-    record { before = inr tests.0; placed = ready.1; committed = ready.0 }
+write-may {log} may = search (arith, and_parts, ready-parts)
 
 pub close-may : (log : Log) → may_close log ≡ true → all_placed (head_of log).config ≡ true
 close-may log may = (and_parts (has_old_head log) (all_placed (head_of log).config)
@@ -436,10 +279,7 @@ followed = record {
 }
 
 pub follow-written : LogWritten FollowLeads
-follow-written = record {
-  rolls = λ servers log digest ids writing room chosen. follow-opens digest ids;
-  writes = λ log entry client writing room. follow-appends entry client log writing;
-}
+follow-written = search (arith, follow-opens, follow-appends)
 
 pub follow-joined : LogJoined FollowLeads
 follow-joined = follows

@@ -1,7 +1,7 @@
 -- Each follow-up lowers the measure, and none applies afterwards.
 use Rattle.std.proofs.Common.{◌≡◌, ◌≢◌, ℕ, zero, suc, ◌+◌, ◌-◌, ◌≤◌, ◌<◌, Bool, true, false, cond, not}
 use Rattle.std.proofs.Common.{◌&&◌, ◌||◌, nat_eq, nat_lt, List}
-use Rattle.std.proofs.Common.{[], ◌∷◌, ◌++◌, length, map, filter, find, take, Option, Some, None, option_map, Err, refl, sym}
+use Rattle.std.proofs.Common.{[], ◌∷◌, length, filter, find, Option, Some, None, option_map, Err, refl, sym}
 use Rattle.std.proofs.Common.{ap, ◌∙◌}
 use Rattle.std.proofs.Common.{subst, arith, option_and_then}
 use Rattle.std.proofs.lemmas.List.{length-append, length-take-le, append-nil}
@@ -12,13 +12,12 @@ use Rattle.std.proofs.Math.Numerals.{add-one}
 use Rattle.std.proofs.Math.Path.{fun_ext}
 use Rattle.std.specs.List.{list_any}
 use Rattle.std.specs.Option.{option_or}
-use Rattle.std.specs.Prelude.{drop}
 use Rattle.rc_model.specs.Heads.{opened_on}
 use Rattle.rc_model.specs.Model.{ServerId, Entry, Member, Phase, Opening, Closing, Writing, Message, Ready, LogFull, ServerList}
-use Rattle.rc_model.specs.Model.{to_coordinator, LAST_SEGMENT, same_id, has_id, put, Config, new_config, all_placed, choose, candidates}
-use Rattle.rc_model.specs.Model.{Segment, new_segment, with_entry, is_ready, has_unclosed, with_closes_sent, Log, head_of, with_segment}
-use Rattle.rc_model.specs.Model.{old_head_of, has_old_head, places_to, places_in, places_of, numbers_to, durable_now, is_opening}
-use Rattle.rc_model.specs.Model.{is_closing, is_writing, opens_head, next_digest, begin_roll, is_full, appends, shuts, with_shut}
+use Rattle.rc_model.specs.Model.{to_coordinator, LAST_SEGMENT, same_id, has_id, put, new_config, all_placed, choose}
+use Rattle.rc_model.specs.Model.{Segment, new_segment, is_ready, has_unclosed, with_closes_sent, Log, head_of, with_segment}
+use Rattle.rc_model.specs.Model.{old_head_of, has_old_head, places_to, places_of, numbers_to, durable_now, is_opening}
+use Rattle.rc_model.specs.Model.{is_closing, is_writing, opens_head, next_digest, begin_roll, is_full, shuts, with_shut}
 use Rattle.rc_model.specs.Model.{may_start, may_close, may_write, left_out, starts, closes_old, writes_on, PartState, after_replay}
 use Rattle.rc_model.specs.Model.{is_to_answer, is_complete, answered_in, Master, ids_of, with_log, durable_replayed, dead_segments}
 use Rattle.rc_model.specs.Model.{appends_entry, when, follow_up, follows_start, follows_placed, close_is_due, close_marked}
@@ -90,15 +89,11 @@ places-same {old} {new} n same = ap length (places_to-agrees old new n (λ k _. 
 
 commits-same : {old new : ℕ → Segment} (n : ℕ) → AllSameParts old new →
     length (filter (unsent new) (numbers_to n)) ≡ length (filter (unsent old) (numbers_to n))
-commits-same {old} {new} n same = ap length (filter-agrees n (λ k _ _.
-    ap (λ b. not b && not (new k).commit_sent) (ap (λ (c : Config). c.committed) (same k).config)
-    ∙ ap (λ b. not (old k).config.committed && not b) (same k).commit_sent))
+commits-same {old} {new} n same = search (arith, filter-agrees)
 
 closes-same : (head : ℕ) (old new : Segment) → new.config ≡ old.config → new.closes_sent ≡ old.closes_sent →
     unclosed head new ≡ unclosed head old
-closes-same head old new config sent =
-    ap (λ (c : Config). one_if (nat_lt 1 head && list_any (λ (member : Member). not (has_id member.id new.closes_sent)) c.members)) config
-    ∙ ap (λ ids. one_if (nat_lt 1 head && list_any (λ (member : Member). not (has_id member.id ids)) old.config.members)) sent
+closes-same head old new config sent = search (arith, nat_lt)
 
 -- none is left once Close was sent to all
 all-in : (members others : List Member) → ((id : ServerId) → has_id id (ids_of members) ≡ true → has_id id (ids_of others) ≡ true) →
@@ -117,33 +112,15 @@ closes-none : (segment : Segment) → has_unclosed (with_closes_sent segment) �
 closes-none segment = all-in segment.config.members segment.config.members (λ id e. e)
 
 unclosed-most : (head : ℕ) (segment : Segment) → unclosed head segment ≤ 1
-unclosed-most head segment = one_if-most (nat_lt 1 head && has_unclosed segment)
-  where
-    one_if-most : (b : Bool) → one_if b ≤ 1
-    one_if-most true = omega arith
-    one_if-most false = omega arith
+unclosed-most head segment = search (arith, nat_lt)
 
 -- The rules, one by one
 
 lowers-start : {master : Master} → may_start master.log ≡ true → Lowers master (with_log master (starts master.log))
-lowers-start {master} may =
-    let log : Log = master.log in
-    let parts : (is_opening master.log.phase ≡ true) × (nat_eq master.log.head 1 && is_ready (head_of master.log) ≡ true) =
-    and_parts (is_opening master.log.phase) (nat_eq master.log.head 1 && is_ready (head_of master.log)) may in
-    let ready : is_ready (head_of master.log) ≡ true = (and_parts (nat_eq master.log.head 1) (is_ready (head_of master.log)) parts.1).1 in
-    let placed : all_placed (head_of master.log).config ≡ true =
-    (and_parts (head_of master.log).config.committed (all_placed (head_of master.log).config) ready).1 in
-    let before : rank master.log master.log.phase ≡ 3 = rank-opening master.log master.log.phase parts.0 placed in
-    record { lower = omega arith; factor = refl }
+lowers-start {master} may = search (arith, nat_eq, and_parts, rank-opening)
 
 lowers-placed : {master : Master} → may_close master.log ≡ true → Lowers master (with_log master (closes_old master.log))
-lowers-placed {master} may =
-    let parts : (is_opening master.log.phase ≡ true) × (has_old_head master.log && all_placed (head_of master.log).config ≡ true) =
-    and_parts (is_opening master.log.phase) (has_old_head master.log && all_placed (head_of master.log).config) may in
-    let placed : all_placed (head_of master.log).config ≡ true =
-    (and_parts (has_old_head master.log) (all_placed (head_of master.log).config) parts.1).1 in
-    let before : rank master.log master.log.phase ≡ 3 = rank-opening master.log master.log.phase parts.0 placed in
-    record { lower = omega arith; factor = refl }
+lowers-placed {master} may = search (arith, and_parts, rank-opening)
 
 lowers-closing : (master : Master) → close_is_due master.log ≡ true → Lowers master (with_log master (close_marked master.log))
 lowers-closing master due =
@@ -245,15 +222,7 @@ lowers-open master (Some seg) found =
 
 lowers-stored : {master : Master} → nat_lt master.log.durable (durable_now master.log) ≡ true →
     Lowers master (with_log master (record master.log { durable = durable_now master.log }))
-lowers-stored {master} more =
-    let above : master.log.durable < durable_now master.log = ltb-true master.log.durable (durable_now master.log) more in
-    let within : durable_now master.log ≤ total (map master.log.segments (numbers_to master.log.head)) =
-    durable-within (map master.log.segments (numbers_to master.log.head)) in
-    let all : total (map master.log.segments (numbers_to master.log.head)) ≡ length (places_of master.log) =
-    total-places master.log.segments master.log.head in
-    let ranks : rank (record master.log { durable = durable_now master.log }) master.log.phase ≡ rank master.log master.log.phase =
-    rank-same master.log (record master.log { durable = durable_now master.log }) master.log.phase refl in
-    record { lower = omega arith; factor = refl }
+lowers-stored {master} more = search (arith, ltb-true, total, durable-within, total-places, rank-same)
 
 -- a number up to the head isn't the next one
 apart : {head k : ℕ} → k ≤ head → nat_eq (head + 1) k ≡ false
@@ -269,37 +238,13 @@ fresh-commits : (old : ℕ → Segment) (head : ℕ) (digest : List ℕ) (ids : 
     length (filter (unsent (put old (head + 1) (new_segment (head + 1) digest ids))) (numbers_to (head + 1))) ≡ length
     (filter (unsent old) (numbers_to head))
 fresh-commits old head digest ids =
-    let fresh : Segment = new_segment (head + 1) digest ids in
-    let new : ℕ → Segment = put old (head + 1) fresh in
-    let numbers : numbers_to (head + 1) ≡ numbers_to head ++ suc head ∷ [] = ap numbers_to (add-one head) in
-    let last : unsent new (suc head) ≡ false = ap (λ k. unsent new k) (sym (add-one head)) ∙
-    ap (λ (s : Segment). not s.config.committed && not s.commit_sent) (put-same old (head + 1)) in
-    let below : filter (unsent new) (numbers_to head) ≡ filter (unsent old) (numbers_to head) =
-    filter-agrees head (λ k _ most. ap (λ (s : Segment). not s.config.committed && not s.commit_sent)
-    (put-other old (head + 1) fresh (apart most))) in
-    let parted : filter (unsent new) (numbers_to head ++ suc head ∷ []) ≡ filter (unsent new) (numbers_to head) ++
-    cond (unsent new (suc head)) (suc head ∷ []) [] =
-    filter-append (unsent new) (numbers_to head) (suc head ∷ []) in
-    let gone : filter (unsent new) (numbers_to head) ++ cond (unsent new (suc head)) (suc head ∷ []) [] ≡ filter
-    (unsent new) (numbers_to head) ++ [] =
-    ap (λ b. filter (unsent new) (numbers_to head) ++ cond b (suc head ∷ []) []) last in
-    ap (λ ns. length (filter (unsent new) ns)) numbers ∙
-    (ap length parted ∙ (ap length gone ∙ (ap length (append-nil (filter (unsent new) (numbers_to head))) ∙
-    ap length below)))
+    search (arith, suc, add-one, put-same, filter-agrees, put-other, apart, filter-append, append-nil)
 
 -- and the places are those before
 fresh-places : (old : ℕ → Segment) (head : ℕ) (digest : List ℕ) (ids : List ServerId) →
     length (places_to (put old (head + 1) (new_segment (head + 1) digest ids)) (head + 1)) ≡ length (places_to old head)
 fresh-places old head digest ids =
-    let fresh : Segment = new_segment (head + 1) digest ids in
-    let new : ℕ → Segment = put old (head + 1) fresh in
-    let below : places_to new head ≡ places_to old head =
-    places_to-agrees old new head (λ k most. ap (λ (s : Segment). s.entries) (put-other old (head + 1) fresh (apart most))) in
-    let last : (new (suc head)).entries ≡ [] = ap (λ k. (new k).entries) (sym (add-one head)) ∙
-    ap (λ (s : Segment). s.entries) (put-same old (head + 1)) in
-    ap (λ n. length (places_to new n)) (add-one head)
-    ∙ (ap (λ entries. length (places_to new head ++ places_in (suc head) 0 entries)) last
-    ∙ (ap length (append-nil (places_to new head)) ∙ ap length below))
+    search (arith, places_to-agrees, put-other, apart, suc, add-one, put-same, append-nil)
 
 -- a roll of a log whose segments have replicas
 lowers-opened : {master : Master} (digest : List ℕ) (ids : List ServerId) → 0 < length ids → is_writing master.log.phase ≡ true →
@@ -326,15 +271,7 @@ lowers-chosen master (Some ids) writes some =
 -- as many members are chosen as a segment has replicas
 pub choose-length : (seg : ℕ) (own : ServerId) {factor : ℕ} (servers : ServerList) {ids : List ServerId} →
     choose seg own factor servers ≡ Some ids → length ids ≡ factor
-choose-length seg own {factor} servers {ids} e = by (nat_lt (length (candidates seg own servers)) factor) refl e
-  where
-    by : (b : Bool) → nat_lt (length (candidates seg own servers)) factor ≡ b →
-        cond b None (Some (take factor (candidates seg own servers))) ≡ Some ids → length ids ≡ factor
-    by true few e = cc
-    by false enough e =
-        let same : take factor (candidates seg own servers) ≡ ids = cc in
-        let most : factor ≤ length (candidates seg own servers) = grind (arith, nat_tests) in
-        ap length (sym same) ∙ length-take-le factor (candidates seg own servers) most
+choose-length seg own {factor} servers {ids} e = search (arith, nat_lt, nat_tests, length-take-le)
 
 lowers-roll : (master : Master) → master.log.factor ≢ 0 → is_writing master.log.phase ≡ true →
     AllLower master (rolls_for_replay master (begin_roll master.known (dead_segments master) master.log))
@@ -351,54 +288,13 @@ one-more : (old : ℕ → Segment) (head : ℕ) (segment : Segment) → length s
     length (places_to (put old head segment) head) ≤ length (places_to old head) + 1
 one-more old zero segment more = omega arith
 one-more old (suc n) segment more =
-    let new : ℕ → Segment = put old (suc n) segment in
-    let below : places_to new n ≡ places_to old n =
-    places_to-agrees old new n (λ k most. ap (λ (s : Segment). s.entries)
-    (put-other old (suc n) segment (ne_eqb (suc n) k (λ same. omega arith)))) in
-    let here : new (suc n) ≡ segment = put-same old (suc n) in
-    let after : length (places_to new n ++ places_in (suc n) 0 (new (suc n)).entries) ≡ length
-    (places_to new n) + length (places_in (suc n) 0 (new (suc n)).entries) =
-    length-append (places_to new n) (places_in (suc n) 0 (new (suc n)).entries) in
-    let before : length (places_to old n ++ places_in (suc n) 0 (old (suc n)).entries) ≡ length
-    (places_to old n) + length (places_in (suc n) 0 (old (suc n)).entries) =
-    length-append (places_to old n) (places_in (suc n) 0 (old (suc n)).entries) in
-    let m : length (places_in (suc n) 0 (new (suc n)).entries) ≡ length (new (suc n)).entries =
-    length-places_in (suc n) 0 (new (suc n)).entries in
-    let l : length (places_in (suc n) 0 (old (suc n)).entries) ≡ length (old (suc n)).entries =
-    length-places_in (suc n) 0 (old (suc n)).entries in
-    let same : length (new (suc n)).entries ≡ length segment.entries = ap (λ (s : Segment). length s.entries) here in
-    let fronts : length (places_to new n) ≡ length (places_to old n) = ap length below in
-    omega arith
+    search (arith, places_to-agrees, put-other, ne_eqb, put-same, length-append, length-places_in)
 
 lowers-append : (master : Master) (entry : Entry) (entries : List Entry) → master.ownership.replay ≡ entry ∷ entries →
     is_writing master.log.phase ≡ true →
     Lowers master (appends_entry (record master { ownership = after_replay master.ownership }) entry false).0
 lowers-append master entry entries waits writes =
-    let old : ℕ → Segment = master.log.segments in
-    let grown : Segment = with_entry entry false (head_of master.log) in
-    let new : ℕ → Segment = put old master.log.head grown in
-    let log : Log = appends entry false master.log in
-    let before : rank master.log master.log.phase ≡ 1 = rank-writing master.log master.log.phase writes in
-    let after : rank log master.log.phase ≡ 1 = rank-writing log master.log.phase writes in
-    let config : (k : ℕ) → (new k).config ≡ (old k).config =
-    put_each (λ k (s : Segment). s.config ≡ (old k).config) old master.log.head grown refl (λ k. refl) in
-    let commit_sent : (k : ℕ) → (new k).commit_sent ≡ (old k).commit_sent =
-    put_each (λ k (s : Segment). s.commit_sent ≡ (old k).commit_sent) old master.log.head grown refl (λ k. refl) in
-    let closes_sent : (new (master.log.head - 1)).closes_sent ≡ (old (master.log.head - 1)).closes_sent =
-    put_each (λ k (s : Segment). s.closes_sent ≡ (old k).closes_sent) old master.log.head grown refl (λ k. refl) (master.log.head - 1) in
-    let commits : length (filter (unsent new) (numbers_to master.log.head)) ≡ length (filter (unsent old) (numbers_to master.log.head)) =
-    ap length (filter-agrees master.log.head (λ k _ _.
-    ap (λ b. not b && not (new k).commit_sent) (ap (λ (c : Config). c.committed) (config k))
-    ∙ ap (λ b. not (old k).config.committed && not b) (commit_sent k))) in
-    let closes : unclosed master.log.head (new (master.log.head - 1)) ≡ unclosed master.log.head (old (master.log.head - 1)) =
-    closes-same master.log.head (old (master.log.head - 1)) (new (master.log.head - 1)) (config (master.log.head - 1)) closes_sent in
-    let more : length grown.entries ≡ length (old master.log.head).entries + 1 =
-    length-append (old master.log.head).entries ((entry, false) ∷ []) in
-    let places : length (places_to new master.log.head) ≤ length (places_to old master.log.head) + 1 =
-    one-more old master.log.head grown (omega arith) in
-    let all : length master.ownership.replay ≡ length entries + 1 = ap length waits ∙ omega arith in
-    let rest : length (after_replay master.ownership).replay ≡ length entries = ap (λ replay. length (drop 1 replay)) waits in
-    record { lower = omega arith; factor = refl }
+    search (arith, rank-writing, put_each, filter-agrees, closes-same, length-append, one-more)
 
 lowers-replay : (master : Master) (replay : List Entry) → master.ownership.replay ≡ replay → master.log.factor ≢ 0 →
     is_writing master.log.phase ≡ true →
@@ -410,9 +306,7 @@ lowers-replay master (entry ∷ entries) waits factor writes =
     (λ _. lowers-roll master factor writes) (λ _. lowers-append master entry entries waits writes)
 
 lowers-data : (master : Master) → master.log.factor ≢ 0 → AllLower master (follows_data master)
-lowers-data master factor =
-    either (AllLower master) (is_writing master.log.phase) (replays master master.ownership.replay) None
-    (λ writes. lowers-replay master master.ownership.replay refl factor writes) (λ _. tt)
+lowers-data master factor = search (arith, either, lowers-replay)
 
 -- one part fewer waits for its answer
 answered-lower : (durable : List Entry) (states : List PartState) {state : PartState} → find (is_to_answer durable) states ≡ Some state →
@@ -428,27 +322,14 @@ answered-lower durable (one ∷ others) {state} e = by (is_to_answer durable one
         (filter (λ (s : PartState). not s.answered) others))
     by true is true told rec e = true_false (sym (and_parts (is_complete durable one) (not one.answered) is).1 ∙ ap not told)
     by true is false told rec e = omega arith
-    by false isn't true told rec e =
-        let rest : parts_unanswered (answered_in durable others) < parts_unanswered others = rec e in
-        let here : parts_unanswered (one ∷ answered_in durable others) ≡ parts_unanswered (answered_in durable others) =
-        ap (λ b. length (cond (not b) (one ∷ filter (λ (s : PartState). not s.answered) (answered_in durable others))
-        (filter (λ (s : PartState). not s.answered) (answered_in durable others)))) told in
-        omega arith
-    by false isn't false told rec e =
-        let rest : parts_unanswered (answered_in durable others) < parts_unanswered others = rec e in
-        let here : parts_unanswered (one ∷ answered_in durable others) ≡ parts_unanswered (answered_in durable others) + 1 =
-        ap (λ b. length (cond (not b) (one ∷ filter (λ (s : PartState). not s.answered) (answered_in durable others))
-        (filter (λ (s : PartState). not s.answered) (answered_in durable others)))) told ∙ omega arith in
-        omega arith
+    by false isn't true told rec e = search arith
+    by false isn't false told rec e = search arith
 
 lowers-answer : (master : Master) (found : Option PartState) →
     find (is_to_answer (durable_replayed master)) master.ownership.parts ≡ found →
     AllLower master (answers_part master (option_map (λ state. state.part.term) found))
 lowers-answer master None found = tt
-lowers-answer master (Some state) found =
-    let less : parts_unanswered (answered_in (durable_replayed master) master.ownership.parts) < parts_unanswered master.ownership.parts =
-    answered-lower (durable_replayed master) master.ownership.parts found in
-    record { lower = omega arith; factor = refl }
+lowers-answer master (Some state) found = search (arith, answered-lower)
 
 -- Every rule that applies lowers the measure.
 pub lowers : (master : Master) → master.log.factor ≢ 0 → AllLower master (follow_up master)
@@ -480,29 +361,11 @@ shut_marked log = with_segment (log.head - 1) (record (old_head_of log) { shut =
 
 measure-shut_marked : (master : Master) → measure (with_log master (shut_marked master.log)) ≡ measure master
 measure-shut_marked master =
-    let old : ℕ → Segment = master.log.segments in
-    let shut : Segment = record (old_head_of master.log) { shut = true } in
-    let new : ℕ → Segment = put old (master.log.head - 1) shut in
-    let same : AllSameParts old new =
-    same_parts-put old (record { entries = refl; config = refl; commit_sent = refl }) in
-    let closes_sent : (new (master.log.head - 1)).closes_sent ≡ (old (master.log.head - 1)).closes_sent =
-    put_each (λ k (s : Segment). s.closes_sent ≡ (old k).closes_sent) old (master.log.head - 1) shut refl (λ k. refl)
-    (master.log.head - 1) in
-    let places : length (places_to new master.log.head) ≡ length (places_to old master.log.head) =
-    places-same master.log.head same in
-    let commits : length (filter (unsent new) (numbers_to master.log.head)) ≡ length
-    (filter (unsent old) (numbers_to master.log.head)) = commits-same master.log.head same in
-    let closes : unclosed master.log.head (new (master.log.head - 1)) ≡ unclosed master.log.head (old (master.log.head - 1)) =
-    closes-same master.log.head (old (master.log.head - 1)) (new (master.log.head - 1)) (same (master.log.head - 1)).config closes_sent in
-    let ranks : rank (shut_marked master.log) master.log.phase ≡ rank master.log master.log.phase =
-    rank-same master.log (shut_marked master.log) master.log.phase (same master.log.head).config in
-    omega arith
+    search (arith, same_parts-put, put_each, places-same, commits-same, closes-same, rank-same)
 
 -- marking changes neither the measure nor how many replicas there are
 pub measure-marks_shut : (master : Master) → measure (marks_shut master) ≡ measure master
-measure-marks_shut master =
-    either (λ log. measure (with_log master log) ≡ measure master) (shuts master.log) (shut_marked master.log) master.log
-    (λ _. measure-shut_marked master) (λ _. refl)
+measure-marks_shut master = search (arith, either, measure-shut_marked)
 
 factor-marks_shut : (master : Master) → (marks_shut master).log.factor ≡ master.log.factor
 factor-marks_shut master =
@@ -510,22 +373,10 @@ factor-marks_shut master =
 
 -- what is marked once stays marked
 shut_marked-twice : (log : Log) → shut_marked (shut_marked log) ≡ shut_marked log
-shut_marked-twice log = ap (λ (segments : ℕ → Segment). record log { segments = segments }) (fun_ext at)
-  where
-    -- put again where it stands already
-    again : (b : Bool) (one two other : Segment) → two ≡ one → cond b two (cond b one other) ≡ cond b one other
-    again true one two other same = same
-    again false one two other same = refl
-
-    at : (k : ℕ) → (shut_marked (shut_marked log)).segments k ≡ (shut_marked log).segments k
-    at k = again (nat_eq (log.head - 1) k) (record (old_head_of log) { shut = true })
-        (record (old_head_of (shut_marked log)) { shut = true }) (log.segments k)
-        (ap (λ (s : Segment). record s { shut = true }) (put-same log.segments (log.head - 1)))
+shut_marked-twice log = search (arith, fun_ext, nat_eq, put-same)
 
 pub with_shut-twice : (log : Log) → with_shut (with_shut log) ≡ with_shut log
-with_shut-twice log = either (λ after. with_shut after ≡ after) (shuts log) (shut_marked log) log
-    (λ _. either (λ after. after ≡ shut_marked log) (shuts (shut_marked log)) (shut_marked (shut_marked log)) (shut_marked log)
-    (λ _. shut_marked-twice log) (λ _. refl)) (λ isn't. ap (λ b. cond b (shut_marked log) log) isn't)
+with_shut-twice log = search (arith, either, shut_marked-twice)
 
 -- How often is enough
 
@@ -553,16 +404,7 @@ one_if-most true = omega arith
 one_if-most false = omega arith
 
 pub measure-enough : (master : Master) → measure master ≤ enough master
-measure-enough master =
-    let ranks : rank master.log master.log.phase ≤ 3 = rank-most master.log master.log.phase in
-    let closes : closes_unsent master.log ≤ 1 = one_if-most (has_old_head master.log && has_unclosed (old_head_of master.log)) in
-    let numbers : length (numbers_to master.log.head) ≡ master.log.head = numbers-long master.log.head in
-    let commits : commits_unsent master.log ≤ length (numbers_to master.log.head) =
-    filter-short (λ seg. not (master.log.segments seg).config.committed && not (master.log.segments seg).commit_sent)
-    (numbers_to master.log.head) in
-    let parts : parts_unanswered master.ownership.parts ≤ length master.ownership.parts =
-    filter-short (λ state. not state.answered) master.ownership.parts in
-    omega arith
+measure-enough master = search (arith, rank-most, one_if-most, numbers-long, filter-short)
 
 -- Following up to the end
 
@@ -582,9 +424,7 @@ settles (suc times) master factor most =
         ((next : Master) → next.log.factor ≢ 0 → measure next ≤ times → follow_up (followed times next).0 ≡ None) →
         follow_up (further done (marks_shut master) (λ next. followed times next)).0 ≡ None
     by None e less rec = e
-    by (Some done) e less rec =
-        let same : measure (marks_shut master) ≡ measure master = measure-marks_shut master in
-        rec done.0 (λ z. factor (sym (factor-marks_shut master) ∙ (sym less.factor ∙ z))) (omega (arith, less.lower))
+    by (Some done) e less rec = search (arith, measure-marks_shut, factor-marks_shut)
 
 -- and what is shut is marked then
 pub ends-marked : (times : ℕ) (master : Master) → marks_shut (followed times master).0 ≡ (followed times master).0
@@ -608,6 +448,4 @@ goes_on-settles master factor up = ap (λ (after : Master × List Message). foll
     ∙ settles (enough master) master factor (measure-enough master)
 
 pub goes_on-marked : (master : Master) → master.deposed ≡ false → marks_shut (goes_on master).0 ≡ (goes_on master).0
-goes_on-marked master up =
-    subst (λ (after : Master × List Message). marks_shut after.0 ≡ after.0) (sym (goes_on-up master up))
-    (ends-marked (enough master) master)
+goes_on-marked master up = search (arith, goes_on-up, ends-marked)

@@ -100,10 +100,7 @@ map-In f x (z ∷ xs) (inr rest) = inr (map-In f x xs rest)
 
 pub held-reaches : (rows : List PlanRow) (row : PlanRow) (s o : ℕ) → In row rows → row.seg ≡ s → o < row.len → o < reach rows s
 held-reaches [] row s o at seg below = absurd at
-held-reaches (first ∷ rows) row s o (inl e) seg below =
-    let len : row.len ≡ first.len = ap (λ (r : PlanRow). r.len) e in let same : first.seg ≡ s = sym (ap (λ (r : PlanRow). r.seg) e) ∙ seg in
-    either (λ n. o < n) (nat_eq first.seg s) (max first.len (reach rows s)) (reach rows s)
-    (λ _. omega (arith, below, len)) (λ no. let is : nat_eq first.seg s ≡ true = eq-eqb first.seg s same in cc)
+held-reaches (first ∷ rows) row s o (inl e) seg below = search (arith, either, nat_eq, eq-eqb)
 held-reaches (first ∷ rows) row s o (inr rest) seg below =
     let later : o < reach rows s = held-reaches rows row s o rest seg below in
     either (λ n. o < n) (nat_eq first.seg s) (max first.len (reach rows s)) (reach rows s) (λ _. omega (arith, later)) (λ _. later)
@@ -112,10 +109,7 @@ held-more : {first : PlanRow} {rows : List PlanRow} {s o : ℕ} → IsHeld rows 
 held-more p = record { row = p.row; among = inr p.among; seg = p.seg; below = p.below }
 
 pub held-from_reach : (rows : List PlanRow) {s o : ℕ} → o < reach rows s → IsHeld rows s o
-held-from_reach [] {o} below = absurd (none below)
-  where
-    none : o < 0 → ⊥
-    none h = omega (arith, h)
+held-from_reach [] {o} below = search arith
 held-from_reach (first ∷ rows) {s} {o} below = by (nat_eq first.seg s) refl (held-from_reach rows) below
   where
     which : nat_eq first.seg s ≡ true → (o < reach rows s → IsHeld rows s o) → (o < first.len) ⊎ (o < reach rows s) →

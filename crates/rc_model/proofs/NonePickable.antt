@@ -1,5 +1,5 @@
 -- When no plan is picked, and which refusal it is.
-use Rattle.std.proofs.Common.{◌≡◌, ◌≢◌, ◌⊎◌, ⊎_elim, inl, inr, ℕ, ◌<◌, true, false, nat_eq, List, [], ◌∷◌, Option}
+use Rattle.std.proofs.Common.{◌≡◌, ◌≢◌, ◌⊎◌, ⊎_elim, inl, inr, ℕ, ◌<◌, false, nat_eq, List, [], ◌∷◌, Option}
 use Rattle.std.proofs.Common.{Some, None, IsSome, Result, Ok, Err, filter, refl, sym, ap, ◌∙◌, subst, arith}
 use Rattle.std.specs.List.{All}
 use Rattle.std.proofs.lemmas.Bool.{eq-eqb, ne_eqb, cases_eq}
@@ -34,11 +34,7 @@ module _ (min : Pair) (replies : List (ServerId × List Row)) where
     taken_none {seg} other none = let test : nat_eq seg head.row.seg ≡ false = ne_eqb seg head.row.seg other in rw test none
 
     none-from_taken : {seg : ℕ} → taken_row min replies head seg ≡ None → (seg ≢ head.row.seg) × (row_of min replies seg ≡ None)
-    none-from_taken {seg} none = ⊎_elim {C = (seg ≢ head.row.seg) × (row_of min replies seg ≡ None)}
-        (λ (e : seg ≡ head.row.seg). let test : nat_eq seg head.row.seg ≡ true = eq-eqb seg head.row.seg e in
-        let some : Some head ≡ None = rw test at none in absurd cc)
-        (λ (ne : seg ≢ head.row.seg). let test : nat_eq seg head.row.seg ≡ false = ne_eqb seg head.row.seg ne in (ne, rw test at none))
-        (cases_eq seg head.row.seg)
+    none-from_taken {seg} none = search (arith, nat_eq, eq-eqb, ne_eqb, cases_eq)
 
     -- this is the first of the segments of which no row is taken
     pub record IsFirstMissing (segs : List ℕ) (seg : ℕ) : Type 0 where

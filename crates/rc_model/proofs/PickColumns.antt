@@ -1,5 +1,6 @@
 -- The row that is taken of a segment is a row of that segment.
-use Rattle.std.proofs.Common.{◌≡◌, ◌≢◌, ℕ, true, false, nat_eq, List, [], ◌∷◌, map, filter, Some, refl, sym, ap, ◌∙◌, subst, ⊎_elim}
+use Rattle.std.proofs.Common.{arith}
+use Rattle.std.proofs.Common.{◌≡◌, ℕ, true, nat_eq, List, [], ◌∷◌, map, filter, Some, refl, ap, ◌∙◌, subst}
 use Rattle.std.specs.List.{All}
 use Rattle.std.proofs.lemmas.Bool.{eqb-true, eq-eqb, ne_eqb, cases_eq, and_parts}
 use Rattle.std.proofs.lemmas.List.Elements.{filter_passes}
@@ -20,12 +21,7 @@ module _ (min : Pair) (replies : List (ServerId × List Row)) where
       eqb-true held.row.seg seg (and_parts (nat_eq held.row.seg seg) (is_valid min held.row) passes).0
 
   seg-taken_row : (head : HeldRow) {seg : ℕ} {held : HeldRow} → taken_row min replies head seg ≡ Some held → held.row.seg ≡ seg
-  seg-taken_row head {seg} {held} is = ⊎_elim {C = held.row.seg ≡ seg}
-      (λ (e : seg ≡ head.row.seg). let test : nat_eq seg head.row.seg ≡ true = eq-eqb seg head.row.seg e in
-      let some : Some head ≡ Some held =
-      rw test at is in let same : head ≡ held = cc in ap (λ (row : HeldRow). row.row.seg) (sym same) ∙ sym e)
-      (λ (ne : seg ≢ head.row.seg). let test : nat_eq seg head.row.seg ≡ false = ne_eqb seg head.row.seg ne in
-      seg-row_of (rw test at is)) (cases_eq seg head.row.seg)
+  seg-taken_row head {seg} {held} is = search (arith, nat_eq, eq-eqb, ne_eqb, seg-row_of, cases_eq)
 
   -- the rows are of these segments, one by one
   pub segs-taken : (head : HeldRow) (segs : List ℕ) (rows : List PlanRow) → AreTaken min replies head segs rows →

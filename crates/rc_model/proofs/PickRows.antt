@@ -1,6 +1,6 @@
 -- The rows that are taken, one segment further on.
-use Rattle.std.proofs.Common.{◌≡◌, ◌≢◌, ℕ, suc, ◌+◌, ◌<◌, ⊎_elim, true, false, nat_eq, drop-cons, List, [], ◌∷◌, ◌++◌}
-use Rattle.std.proofs.Common.{Option, Some, None, Result, Ok, Err, take, drop, length, get_or, refl, sym, ◌∙◌}
+use Rattle.std.proofs.Common.{◌≡◌, ◌≢◌, ℕ, suc, ◌+◌, ◌<◌, nat_eq, drop-cons, List, [], ◌∷◌, ◌++◌}
+use Rattle.std.proofs.Common.{Option, Some, None, Result, Ok, Err, take, drop, length, get_or, refl, arith}
 use Rattle.std.proofs.lemmas.Bool.{eq-eqb, ne_eqb, cases_eq}
 use Rattle.std.proofs.lemmas.List.{take_more, take-append-drop}
 use Rattle.rc_model.specs.Model.{ServerId, Pair, Row, PlanRow, Fault, SegmentMissing, HeldRow, row_of, taken_row, taken_rows, plan_row}
@@ -37,10 +37,7 @@ module _ (min : Pair) (replies : List (ServerId × List Row)) (head : HeldRow) w
           → taken_rows min replies head (s ∷ (segs ++ seg ∷ [])) ≡ Ok (rows ++ plan_row held ∷ [])
       by None here r rest further = let none : taken_rows min replies head (s ∷ segs) ≡ Err (SegmentMissing s) =
           taken_rows_none segs here in absurd cc
-      by (Some h) here (Ok others) rest further =
-          let all : taken_rows min replies head (s ∷ segs) ≡ Ok (plan_row h ∷ others) = taken_rows_some s segs here rest in
-          let same : plan_row h ∷ others ≡ rows = cc in
-          rw (← same) (taken_rows_some s (segs ++ seg ∷ []) here (further others rest is))
+      by (Some h) here (Ok others) rest further = search (arith, taken_rows_some)
       by (Some h) here (Err fault) rest further = let none : taken_rows min replies head (s ∷ segs) ≡ Err fault =
           taken_rows_err s segs here rest in absurd cc
 
@@ -66,10 +63,7 @@ module _ (min : Pair) (replies : List (ServerId × List Row)) (head : HeldRow) w
   -- what is taken of a segment, given the head row and the first of the others
   pub taken_row_from : {seg : ℕ} {held best : Option HeldRow} → (seg ≡ head.row.seg → held ≡ Some head) →
       (seg ≢ head.row.seg → held ≡ best) → best ≡ row_of min replies seg → taken_row min replies head seg ≡ held
-  taken_row_from {seg} {held} own other is = ⊎_elim {C = taken_row min replies head seg ≡ held}
-      (λ (e : seg ≡ head.row.seg). let t : nat_eq seg head.row.seg ≡ true = eq-eqb seg head.row.seg e in rw t (sym (own e)))
-      (λ (ne : seg ≢ head.row.seg). let t : nat_eq seg head.row.seg ≡ false = ne_eqb seg head.row.seg ne in rw t (sym is ∙ sym (other ne)))
-      (cases_eq seg head.row.seg)
+  taken_row_from {seg} {held} own other is = search (arith, nat_eq, eq-eqb, ne_eqb, cases_eq)
 
   -- a loop's step over the segments
   pub taken_rows_more : (segs : List ℕ) (i seg : ℕ) (held : HeldRow) (rows next : List PlanRow) → i < length segs →

@@ -1,5 +1,5 @@
 -- A plan is pickable exactly where it is picked.
-use Rattle.std.proofs.Common.{◌≡◌, ℕ, List, [], ◌∷◌, Option, Some, None, Result, Ok, Err, refl, sym, ap, ◌∙◌}
+use Rattle.std.proofs.Common.{◌≡◌, ℕ, List, [], ◌∷◌, Option, Some, None, Result, Ok, Err, refl, sym, ap, ◌∙◌, arith}
 use Rattle.rc_model.specs.Model.{ServerId, Pair, Row, PlanRow, Fault, HeadMissing, SegmentMissing, HeldRow, head_row, taken_row}
 use Rattle.rc_model.specs.Model.{taken_rows, plan_row, plan_of, ascending, pick, AreTaken, IsPickable}
 use Rattle.rc_types.specs.declared.rows.Plan.{Plan}
@@ -42,19 +42,10 @@ module _ (min : Pair) (replies : List (ServerId × List Row)) where
             fault = taken_rows_err min replies head seg segs here rest in absurd cc
         at (Some held) here (Ok others) rest [] is further = let all : taken_rows min replies head (seg ∷ segs) ≡ Ok
             (plan_row held ∷ others) = taken_rows_some min replies head seg segs here rest in absurd cc
-        at (Some held) here (Ok others) rest (row ∷ rows) is further =
-            let all : taken_rows min replies head (seg ∷ segs) ≡ Ok (plan_row held ∷ others) =
-            taken_rows_some min replies head seg segs here rest in
-            let first : row ≡ plan_row held = cc in
-            let same : taken_rows min replies head segs ≡ Ok rows = cc in
-            ((held, here, first), further rows same)
+        at (Some held) here (Ok others) rest (row ∷ rows) is further = search (arith, taken_rows_some)
 
   pub picked-from_pickable : {plan : Plan} → IsPickable min replies plan → pick min replies ≡ Ok plan
-  picked-from_pickable {plan} is =
-      let rows : taken_rows min replies is.head (ascending is.head.row.digest) ≡ Ok plan.rows =
-      taken_rows-from_taken is.head (ascending is.head.row.digest) plan.rows is.taken in
-      pick_some is.head_is ∙ ap (plan_of is.head.row.seg) rows ∙
-      ap (λ seg. Ok (record { head = seg; rows = plan.rows })) (sym is.segment)
+  picked-from_pickable {plan} is = search (arith, taken_rows-from_taken, pick_some)
 
   pub pickable-from_picked : {plan : Plan} → pick min replies ≡ Ok plan → IsPickable min replies plan
   pickable-from_picked {plan} is = at (head_row min replies) refl

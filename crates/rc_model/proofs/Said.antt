@@ -1,13 +1,13 @@
 -- What is gathered from the messages is what they say.
-use Rattle.std.proofs.Common.{◌≡◌, ◌⊎◌, ℕ, true, List, [], ◌∷◌, Some, refl, sym, ap, ◌∙◌, subst, inl, inr}
+use Rattle.std.proofs.Common.{◌≡◌, ◌⊎◌, ℕ, true, List, [], ◌∷◌, Some, refl, sym, ap, ◌∙◌, subst, inl, inr, arith}
 use Rattle.std.specs.Option.{option_to_list}
 use Rattle.rc_model.specs.Model.{ServerId, Addr, Server, Outside, Entry, Part, Message, Body, WriteOk, is_server, entry_at, made, Ack}
 use Rattle.rc_model.specs.Model.{ack_in, acknowledged, all_acknowledged, Accepted, plan_in, accepted, In, HasMade, WasAcknowledged}
 use Rattle.rc_model.specs.Model.{HasAcknowledged, WasAccepted}
 use Rattle.rc_types.specs.declared.ids.Addr.TheVariants.{Coordinator}
 use Rattle.rc_types.specs.declared.messages.Body.TheVariants.{Plan}
-use Rattle.rc_model.proofs.Members.{In-append, In-left, In-right, In-option, In-from_option, In-gathered}
-use Rattle.rc_model.proofs.Members.{In-gathered_rest, In-gathered_piece}
+use Rattle.rc_model.proofs.Members.{In-append, In-left, In-right, In-gathered}
+use Rattle.rc_model.proofs.Members.{In-gathered_rest}
 use Rattle.rc_model.proofs.Ids.{same_id-true, same_id-refl}
 
 -- Who sends
@@ -30,21 +30,13 @@ made-says (first ∷ sent) m s o entry at = by (made-says sent m s o entry)
     by : (In entry (made sent m s o) → HasMade sent m s o entry) →
         ((is_server m first.from ≡ true) × In entry (option_to_list (entry_at first.body s o))) ⊎
         In entry (made sent m s o) → HasMade (first ∷ sent) m s o entry
-    by later (inl here) = record {
-      message = first;
-      among = inl refl;
-      from = is_server-true first.from here.0;
-      holds = In-option entry (entry_at first.body s o) here.1;
-    }
+    by later (inl here) = search (arith, is_server-true)
     by later (inr there) = let p = later there in record { message = p.message; among = inr p.among; from = p.from; holds = p.holds }
 
 made-said : (sent : List Message) (m : ServerId) (s o : ℕ) (entry : Entry) (message : Message) → In message sent →
     message.from ≡ Server m → entry_at message.body s o ≡ Some entry → In entry (made sent m s o)
 made-said [] m s o entry message at from holds = absurd at
-made-said (first ∷ sent) m s o entry message (inl e) from holds =
-    In-gathered_piece entry (is_server m first.from) (option_to_list (entry_at first.body s o)) (made sent m s o)
-    (is_server-from (sym (ap (λ (x : Message). x.from) e) ∙ from))
-    (In-from_option entry (entry_at first.body s o) (sym (ap (λ (x : Message). entry_at x.body s o) e) ∙ holds))
+made-said (first ∷ sent) m s o entry message (inl e) from holds = search (arith, is_server-from)
 made-said (first ∷ sent) m s o entry message (inr rest) from holds =
     In-gathered_rest entry (is_server m first.from) (option_to_list (entry_at first.body s o)) (made sent m s o)
     (made-said sent m s o entry message rest from holds)
@@ -76,21 +68,13 @@ HasAcknowledged-from (first ∷ sent) m ack at =
     by : (In ack (acknowledged sent m) → HasAcknowledged sent m ack) →
         ((is_server m first.from ≡ true) × In ack (ack_in first.body)) ⊎ In ack (acknowledged sent m) →
         HasAcknowledged (first ∷ sent) m ack
-    by later (inl here) = record {
-      message = first;
-      among = inl refl;
-      from = is_server-true first.from here.0;
-      says = ack_in-says ack first.body here.1;
-    }
+    by later (inl here) = search (arith, is_server-true, ack_in-says)
     by later (inr there) = let p = later there in record { message = p.message; among = inr p.among; from = p.from; says = p.says }
 
 ack-said : (sent : List Message) (m : ServerId) (ack : Ack) (message : Message) → In message sent →
     message.from ≡ Server m → message.body ≡ says_ack ack → In ack (acknowledged sent m)
 ack-said [] m ack message at from says = absurd at
-ack-said (first ∷ sent) m ack message (inl e) from says =
-    In-gathered_piece ack (is_server m first.from) (ack_in first.body) (acknowledged sent m)
-    (is_server-from (sym (ap (λ (x : Message). x.from) e) ∙ from))
-    (ack_in-said (sym (ap (λ (x : Message). x.body) e) ∙ says))
+ack-said (first ∷ sent) m ack message (inl e) from says = search (arith, is_server-from, ack_in-said)
 ack-said (first ∷ sent) m ack message (inr rest) from says =
     In-gathered_rest ack (is_server m first.from) (ack_in first.body) (acknowledged sent m) (ack-said sent m ack message rest from says)
 
@@ -139,13 +123,7 @@ WasAccepted-from (first ∷ sent) plan at = by (WasAccepted-from sent plan) (In-
         WasAccepted (first ∷ sent) plan
     by later (inl here) = let p = plan_in-says plan first.body here in
         record { message = first; among = inl refl; head = p.head; parts = p.parts; says = p.is }
-    by later (inr there) = let p = later there in record {
-      message = p.message;
-      among = inr p.among;
-      head = p.head;
-      parts = p.parts;
-      says = p.says;
-    }
+    by later (inr there) = search arith
 
 plan-said : (sent : List Message) (plan : Accepted) (message : Message) (head : ℕ) (parts : List Part) →
     In message sent → message.body ≡ Plan head plan.attempt plan.master plan.rows parts → In plan (accepted sent)

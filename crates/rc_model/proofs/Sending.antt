@@ -1,13 +1,13 @@
 -- What holds of each message that a master says again holds of all that it says.
 use Rattle.std.proofs.Common.{◌≡◌, ◌⊎◌, ℕ, ◌+◌, Bool, true, false, cond, not, nat_lt, nat_eq, ◌&&◌, List, [], ◌∷◌, ◌++◌, map}
-use Rattle.std.proofs.Common.{filter, drop, length, Option, Some, None, is_some, refl, sym, subst, inl, inr}
+use Rattle.std.proofs.Common.{filter, drop, length, Option, Some, None, is_some, refl, sym, subst, inl, inr, arith}
 use Rattle.std.specs.List.{All}
 use Rattle.std.proofs.lemmas.Bool.{and_parts, eqb-true}
 use Rattle.std.proofs.lemmas.List.Elements.{All-nil, All-cons}
 use Rattle.rc_model.specs.Model.{ServerId, PlanRow, Member, Told, Message, Body, Append, Close, Commit, Free, Ready, Recovered, WriteOk}
-use Rattle.rc_model.specs.Model.{between, to_coordinator, to_outside, Log, LogPlace, numbers_to, is_closing, is_writing, PartState}
+use Rattle.rc_model.specs.Model.{between, to_coordinator, to_outside, Log, LogPlace, numbers_to, PartState}
 use Rattle.rc_model.specs.Model.{Master, Task, to_ids, to_unlost, place_of, frees_segments, write_oks, attempt_of, standing, to_remind}
-use Rattle.rc_model.specs.Model.{is_closing_old, lacking, reminds_member, reminds_members, reminds_open, reminds_shut_members}
+use Rattle.rc_model.specs.Model.{lacking, reminds_member, reminds_members, reminds_open, reminds_shut_members}
 use Rattle.rc_model.specs.Model.{reminds_shut, awaits_commit, commits_again, has_not_come, fetch_of, fetches_again, awaits_grant}
 use Rattle.rc_model.specs.Model.{recovered_again, ready_again, reminds, In}
 use Rattle.rc_model.proofs.Tests.{either}
@@ -92,19 +92,7 @@ module _ (P : Message → Type 0) (log : Log) (says : Copied P log) where
       In member (log.segments seg).config.members → Each P (map (λ body. between log.own member.id body) (lacking log seg told))
   each-lacking seg member None at isn't among = each-one P (says.place member seg false at isn't among)
   each-lacking seg member (Some told) at isn't among =
-      either (λ bodies. Each P (map (λ body. between log.own member.id body) bodies)) (nat_lt told.len (length (log.segments seg).entries))
-      (Append seg told.len (map (λ one. one.0) (drop told.len (log.segments seg).entries)) ∷ [])
-      (cond (is_closing_old log seg && not told.closed) (Close seg (length (log.segments seg).entries) ∷ []) [])
-      (λ _. each-one P (says.append member seg told.len at))
-      (λ _. either (λ bodies. Each P (map (λ body. between log.own member.id body) bodies)) (is_closing_old log seg && not told.closed)
-      (Close seg (length (log.segments seg).entries) ∷ []) []
-      (λ e. each-one P (says.close member seg at (old_head e))) (λ _. each-none P))
-    where
-      old_head : (is_closing_old log seg && not told.closed) ≡ true → seg + 1 ≡ log.head
-      old_head e =
-          let first = and_parts (is_closing_old log seg) (not told.closed) e in
-          let second = and_parts (is_closing log.phase) (nat_eq (seg + 1) log.head && (log.segments seg).config.committed) first.0 in
-          eqb-true (seg + 1) log.head (and_parts (nat_eq (seg + 1) log.head) (log.segments seg).config.committed second.1).0
+      search (arith, either, nat_lt, each-one, each-none, and_parts, nat_eq, eqb-true)
 
   each-members : (seg : ℕ) (members : List Member) → In seg (numbers_to log.head) → (log.segments seg).shut ≡ false →
       ((member : Member) → In member members → In member (log.segments seg).config.members) → Each P (reminds_members log seg members)
@@ -140,9 +128,7 @@ module _ (P : Message → Type 0) (log : Log) (says : Copied P log) where
 
   pub each-copies : (before : Log) →
       Each P (reminds_open before log (numbers_to log.head) ++ reminds_shut before log (numbers_to log.head))
-  each-copies before =
-      each-both P (reminds_open before log (numbers_to log.head)) (reminds_shut before log (numbers_to log.head))
-      (each-open before (numbers_to log.head) (λ seg at. at)) (each-shut before (numbers_to log.head) (λ seg at. at))
+  each-copies before = search (arith, each-both, each-open, each-shut)
 
 pub each-commits : (P : Message → Type 0) (log : Log) →
     ((seg : ℕ) → awaits_commit (log.segments seg) ≡ true → P (to_coordinator log.own (Commit seg (log.segments seg).config.epoch))) →

@@ -1,21 +1,20 @@
 -- When a master asks for commits and closes the old head: by the log after the step that says it.
 use Rattle.std.proofs.Common.{◌≡◌, ◌⊎◌, inl, inr, ℕ, zero, suc, ◌+◌, ◌-◌, ◌<◌, ◌≤◌, Bool, true, false, cond, not, nat_eq, nat_lt, ◌&&◌}
-use Rattle.std.proofs.Common.{List}
-use Rattle.std.proofs.Common.{[], ◌∷◌, ◌++◌, map, filter, drop, length, find, is_some, Option, Some, None, refl, sym, ap, ◌∙◌, subst}
-use Rattle.std.proofs.Common.{arith}
+use Rattle.std.proofs.Common.{List, arith}
+use Rattle.std.proofs.Common.{[], ◌∷◌, ◌++◌, map, filter, length, find, is_some, Option, Some, None, refl, sym, ap, ◌∙◌, subst}
 use Rattle.std.proofs.lemmas.Bool.{and_parts, eqb-true, ltb-true, not-false}
-use Rattle.rc_model.specs.Model.{Addr, Body, Message, Append, Close, Commit, Enlist, Told, Member, Config, all_placed, Segment}
+use Rattle.rc_model.specs.Model.{Addr, Body, Message, Close, Commit, Enlist, Told, Member, Config, all_placed, Segment}
 use Rattle.rc_model.specs.Model.{between, to_coordinator, Log, old_head_of, has_old_head, numbers_to, is_closing}
 use Rattle.rc_model.specs.Model.{left_out, Master, with_log, to_ids, ids_of, place_of}
 use Rattle.rc_model.specs.Model.{is_unclosed, first_open, wants_commit, commits, close_is_due}
-use Rattle.rc_model.specs.Model.{new_durable, goes_on, then_does, to_remind, is_closing_old, lacking, reminds_member}
-use Rattle.rc_model.specs.Model.{reminds_members, reminds_open, reminds_shut, reminds, fetch_of, obeys_list, ticks, master_takes_first}
+use Rattle.rc_model.specs.Model.{new_durable, goes_on, then_does, to_remind, lacking, reminds_member}
+use Rattle.rc_model.specs.Model.{reminds_members, reminds_open, reminds_shut, reminds, obeys_list, ticks, master_takes_first}
 use Rattle.rc_model.specs.Model.{deposed_takes, master_takes, master_ticks, is_up, In}
-use Rattle.rc_model.specs.Model.{close_marked, has_unclosed, next_digest, dead_segments, task_of, reminds_shut_members, commits_again}
+use Rattle.rc_model.specs.Model.{close_marked, has_unclosed, next_digest, dead_segments, reminds_shut_members, commits_again}
 use Rattle.rc_model.specs.Model.{ready_again, recovered_again, fetches_again, awaits_commit, standing, Write, Read}
 use Rattle.rc_model.specs.HeadClaims.{OfEachStep, WritesWhereItMay, AppendsWhereItWrites}
 use Rattle.rc_model.specs.SendClaims.{OfEachMessage, EarlierAreShut, IsPlacedOnAll, IsCommitDue, CommitsAreDue, IsClosingOf, IsCloseDue}
-use Rattle.rc_model.specs.SendClaims.{ClosesAreDue, deposed_answer, DeposedOnlyRefuse, DeposedDoNotTick}
+use Rattle.rc_model.specs.SendClaims.{ClosesAreDue, DeposedOnlyRefuse, DeposedDoNotTick}
 use Rattle.rc_model.proofs.LogParts.{In-numbers, numbers-In}
 use Rattle.rc_model.proofs.Tests.{either, true_false}
 use Rattle.rc_model.proofs.Members.{In-filter}
@@ -38,16 +37,7 @@ find-in {X} {test} (z ∷ xs) ys {x} e = by (test z) refl (find-in xs ys) e
         cond b (Some z) (find test (xs ++ ys)) ≡ Some x →
         (cond b (Some z) (find test xs) ≡ Some x) ⊎ (((y : X) → In y (z ∷ xs) → test y ≡ false) × (find test ys ≡ Some x))
     by true is rec e = inl e
-    by false isn't rec e = further (rec e)
-      where
-        further : (find test xs ≡ Some x) ⊎ (((y : X) → In y xs → test y ≡ false) × (find test ys ≡ Some x)) →
-            (find test xs ≡ Some x) ⊎ (((y : X) → In y (z ∷ xs) → test y ≡ false) × (find test ys ≡ Some x))
-        further (inl found) = inl found
-        further (inr (none, found)) = inr (λ y at. each y at, found)
-          where
-            each : (y : X) → (y ≡ z) ⊎ In y xs → test y ≡ false
-            each y (inl same) = ap test same ∙ isn't
-            each y (inr rest) = none y rest
+    by false isn't rec e = search (arith, find)
 
 -- What is said by one that asks for a commit, or closes
 
@@ -82,10 +72,7 @@ earlier-later : {b c : Log} {s : ℕ} → FollowLeads b c → s ≤ b.head → E
 earlier-later q upto shut t above less = q.shut t (omega (arith, less, upto)) (shut t above less)
 
 placed-later : {b c : Log} {s e : ℕ} → FollowLeads b c → s ≤ b.head → IsPlacedOnAll b s e → IsPlacedOnAll c s e
-placed-later {s} q upto p = record {
-  epoch = p.epoch ∙ sym (ap (λ (config : Config). config.epoch) (q.configs s upto));
-  placed = ap all_placed (q.configs s upto) ∙ p.placed;
-}
+placed-later {s} q upto p = search arith
 
 said-later : (a : Log) {b c : Log} (body : Body) → FollowLeads b c → Said a b body → Said a c body
 said-later a {b} {c} (Commit s e) q (due, upto) = (
@@ -219,9 +206,7 @@ goes-commits master seg open_one wants =
     found = first-open master.log master.log.head open_one
 
     placed : all_placed (master.log.segments seg).config ≡ true
-    placed = (and_parts (all_placed (master.log.segments seg).config) (not (master.log.segments seg).commit_sent)
-        (and_parts (not (master.log.segments seg).config.committed) (all_placed (master.log.segments seg).config &&
-        not (master.log.segments seg).commit_sent) wants).1).0
+    placed = search (arith, and_parts)
 
     said : GoSaid master.log (commits master seg).0.log (Commit seg (master.log.segments seg).config.epoch)
     said = go-later master.log (Commit seg (master.log.segments seg).config.epoch) leads
@@ -288,32 +273,13 @@ abbrev SaysPlain : Master → Master × List Message → Type 0
 SaysPlain master after = Each Plain after.1
 
 plain-joined : Joined SaysPlain
-plain-joined = record {
-  still = λ master. each-none Plain;
-  both = λ one two first after p q. each-both Plain first after.1 p q;
-}
+plain-joined = search (arith, each-none, each-both)
 
 plain-listed : Listed SaysPlain
-plain-listed = record {
-  replaces = λ master seg ids isn't. each-map Plain _ ids (λ id at. refl);
-  opens = λ master ids none chosen. each-map Plain _ _ (λ id at. refl);
-}
+plain-listed = search (arith, each-map)
 
 plain-taken : {master : Master} {from : Addr} {body : Body} → Taken SaysPlain master from body
-plain-taken = record {
-  refuses = λ one fault. each-one Plain refl;
-  rolls = λ ids writing room chosen. each-map Plain _ _ (λ id at. refl);
-  writes = λ term table key value is owned writing room. each-map Plain _ _ (λ id at. refl);
-  reads = λ term table key is owned. each-one Plain refl;
-  lists = λ version rows is newer. each-none Plain;
-  stores = λ teller seg epoch len closed is says. each-none Plain;
-  commits = λ seg epoch is. each-none Plain;
-  deposes = each-none Plain;
-  begins = λ one attempt crashed head rows parts part is at new.
-      each-map Plain (fetch_of one.log.own (task_of attempt crashed rows part)) rows (λ row at. refl);
-  comes = λ holder attempt seg term entries is says. each-none Plain;
-  owns = λ range term previous attempt is. each-none Plain;
-}
+plain-taken = search (arith, each-one, each-map, each-none)
 
 plain-takes : (master : Master) (from : Addr) (body : Body) → Each Plain (master_takes_first master from body).1
 plain-takes master from body = kept-takes_first SaysPlain plain-joined plain-listed from body plain-taken
@@ -331,21 +297,7 @@ module _ (log : Log) where
       Each Again (map (λ body. between log.own member.id body) (lacking log seg told))
   again-lacking seg member None = each-one Again tt
   again-lacking seg member (Some told) =
-      either (λ bodies. Each Again (map (λ body. between log.own member.id body) bodies))
-      (nat_lt told.len (length (log.segments seg).entries))
-      (Append seg told.len (map (λ one. one.0) (drop told.len (log.segments seg).entries)) ∷ [])
-      (cond (is_closing_old log seg && not told.closed) (Close seg (length (log.segments seg).entries) ∷ []) [])
-      (λ _. each-one Again tt)
-      (λ _. either (λ bodies. Each Again (map (λ body. between log.own member.id body) bodies)) (is_closing_old log seg && not told.closed)
-      (Close seg (length (log.segments seg).entries) ∷ []) [] (λ e. each-one Again (close e)) (λ _. each-none Again))
-    where
-      close : (is_closing_old log seg && not told.closed) ≡ true → IsCloseDue log log seg (length (log.segments seg).entries)
-      close e =
-          let first = and_parts (is_closing_old log seg) (not told.closed) e in
-          let second = and_parts (is_closing log.phase) (nat_eq (seg + 1) log.head && (log.segments seg).config.committed) first.0 in
-          let third = and_parts (nat_eq (seg + 1) log.head) (log.segments seg).config.committed second.1 in
-          let same : seg + 1 ≡ log.head = eqb-true (seg + 1) log.head third.0 in
-          record { committed = third.1; final = refl; below = omega (arith, same); closing = inl (second.0, same) }
+      search (arith, either, nat_lt, each-one, each-none, and_parts, nat_eq, eqb-true)
 
   again-members : (seg : ℕ) (members : List Member) → Each Again (reminds_members log seg members)
   again-members seg [] = each-none Again
@@ -441,9 +393,7 @@ ticks-said master =
   where
     by : (first : Master × List Message) → InputLeads master.log first.0.log → Each Plain first.1 →
         AllSaid master.log (then_does first (reminds master.log)).0.log (then_does first (reminds master.log)).1
-    by (one, messages) input plain =
-        each-both _ messages (reminds master.log one).1 (all-plain master.log one.log messages plain)
-        (λ message at. said-since one.log message.body input (again-reminds master.log one message at))
+    by (one, messages) input plain = search (arith, each-both, all-plain, said-since, again-reminds)
 
 pub ticks-steps : (master : Master) → Steps master (master_ticks master)
 ticks-steps master =
@@ -481,13 +431,7 @@ appends-where-it-writes =
 -- Deposed masters
 
 pub deposed-only-refuse : DeposedOnlyRefuse
-deposed-only-refuse master from body is =
-    ap (λ b. cond b (deposed_takes master body) (then_does (master_takes_first master from body) goes_on)) is ∙ by body
-  where
-    by : (body : Body) → deposed_takes master body ≡ (master, deposed_answer master body)
-    by (Write table key value) = refl
-    by (Read table key) = refl
-    by _ = refl
+deposed-only-refuse master from body is = search arith
 
 pub deposed-do-not-tick : DeposedDoNotTick
 deposed-do-not-tick master is = ap (λ b. cond b (master, []) (then_does (ticks master) goes_on)) is

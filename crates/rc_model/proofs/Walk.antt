@@ -1,14 +1,14 @@
 -- One walk over the rules of a master: a relation that each single rule keeps is kept by its whole steps.
-use Rattle.std.proofs.Common.{◌≡◌, ℕ, zero, suc, ◌+◌, ◌-◌, ◌<◌, not, Bool, true, false, cond, nat_lt, nat_eq, ◌&&◌, List, [], ◌∷◌}
-use Rattle.std.proofs.Common.{◌++◌, map, filter, length, Option, Some, None, Result, Ok, Err, refl, inl, inr, option_and_then}
+use Rattle.std.proofs.Common.{◌≡◌, ℕ, zero, suc, ◌+◌, ◌-◌, ◌<◌, not, Bool, true, false, cond, nat_lt, nat_eq, List, [], ◌∷◌}
+use Rattle.std.proofs.Common.{◌++◌, map, filter, length, Option, Some, None, Result, Ok, Err, refl, inl, inr, option_and_then, arith}
 use Rattle.std.proofs.lemmas.Bool.{and_parts, eqb-true, ltb-true}
 use Rattle.rc_model.specs.Heads.{opened_on}
-use Rattle.rc_model.specs.Model.{ServerId, Addr, Server, Entry, Part, PlanRow, Fault, NotOwner, Rolling, ValueTooLong, Deposed, LogFull}
-use Rattle.rc_model.specs.Model.{NoBackups, Message, Body, Write, Read, Stored, CommitOk, Refused, Data, Own, Close, Ready, Enlist}
+use Rattle.rc_model.specs.Model.{ServerId, Addr, Server, Entry, Part, PlanRow, Fault, NotOwner, Rolling, ValueTooLong, Deposed}
+use Rattle.rc_model.specs.Model.{Message, Body, Write, Read, Stored, CommitOk, Refused, Data, Own, Close, Ready, Enlist}
 use Rattle.rc_model.specs.Model.{KeyRange, Recovered, LAST_SEGMENT, to_coordinator, ServerList, newer_than, is_up, from_rows, choose}
 use Rattle.rc_model.specs.Model.{is_unclosed}
 use Rattle.rc_model.specs.Model.{Log, with_segment, old_head_of, numbers_to, is_writing, durable_now, opens_head}
-use Rattle.rc_model.specs.Model.{open_first, is_full, appends, next_digest, begin_roll, stored, commit_noted, loses, shuts}
+use Rattle.rc_model.specs.Model.{is_full, appends, next_digest, begin_roll, stored, commit_noted, loses, shuts}
 use Rattle.rc_model.specs.Model.{may_start, may_close, may_write, left_out, starts, closes_old, writes_on, knows_term, term_of}
 use Rattle.rc_model.specs.Model.{begin_part, put_data, grant, after_replay, to_answer, after_answer, Master, Task, with_log}
 use Rattle.rc_model.specs.Model.{durable_replayed, to_ids, ids_of, place_of, places_head, appends_entry, dead_segments, refused}
@@ -16,7 +16,7 @@ use Rattle.rc_model.specs.Model.{is_too_long, written, rolls_for_write, writes_u
 use Rattle.rc_model.specs.Model.{places_segment, replaces_lost, replaces_lost_of, opens_first, tries_first, obeys_list, takes_list}
 use Rattle.rc_model.specs.Model.{close_is_due, close_marked, frees_segments, first_open, wants_commit, commits, write_oks}
 use Rattle.rc_model.specs.Model.{new_durable, rolls_for_replay, replays, attempt_of, answers_part, follow_up, marks_shut, further}
-use Rattle.rc_model.specs.Model.{followed, enough, goes_on, fetch_of, reminds, ticks, begins_task, task_of, takes_plan, says_deposed}
+use Rattle.rc_model.specs.Model.{followed, enough, goes_on, fetch_of, reminds, ticks, task_of, takes_plan}
 use Rattle.rc_model.specs.Model.{master_takes_first, deposed_takes, master_takes, master_ticks, In, reads_under, if_owned, when}
 use Rattle.rc_types.specs.declared.ids.Addr.TheVariants.{Coordinator}
 use Rattle.rc_types.specs.declared.messages.Body.TheVariants.{Plan, List as ServersOf}
@@ -135,16 +135,7 @@ roll-cases : (master : Master) (P : Log × Result Bool Fault → Type 0) → ((f
     choose (master.log.head + 1) master.log.own master.log.factor master.known ≡ Some ids →
     P (opens_head master.log (next_digest master.log (dead_segments master)) ids, Ok true)) →
     P (begin_roll master.known (dead_segments master) master.log)
-roll-cases master P none opened = either P (nat_lt master.log.head LAST_SEGMENT)
-    (opened_on master.log (next_digest master.log (dead_segments master))
-    (choose (master.log.head + 1) master.log.own master.log.factor master.known)) (master.log, Err LogFull)
-    (λ room. by (choose (master.log.head + 1) master.log.own master.log.factor master.known) refl
-    (ltb-true master.log.head LAST_SEGMENT room)) (λ _. none LogFull)
-  where
-    by : (chosen : Option (List ServerId)) → choose (master.log.head + 1) master.log.own master.log.factor master.known ≡ chosen →
-        master.log.head < LAST_SEGMENT → P (opened_on master.log (next_digest master.log (dead_segments master)) chosen)
-    by None e room = none NoBackups
-    by (Some ids) e room = opened ids room e
+roll-cases master P none opened = search (arith, either, nat_lt, ltb-true)
 
 -- The rules that follow up, one by one
 
@@ -171,16 +162,7 @@ module _ (R : Master → Master × List Message → Type 0) (f : Followed R) whe
   kept-answers master (Some term) e = f.answers master term e
 
   pub kept-follow_up : (master : Master) → AllDone (R master) (follow_up master)
-  kept-follow_up master = done-or (R master) _ _ (done-when (R master) (may_start master.log) (f.starts master))
-      (done-or (R master) _ _ (done-when (R master) (may_close master.log) (f.places master))
-      (done-or (R master) _ _ (done-when (R master) (close_is_due master.log) (f.closes master))
-      (done-or (R master) _ _ (done-when (R master) (may_write master.log) (f.shuts master))
-      (done-or (R master) _ _ (kept-commits master (first_open master.log) refl)
-      (done-or (R master) _ _ (done-when (R master) (nat_lt master.log.durable (durable_now master.log)) (f.counts master))
-      (done-or (R master) _ _
-      (either (AllDone (R master)) (is_writing master.log.phase) (replays master master.ownership.replay) None
-      (λ writing. kept-replays master master.ownership.replay refl writing) (λ _. tt))
-      (kept-answers master (to_answer (durable_replayed master) master.ownership) refl)))))))
+  kept-follow_up master = search (arith, done-or, done-when, kept-commits, nat_lt, either, kept-replays, kept-answers)
 
 module _ (R : Master → Master × List Message → Type 0) (joined : Joined R) where
   pub kept-then : {master : Master} {first : Master × List Message} {rule : Master → Master × List Message} →
@@ -235,11 +217,7 @@ module _ (R : Master → Master × List Message → Type 0) (joined : Joined R) 
   kept-first l {master} (Some ids) none e = l.opens master ids none e
 
   kept-tries : Listed R → (master : Master) → R master (tries_first master)
-  kept-tries l master = either (R master) (nat_eq master.log.head 0 && is_up master.known master.log.own)
-      (opens_first master (open_first master.known master.log)) (master, [])
-      (λ e. kept-first l (choose 1 master.log.own master.log.factor master.known)
-      (eqb-true master.log.head 0 (and_parts (nat_eq master.log.head 0) (is_up master.known master.log.own) e).0) refl)
-      (λ _. joined.still master)
+  kept-tries l master = search (arith, either, nat_eq, kept-first, eqb-true, and_parts)
 
   pub kept-obeys : Listed R → (master : Master) → R master (obeys_list master)
   kept-obeys l master = kept-then (kept-lost_of l (numbers_to master.log.head) master) (kept-tries l)
@@ -273,10 +251,7 @@ module _ (R : Master → Master × List Message → Type 0) (joined : Joined R) 
             (cond (is_full master.log) (rolls_for_write master (begin_roll master.known (dead_segments master) master.log))
             (appends_entry master (written master term table key value) true)))
         by false e = refuses master Rolling
-        by true e = either (R master) (is_full master.log)
-            (rolls_for_write master (begin_roll master.known (dead_segments master) master.log))
-            (appends_entry master (written master term table key value) true)
-            (λ _. kept-rolls rolls e) (λ room. p e room)
+        by true e = search (arith, either, kept-rolls)
 
     kept-owned : {master : Master} (term : Option ℕ) (table key : ℕ) (value : Option (List ℕ)) → Rolls R master →
         ((one : ℕ) → term ≡ Some one → is_writing master.log.phase ≡ true → is_full master.log ≡ false →
@@ -328,9 +303,7 @@ module _ (R : Master → Master × List Message → Type 0) (joined : Joined R) 
   kept-takes_first l from (ServersOf version rows) t = kept-list l (t.lists version rows refl)
   kept-takes_first l (Server teller) (Stored seg epoch len closed) t = t.stores teller seg epoch len closed refl refl
   kept-takes_first l from (CommitOk seg epoch) t = t.commits seg epoch refl
-  kept-takes_first l {master} Coordinator (Refused reason) t =
-      either (λ (after : Master). R master (after, [])) (says_deposed reason) (record master { deposed = true }) master
-      (λ _. t.deposes) (λ _. joined.still master)
+  kept-takes_first l {master} Coordinator (Refused reason) t = search (arith, either)
   kept-takes_first l {master} from (Plan head attempt crashed rows parts) t =
       kept-plan parts (λ one part. t.begins one attempt crashed head rows parts part refl) master
   kept-takes_first l (Server holder) (Data attempt seg term entries) t = t.comes holder attempt seg term entries refl refl
@@ -394,16 +367,10 @@ pub record LogFollowed (L : Log → Log → Type 0) : Type 0 where
 
 module _ (L : Log → Log → Type 0) (joined : LogJoined L) where
   pub of_log-joined : Joined (OfLog L)
-  of_log-joined = record {
-    still = λ master. joined.still master.log;
-    both = λ one two first after p q. joined.both one.log two.log after.0.log p q;
-  }
+  of_log-joined = search arith
 
   pub of_log-listed : LogListed L → Listed (OfLog L)
-  of_log-listed l = record {
-    replaces = λ master seg ids isn't. l.replaces master.known seg master.log;
-    opens = λ master. l.opens master.known master.log;
-  }
+  of_log-listed l = search arith
 
   -- but for what is told as stored, and as committed
   pub of_log-taken : LogWritten L → {master : Master} {from : Addr} {body : Body} →
@@ -411,33 +378,10 @@ module _ (L : Log → Log → Type 0) (joined : LogJoined L) where
       L master.log (stored seg teller epoch len closed master.log)) →
       ((seg epoch : ℕ) → body ≡ CommitOk seg epoch → L master.log (commit_noted seg epoch master.log)) →
       Taken (OfLog L) master from body
-  of_log-taken w {master} stores commits = record {
-    refuses = λ one fault. joined.still one.log;
-    rolls = w.rolls master.known master.log (next_digest master.log (dead_segments master));
-    writes = λ term table key value is owned. w.writes master.log (written master term table key value) true;
-    reads = λ term table key is owned. joined.still master.log;
-    lists = λ version rows is newer. joined.still master.log;
-    stores = stores;
-    commits = commits;
-    deposes = joined.still master.log;
-    begins = λ one attempt crashed head rows parts part is at new. joined.still one.log;
-    comes = λ holder attempt seg term entries is says. joined.still master.log;
-    owns = λ range term previous attempt is. joined.still master.log;
-  }
+  of_log-taken w {master} stores commits = search arith
 
   pub of_log-ticked : Ticked (OfLog L)
   of_log-ticked = record { enlists = λ master. joined.still master.log; reminds = λ before master. joined.still master.log }
 
   pub of_log-followed : LogWritten L → LogFollowed L → Followed (OfLog L)
-  of_log-followed w f = record {
-    marks = λ master. f.marks master.log;
-    starts = λ master. f.starts master.log;
-    places = λ master. f.places master.log;
-    closes = λ master. f.closes master.log;
-    shuts = λ master. f.shuts master.log;
-    commits = λ master seg open_one wants. f.commits master.log seg;
-    counts = λ master. f.counts master.log;
-    rolls = λ master. w.rolls master.known master.log (next_digest master.log (dead_segments master));
-    replays = λ master entry entries is. w.writes master.log entry false;
-    answers = λ master term is. joined.still master.log;
-  }
+  of_log-followed w f = search arith
