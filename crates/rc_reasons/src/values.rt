@@ -215,8 +215,13 @@ fn wrong_part(text: &[u8], value: Piece, want: Want) -> Option<usize> {
     match want {
         Want::Addr if value.text(text) == "\"c\"" => None,
         Want::Id | Want::Addr => wrong_id(text, value),
-        _ => (!is_simple(text, value, want)).then_some(value.from),
+        _ => wrong_simple(text, value, want),
     }
+}
+
+/// Where a value without parts is wrong, if it is.
+fn wrong_simple(text: &[u8], value: Piece, want: Want) -> Option<usize> {
+    (!is_simple(text, value, want)).then_some(value.from)
 }
 
 /// Where an id is wrong, if it is.
@@ -228,8 +233,8 @@ fn wrong_id(text: &[u8], value: Piece) -> Option<usize> {
     let (Some(index), Some(generation)) = (first, second) else {
         return Some(value.from);
     };
-    let wrong = wrong_part(text, index, Want::Host);
-    wrong.or(wrong_part(text, generation, Want::Whole(1, u32::MAX as u64)))
+    let wrong = wrong_simple(text, index, Want::Host);
+    wrong.or(wrong_simple(text, generation, Want::Whole(1, u32::MAX as u64)))
 }
 
 /// Whether a value without parts is what it has to be.
