@@ -6,7 +6,7 @@ use crate::options::Options;
 use crate::protocol::Op;
 use crate::{coordinator, host};
 use std::fs::{self, File, OpenOptions, TryLockError};
-use std::io::{ErrorKind, Read, Write};
+use std::io::{ErrorKind, Read, Seek, SeekFrom, Write};
 use std::net::TcpListener;
 use std::os::unix::fs::OpenOptionsExt;
 use std::path::{Path, PathBuf};
@@ -142,9 +142,13 @@ impl Cluster {
 
     /// The last line of a node's log.
     pub fn last_line(&self, place: usize) -> String {
-        let log = fs::read(self.folder(place).join("log")).unwrap_or_default();
-        let text = String::from_utf8_lossy(&log[log.len().saturating_sub(4096)..]).into_owned();
-        text.lines().last().unwrap_or_default().to_string()
+        let end = File::open(self.folder(place).join("log")).and_then(|mut log| {
+            let length = log.metadata()?.len();
+            log.seek(SeekFrom::Start(length.saturating_sub(4096)))?;
+            let mut end = Vec::new();
+            log.read_to_end(&mut end).map(|_| end)
+        });
+        String::from_utf8_lossy(&end.unwrap_or_default()).lines().last().unwrap_or_default().to_string()
     }
 
     /// Starts the process of a node.
