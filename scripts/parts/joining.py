@@ -2,7 +2,7 @@
 
 import re
 
-MOST = 119
+MOST = 118
 # what begins a line of its own
 BEGINS = re.compile(r"(let|where|in|\||record|module|use|pub|mod|unfolding|abbrev|data|elim|open)\b|[})\]]")
 HEADS = re.compile(r"(pub )?(module|use|record|data|mod|unfolding|open)\b")

@@ -43,8 +43,7 @@ any_attempt sent m rows one other (ack ∷ acks) e =
     (is_missing sent (record { attempt = other; master = m; rows = rows }) ack)
     (missing_any sent m rows one other ack) e (any_attempt sent m rows one other acks)
   where
-    by : (b c : Bool) → b ≡ c →
-        cond b (Some (Missing one m ack.seg ack.offset))
+    by : (b c : Bool) → b ≡ c → cond b (Some (Missing one m ack.seg ack.offset))
         (first_missing sent (record { attempt = one; master = m; rows = rows }) acks) ≡ None →
         (first_missing sent (record { attempt = one; master = m; rows = rows }) acks ≡ None →
         first_missing sent (record { attempt = other; master = m; rows = rows }) acks ≡ None) →
@@ -61,7 +60,7 @@ row_same a b e =
     let one = and_parts (nat_eq a.seg b.seg) (same_id a.holder b.holder && nat_eq a.len b.len) e in
     let two = and_parts (same_id a.holder b.holder) (nat_eq a.len b.len) one.1 in
     let seg : a.seg ≡ b.seg = eqb-true a.seg b.seg one.0 in
-    let holder : a.holder ≡ b.holder = same_id-true a.holder b.holder two.0 in
+    let holder : a.holder ≡ b.holder = same_id-true two.0 in
     let len : a.len ≡ b.len = eqb-true a.len b.len two.1 in
     let whole : ◌≡◌ {A = PlanRow} (record { seg = a.seg; holder = a.holder; len = a.len })
     (record { seg = b.seg; holder = b.holder; len = b.len }) = cc in whole

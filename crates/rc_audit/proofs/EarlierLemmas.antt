@@ -259,13 +259,12 @@ search_goes_on grants table key term old new waited rest waiting later split p q
     back : (sent : List Message) → AreGrants grants sent → (t : ℕ) → IsBefore (grants_of sent table key) t later →
         (later ≡ term) ⊎ (contains nat_cmp old later ≡ true) → IsEarlier sent table key t term
     back sent are t step (inl same) = subst (λ x. IsBefore (grants_of sent table key) t x) same step
-    back sent are t step (inr e) = before-through (grants_of sent table key) t later term step (p.sound sent are later e)
+    back sent are t step (inr e) = before-through step (p.sound sent are later e)
 
     sound : (sent : List Message) → AreGrants grants sent → (t : ℕ) →
         (contains nat_cmp old t ≡ true) ⊎ IsStep table key (grants_at grants later) t → IsEarlier sent table key t term
     sound sent are t (inl was) = p.sound sent are t was
-    sound sent are t (inr step) =
-        back sent are t (subst (λ x. IsBefore (grants_of sent table key) x later) step.is
+    sound sent are t (inr step) = back sent are t (subst (λ x. IsBefore (grants_of sent table key) x later) step.is
         (step_back grants sent are later table key step.grant step.among step.holds)) later_waits
 
     kept : (t : ℕ) → (t ≡ term) ⊎ (contains nat_cmp old t ≡ true) → (t ≡ term) ⊎ (contains nat_cmp new t ≡ true)
@@ -317,11 +316,11 @@ search_ends grants table key term before waiting empty p sent are =
     done t (inr closed) = closed
 
     there : (t : ℕ) → contains nat_cmp before t ≡ true → is_earlier sent table key t term ≡ true
-    there t e = is_before-found (grants_of sent table key) t term (p.sound sent are t e)
+    there t e = is_before-found (grants_of sent table key) (p.sound sent are t e)
 
     here : (t : ℕ) → is_earlier sent table key t term ≡ true → contains nat_cmp before t ≡ true
     here t e = reached grants sent table key term before are (λ x either_. done x (p.closed x either_)) t term
-        (is_before-finds (grants_of sent table key) t term e) (inl refl)
+        (is_before-finds (grants_of sent table key) e) (inl refl)
 
     same : (t : ℕ) (a b : Bool) → (a ≡ true → b ≡ true) → (b ≡ true → a ≡ true) → a ≡ b
     same t true b f g = sym (f refl)

@@ -43,8 +43,7 @@ bars_from_over order grants highs bars sent keeps are levels over = record {
   each = λ key bar found. record {
     each = λ ack at table k earlier. (over.each key bar found).each (ack_key ack) ack.version table k
         (stands_before order grants sent key.table key.key keeps are ack.term key.term
-        (is_before-finds (grants_of sent key.table key.key) ack.term key.term earlier))
-        (levels.each ack at);
+        (is_before-finds (grants_of sent key.table key.key) earlier)) (levels.each ack at);
   };
 }
 

@@ -68,7 +68,7 @@ pub stands_more : (old new : BTreeMap ServerId Standing) (sent some : List Messa
     StandsFor new sent (acknowledged (some ++ message ∷ []))
 stands_more old new sent some message master write agrees before acked is now_kept now_below = record {
   kept = λ m. now_kept m
-      ∙ kept_step m (same_id master m) (same_id m master) (same_id-flip master m) (λ e. same_id-true m master e)
+      ∙ kept_step m (same_id master m) (same_id m master) (same_id-flip master m) (λ e. same_id-true e)
       (kept_at old m) (acknowledged some m) (before.kept m)
       ∙ ap (λ x. all_kept sent m x) (sym (acknowledged-push some message m ∙ ap (λ x. acknowledged some m ++ x) (sym (acked m))));
   below = λ m s. now_below m s

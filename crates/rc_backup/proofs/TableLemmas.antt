@@ -37,8 +37,7 @@ same_id-sym a b = grind (arith, nat_tests)
 
 -- an id's test in the table is that of the definitions
 at-same_id : (a b : ServerId) → is_at (id_order a) b ≡ same_id a b
-at-same_id a b =
-    by (nat_lt a.index b.index) (nat_eq a.index b.index) (nat_lt a.generation b.generation)
+at-same_id a b = by (nat_lt a.index b.index) (nat_eq a.index b.index) (nat_lt a.generation b.generation)
     (nat_eq a.generation b.generation) refl refl refl refl
   where
     by : (lower same less equal : Bool) → nat_lt a.index b.index ≡ lower → nat_eq a.index b.index ≡ same →
@@ -54,8 +53,7 @@ at-same_id a b =
 
 lookup-same_id : (m : ServerId) (table : Table) → lookup (is_at (id_order m)) table ≡ lookup (same_id m) table
 lookup-same_id m [] = refl
-lookup-same_id m (e ∷ es) =
-    ap (λ b. cond b (Some e.1) (lookup (is_at (id_order m)) es)) (at-same_id m e.0) ∙
+lookup-same_id m (e ∷ es) = ap (λ b. cond b (Some e.1) (lookup (is_at (id_order m)) es)) (at-same_id m e.0) ∙
     ap (λ o. cond (same_id m e.0) (Some e.1) o) (lookup-same_id m es)
 
 -- what a look-up finds is what the table has
@@ -69,8 +67,7 @@ order-tests : {X : Type 0} (a b : ServerId) (x y z : X) →
 order-tests a b x y z =
     by (nat_lt a.index b.index) (nat_eq a.index b.index) (nat_lt a.generation b.generation) (nat_eq a.generation b.generation)
   where
-    by : (lower same less equal : Bool) →
-        match_ordering (ordering_then (cond lower Less (cond same Equal Greater))
+    by : (lower same less equal : Bool) → match_ordering (ordering_then (cond lower Less (cond same Equal Greater))
         (cond less Less (cond equal Equal Greater))) x y z
         ≡ cond (lower || (same && less)) x (cond (same && equal) y z)
     by true same less equal = refl
@@ -167,16 +164,14 @@ changed-found f old own table new m found held view sorted there is e =
 pub changed-first : (f : Held → Held) (old : Holdings) (own : ServerId) (table new : Table) (m : ServerId) → holds own table ≡ old
     → None ≡ lookup (is_at (id_order m)) table → new ≡ insert_entry id_order table m (f nothing_held)
     → backup_of (holds own new) ≡ with_held m (f ((backup_of old).held m)) (backup_of old)
-changed-first f old own table new m view there e =
-    inserted own table new m (f nothing_held) e
+changed-first f old own table new m view there e = inserted own table new m (f nothing_held) e
     ∙ ap (λ h. with_held m (f h) (backup_of (holds own table))) (found-held m table None there)
     ∙ ap (λ o. with_held m (f ((backup_of o).held m)) (backup_of o)) view
 
 -- a Free, by what is kept of the master
 frees-held : (backup : Backup) (m : ServerId) (seg : ℕ) (held : Held) → held ≡ backup.held m →
     frees backup m seg ≡ cond held.fenced backup (with_held m (held_without held seg) backup)
-frees-held backup m seg held is =
-    by (backup.held m).fenced refl
+frees-held backup m seg held is = by (backup.held m).fenced refl
     ∙ ap (λ h. cond h.fenced backup (with_held m (held_without h seg) backup)) (sym is)
   where
     freed : Held
@@ -195,8 +190,7 @@ pub frees-found : (old : Holdings) (own : ServerId) (table new : Table) (m : Ser
     → IsStrictlySortedBy id_order (keys_of table) → Some found ≡ lookup (is_at (id_order m)) table →
     held ≡ held_without found seg → new ≡ set_value (is_at (id_order m)) table held
     → backup_of (holds own new) ≡ frees (backup_of old) m seg
-frees-found old own table new m seg found held view sorted there is e =
-    by found.fenced refl ∙ sym
+frees-found old own table new m seg found held view sorted there is e = by found.fenced refl ∙ sym
     (frees-held (backup_of (holds own table)) m seg found (found-held m table (Some found) there)) ∙
     ap (λ o. frees (backup_of o) m seg) view
   where
@@ -215,8 +209,7 @@ frees-found old own table new m seg found held view sorted there is e =
 pub frees-first : (old : Holdings) (own : ServerId) (table new : Table) (m : ServerId) (seg : ℕ) → holds own table ≡ old
     → None ≡ lookup (is_at (id_order m)) table → new ≡ insert_entry id_order table m (held_without nothing_held seg)
     → backup_of (holds own new) ≡ frees (backup_of old) m seg
-frees-first old own table new m seg view there e =
-    inserted own table new m (held_without nothing_held seg) e
+frees-first old own table new m seg view there e = inserted own table new m (held_without nothing_held seg) e
     ∙ sym (frees-held (backup_of (holds own table)) m seg nothing_held (found-held m table None there))
     ∙ ap (λ o. frees (backup_of o) m seg) view
 
@@ -250,15 +243,13 @@ stores-found old own table new m seg body found held view sorted there is e =
     by : (next : Option Replica) → new ≡ set_value (is_at (id_order m)) table (with_replica found seg next) →
         backup_of (holds own new) ≡ (keeps backup m seg next).0
     by None e = ap backup_of (unwritten own table new m found found there e refl)
-    by (Some replica) e =
-        written own table new m found (with_replica found seg (Some replica)) sorted there e
+    by (Some replica) e = written own table new m found (with_replica found seg (Some replica)) sorted there e
         ∙ ap (λ h. with_held m (with_replica h seg (Some replica)) backup) here
 
 pub stores-first : (old : Holdings) (own : ServerId) (table new : Table) (m : ServerId) (seg : ℕ) (body : Body) → holds own table ≡ old
     → None ≡ lookup (is_at (id_order m)) table → new ≡ put_first table m seg (replica_after None body) →
     backup_of (holds own new) ≡ (stores (backup_of old) m seg body).0
-stores-first old own table new m seg body view there e =
-    by (replica_after None body) e
+stores-first old own table new m seg body view there e = by (replica_after None body) e
     ∙ ap (λ h. (keeps backup m seg (next_replica h seg body)).0) here
     ∙ sym (ap (λ both. both.0) (stores-keeps backup m seg body)) ∙ ap (λ o. (stores (backup_of o) m seg body).0) view
   where
@@ -270,8 +261,7 @@ stores-first old own table new m seg body view there e =
 
     by : (next : Option Replica) → new ≡ put_first table m seg next → backup_of (holds own new) ≡ (keeps backup m seg next).0
     by None e = ap (λ t. backup_of (holds own t)) e
-    by (Some replica) e =
-        inserted own table new m (with_replica nothing_held seg (Some replica)) e
+    by (Some replica) e = inserted own table new m (with_replica nothing_held seg (Some replica)) e
         ∙ ap (λ h. with_held m (with_replica h seg (Some replica)) backup) here
 
 -- the answer that is sent
@@ -296,7 +286,7 @@ held_in-restarted kept (e ∷ es) q = by (same_id q e.0) refl (held_in-restarted
     by : (b : Bool) → same_id q e.0 ≡ b → held_in (with_each (restarted kept) es) q ≡ restarted kept q (held_in es q)
         → unwrap_or (cond b (Some (restarted kept e.0 e.1)) (lookup (same_id q) (with_each (restarted kept) es))) nothing_held
         ≡ restarted kept q (unwrap_or (cond b (Some e.1) (lookup (same_id q) es)) nothing_held)
-    by true is rest = ap (λ id. restarted kept id e.1) (sym (same_id-true q e.0 is))
+    by true is rest = ap (λ id. restarted kept id e.1) (sym (same_id-true is))
     by false is rest = rest
 
 pub table_restarted : (old : Holdings) (own next : ServerId) (kept : List (ServerId × ℕ)) (table new : Table) →

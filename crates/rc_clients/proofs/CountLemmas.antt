@@ -23,9 +23,9 @@ record IsWithout (moment : ℕ) (others : List (Operation × ℕ)) : Type 0 wher
   fewer : length rest + 1 ≡ length others
   kept : (n : ℕ) → IsAmong n others → (n ≡ moment → ⊥) → IsAmong n rest
 
-without_more : (moment : ℕ) (one : Operation × ℕ) (others : List (Operation × ℕ)) → IsWithout moment others →
+without_more : {moment : ℕ} {one : Operation × ℕ} {others : List (Operation × ℕ)} → IsWithout moment others →
     IsWithout moment (one ∷ others)
-without_more moment one others less = record {
+without_more {moment} {one} {others} less = record {
   rest = one ∷ less.rest;
   fewer = let f = less.fewer in omega (arith, f);
   kept = λ n at differ. kept n at differ;
@@ -35,9 +35,9 @@ without_more moment one others less = record {
     kept n (inl f) differ = inl f
     kept n (inr i) differ = inr (less.kept n i differ)
 
-without_first : (moment : ℕ) (one : Operation × ℕ) (others : List (Operation × ℕ)) → one.1 ≡ moment →
+without_first : {moment : ℕ} {one : Operation × ℕ} {others : List (Operation × ℕ)} → one.1 ≡ moment →
     IsWithout moment (one ∷ others)
-without_first moment one others e = record {
+without_first {moment} {one} {others} e = record {
   rest = others;
   fewer = omega arith;
   kept = λ n at differ. kept n at differ;
@@ -47,17 +47,17 @@ without_first moment one others e = record {
     kept n (inl f) differ = absurd (differ (sym f ∙ e))
     kept n (inr h) differ = h
 
-without : (moment : ℕ) (others : List (Operation × ℕ)) → IsAmong moment others → IsWithout moment others
-without moment [] h = absurd h
-without moment (one ∷ others) (inl e) = without_first moment one others e
-without moment (one ∷ others) (inr h) = without_more moment one others (without moment others h)
+without : {moment : ℕ} (others : List (Operation × ℕ)) → IsAmong moment others → IsWithout moment others
+without [] h = absurd h
+without (one ∷ others) (inl e) = without_first e
+without (one ∷ others) (inr h) = without_more (without others h)
 
 -- different numbers that are all among those are no more than those
 fewer : (xs : List ℕ) (others : List (Operation × ℕ)) → AreDifferent xs → ((n : ℕ) → IsIn n xs → IsAmong n others) →
     length xs ≤ length others
 fewer [] others differ among = omega arith
 fewer (x ∷ xs) others differ among =
-    let less = without x others (among x (inl refl)) in
+    let less = without others (among x (inl refl)) in
     let h = fewer xs less.rest differ.1 (λ n at. less.kept n (among n (inr at))
     (λ e. differ.0 (subst (λ k. IsIn k xs) e at))) in
     let f = less.fewer in omega (arith, h, f)
@@ -70,12 +70,12 @@ record HasWrites (history : List ClientEvent) (op : Operation) (got : ℕ → �
   of_lower : (n : ℕ) → IsIn n writes → got n < version
   pending : (n : ℕ) → IsIn n writes → IsPendingWrite history op n
 
-one_more : (history : List ClientEvent) (op : Operation) (good : IsLinearizable history) (version : ℕ)
+one_more : {history : List ClientEvent} {op : Operation} (good : IsLinearizable history) {version : ℕ}
     (one : Operation × ℕ) (others : List (Operation × ℕ)) → version ≤ op.version →
     IsWanting history op.table op.key (value_of history op) version one.0 →
     HasWrites history op good.got one.0.version (length others) →
     HasWrites history op good.got version (length (one ∷ others))
-one_more history op good version one others under want more = by (good.written one.0 want.is want.later)
+one_more {history} {op} good {version} one others under want more = by (good.written one.0 want.is want.later)
   where
     low : one.0.version < version
     low = want.below
@@ -109,27 +109,26 @@ one_more history op good version one others under want more = by (good.written o
         is_pending n (inl f) = subst (IsPendingWrite history op) f (serves m p)
         is_pending n (inr at) = more.pending n at
 
-writes_of : (history : List ClientEvent) (op : Operation) (good : IsLinearizable history) (version : ℕ)
+writes_of : {history : List ClientEvent} {op : Operation} (good : IsLinearizable history) {version : ℕ}
     (others : List (Operation × ℕ)) → version ≤ op.version →
     AreWanting history op.table op.key (value_of history op) version others →
     HasWrites history op good.got version (length others)
-writes_of history op good version [] under wanting = record {
+writes_of good [] under wanting = record {
   writes = [];
   as_many = refl;
   different = tt;
   of_lower = λ n at. absurd at;
   pending = λ n at. absurd at;
 }
-writes_of history op good version (one ∷ others) under wanting =
-    one_more history op good version one others under wanting.0
-    (writes_of history op good one.0.version others (let low = wanting.0.below in omega (arith, low, under)) wanting.1)
+writes_of good (one ∷ others) under wanting = one_more good one others under wanting.0
+    (writes_of good others (let low = wanting.0.below in omega (arith, low, under)) wanting.1)
 
-pub too_many : (history : List ClientEvent) (op : Operation) (others : List (Operation × ℕ)) → IsOperation history op →
+pub too_many : {history : List ClientEvent} {op : Operation} {others : List (Operation × ℕ)} → IsOperation history op →
     op.version ≢ 0 → (HasWrite history op → ⊥) → IsTooMany history op others → IsLinearizable history → ⊥
-too_many history op others is later unwritten many good = by (good.written op is later)
+too_many {history} {op} {others} is later unwritten many good = by (good.written op is later)
   where
     below : HasWrites history op good.got op.version (length others)
-    below = writes_of history op good op.version others (omega arith) many.wanting
+    below = writes_of good others (omega arith) many.wanting
 
     by : WasWritten history good.got op → ⊥
     by (inl h) = unwritten h

@@ -24,18 +24,18 @@ pub record IsTold (history : List ClientEvent) (moment : ℕ) (op : Operation) :
   pub asked_before : op.invocation < moment
   pub key_is : key_at history op.invocation ≡ Some (key_of op)
 
-some_same : (x y : Operation) → ◌≡◌ {A = Option Operation} (Some x) (Some y) → x ≡ y
-some_same x y e = ap (λ o. unwrap_or o x) e
+some_same : {x y : Operation} → ◌≡◌ {A = Option Operation} (Some x) (Some y) → x ≡ y
+some_same {x} e = ap (λ o. unwrap_or o x) e
 
-pub key_asked : (history : List ClientEvent) (moment : ℕ) (event : ClientEvent) → slice_get history moment ≡ Some event →
+pub key_asked : (history : List ClientEvent) (moment : ℕ) {event : ClientEvent} → slice_get history moment ≡ Some event →
     key_at history moment ≡ key_in event
 unfolding key_at
-key_asked history moment event is = ap (option_and_then key_in) is
+key_asked history moment is = ap (option_and_then key_in) is
 
-pub told : (history : List ClientEvent) (moment : ℕ) (op : Operation) → operation_at history moment ≡ Some op →
+pub told : {history : List ClientEvent} {moment : ℕ} {op : Operation} → operation_at history moment ≡ Some op →
     IsTold history moment op
 unfolding operation_at
-told history moment op e = by (slice_get history moment) e
+told {history} {moment} {op} e = by (slice_get history moment) e
   where
     under : (i : ℕ) → nat_lt i moment ≡ true → i < moment
     under i t = grind (arith, nat_tests)
@@ -46,10 +46,10 @@ told history moment op e = by (slice_get history moment) e
         Some op → IsTold history moment op
     asked k i v table key request false s below e = cc
     asked k i v table key request true s below e =
-        subst (λ o. IsTold history moment o) (some_same _ op e) (record {
+        subst (λ o. IsTold history moment o) (some_same e) (record {
           response_is = refl;
           asked_before = below;
-          key_is = key_asked history i (Invoked table key request) s;
+          key_is = key_asked history i s;
         })
 
     answers : (k : Kind) (i v : ℕ) (b : Bool) → nat_lt i moment ≡ b → (event : Option ClientEvent) →
@@ -71,10 +71,10 @@ told history moment op e = by (slice_get history moment) e
     by (Some (Failed i)) e = cc
 
 -- an operation stands within its history
-pub within : (history : List ClientEvent) (moment : ℕ) (op : Operation) → operation_at history moment ≡ Some op →
+pub within : (history : List ClientEvent) {moment : ℕ} {op : Operation} → operation_at history moment ≡ Some op →
     moment < length history
 unfolding operation_at
-within history moment op e = by (slice_get history moment) refl e
+within history {moment} {op} e = by (slice_get history moment) refl e
   where
     by : (o : Option ClientEvent) → slice_get history moment ≡ o →
         option_and_then (answered_by history moment) o ≡ Some op → moment < length history
@@ -82,15 +82,14 @@ within history moment op e = by (slice_get history moment) refl e
     by (Some event) is e = slice_get_within history moment event is
 
 -- it is the one at the moment of its response
-pub is_operation : (history : List ClientEvent) (moment : ℕ) (op : Operation) → operation_at history moment ≡ Some op →
+pub is_operation : (history : List ClientEvent) (moment : ℕ) {op : Operation} → operation_at history moment ≡ Some op →
     IsOperation history op
-is_operation history moment op e =
-    subst (λ m. operation_at history m ≡ Some op) (sym (told history moment op e).response_is) e
+is_operation history moment {op} e = subst (λ m. operation_at history m ≡ Some op) (sym (told e).response_is) e
 
 -- of one moment there is one
-pub one_at : (history : List ClientEvent) (moment : ℕ) (a b : Operation) → operation_at history moment ≡ Some a →
+pub one_at : (history : List ClientEvent) (moment : ℕ) {a b : Operation} → operation_at history moment ≡ Some a →
     operation_at history moment ≡ Some b → a ≡ b
-one_at history moment a b e f = some_same a b (sym e ∙ f)
+one_at history moment e f = some_same (sym e ∙ f)
 
 -- one that is answered before the next moment is answered before this one, or at it
 pub below : (a m : ℕ) → a < m + 1 → (a < m) ⊎ (a ≡ m)
@@ -100,9 +99,9 @@ below a m h = by (nat_lt a m) refl
     by true e = inl (grind (arith, nat_tests))
     by false e = inr (grind (arith, nat_tests))
 
-pub answered_below : (history : List ClientEvent) (moment : ℕ) (a : Operation) → IsOperation history a →
+pub answered_below : (history : List ClientEvent) {moment : ℕ} {a : Operation} → IsOperation history a →
     a.response < moment + 1 → (a.response < moment) ⊎ (operation_at history moment ≡ Some a)
-answered_below history moment a is before = by (below a.response moment before)
+answered_below history {moment} {a} is before = by (below a.response moment before)
   where
     by : (a.response < moment) ⊎ (a.response ≡ moment) → (a.response < moment) ⊎ (operation_at history moment ≡ Some a)
     by (inl h) = inl h
@@ -122,12 +121,12 @@ get_front [] x i h = absurd (no i h)
 get_front (y ∷ xs) x zero h = refl
 get_front (y ∷ xs) x (suc i) h = get_front xs x i (omega (arith, h))
 
-at_end : {A : Type 0} (xs : List A) (x : A) → slice_get (xs ++ x ∷ []) (length xs) ≡ Some x
-at_end [] x = refl
-at_end (y ∷ xs) x = at_end xs x
+at_end : {A : Type 0} (xs : List A) {x : A} → slice_get (xs ++ x ∷ []) (length xs) ≡ Some x
+at_end [] = refl
+at_end (y ∷ xs) = at_end xs
 
-pub get_last : {A : Type 0} (xs : List A) (x : A) (i : ℕ) → i ≡ length xs → slice_get (xs ++ x ∷ []) i ≡ Some x
-get_last xs x i e = ap (slice_get (xs ++ x ∷ [])) e ∙ at_end xs x
+pub get_last : {A : Type 0} (xs : List A) {x : A} {i : ℕ} → i ≡ length xs → slice_get (xs ++ x ∷ []) i ≡ Some x
+get_last xs {x} e = ap (slice_get (xs ++ x ∷ [])) e ∙ at_end xs
 
 -- Orders
 
@@ -136,8 +135,8 @@ then_equal Less p e = absurd (true≢false (sym e))
 then_equal Equal p e = (refl, e)
 then_equal Greater p e = absurd (true≢false (sym e))
 
-pub numbers_same : (a b : ℕ) → is_eq (nat_cmp a b) ≡ true → a ≡ b
-numbers_same a b e = grind (arith, nat_tests)
+pub numbers_same : {a b : ℕ} → is_eq (nat_cmp a b) ≡ true → a ≡ b
+numbers_same e = grind (arith, nat_tests)
 
 pub number_itself : (a : ℕ) → nat_cmp a a ≡ Equal
 number_itself a = equal (nat_cmp a a) (grind (arith, nat_tests))

@@ -40,12 +40,12 @@ IsAbove q top e = e.0.table ≡ q.table → e.0.key ≡ q.key → top ≤ e.0.ve
 
 -- The beginning
 
-pub matched_begin : (history : List ClientEvent) (firsts : BTreeMap VersionName Operation) (heads : BTreeMap ValueName ℕ)
-    (nexts : BTreeMap ℕ (Option ℕ)) (left : List Entry) → AreChains history 0 heads nexts →
+pub matched_begin : {history : List ClientEvent} {firsts : BTreeMap VersionName Operation} {heads : BTreeMap ValueName ℕ}
+    {nexts : BTreeMap ℕ (Option ℕ)} {left : List Entry} → AreChains history 0 heads nexts →
     AreFirsts history (length history) firsts → left ≡ firsts.entries →
     IsStrictlySortedBy version_order (keys_of firsts.entries) →
     All (λ (e : Entry). get version_order firsts e.0 ≡ Some e.1) firsts.entries → AreMatched history firsts heads left
-matched_begin history firsts heads nexts left chains are whole rising found = record {
+matched_begin {history} chains are whole rising found = record {
   got = λ m. 0;
   settled = λ a is later. inr (ap (lookup (is_at (version_order (version_of a)))) whole);
   each = λ q. record {
@@ -57,8 +57,7 @@ matched_begin history firsts heads nexts left chains are whole rising found = re
     used = λ k p h. absurd (no k h);
     above = λ k d h table key. omega arith;
   };
-  named = subst (All (IsNamed history)) (sym whole)
-      (λ k d h. let f = are.found _ _ (found k d h) in (f.0, f.1));
+  named = subst (All (IsNamed history)) (sym whole) (λ k d h. let f = are.found _ _ (found k d h) in (f.0, f.1));
   rising = subst (λ es. IsStrictlySortedBy version_order (keys_of es)) (sym whole) rising;
 }
   where
@@ -74,11 +73,11 @@ left_still : (firsts : BTreeMap VersionName Operation) (a : Operation) (e : Entr
 left_still firsts a e left other h =
     sym (ap (λ b. cond b (Some e.1) (lookup (is_at (version_order (version_of a))) left)) other) ∙ h
 
-pub matched_skip : (history : List ClientEvent) (firsts : BTreeMap VersionName Operation) (heads : BTreeMap ValueName ℕ)
-    (e : Entry) (left : List Entry) →
+pub matched_skip : {history : List ClientEvent} {firsts : BTreeMap VersionName Operation} {heads : BTreeMap ValueName ℕ}
+    {e : Entry} {left : List Entry} →
     ((a : Operation) → IsOperation history a → version_of a ≡ e.0 → a.version ≢ 0 → HasWrite history a) →
     AreMatched history firsts heads (e ∷ left) → AreMatched history firsts heads left
-matched_skip history firsts heads e left written was = record {
+matched_skip {history} {firsts} {heads} {e} {left} written was = record {
   got = was.got;
   settled = λ a is later. by a is later (is_at (version_order (version_of a)) e.0) refl (was.settled a is later);
   each = λ q. let u = was.each q in record {
@@ -100,24 +99,24 @@ matched_skip history firsts heads e left written was = record {
         IsSettled history heads was.got a
         ⊎ (lookup (is_at (version_order (version_of a))) left ≡ get version_order firsts (version_of a))
     by a is later b at (inl h) = inl h
-    by a is later true at (inr h) = inl (inl (written a is (same_version (version_of a) e.0 at) later))
+    by a is later true at (inr h) = inl (inl (written a is (same_version at) later))
     by a is later false at (inr h) = inr (left_still firsts a e left at h)
 
 -- one of version 0 wants none
-pub zero_skips : (history : List ClientEvent) (firsts : BTreeMap VersionName Operation) (heads : BTreeMap ValueName ℕ)
-    (e : Entry) (left : List Entry) → e.1.version ≡ 0 → AreMatched history firsts heads (e ∷ left) →
+pub zero_skips : {history : List ClientEvent} {firsts : BTreeMap VersionName Operation} {heads : BTreeMap ValueName ℕ}
+    {e : Entry} {left : List Entry} → e.1.version ≡ 0 → AreMatched history firsts heads (e ∷ left) →
     AreMatched history firsts heads left
-zero_skips history firsts heads e left zero was = matched_skip history firsts heads e left
+zero_skips {history} {e} {left} zero was = matched_skip
     (λ a is same later. absurd (later (ap (λ (v : VersionName). v.version) (same ∙ sym named.1) ∙ zero))) was
   where
     named : IsNamed history e
     named = All-head (IsNamed history) e left was.named
 
 -- one with an answered write has one
-pub written_skips : (history : List ClientEvent) (firsts : BTreeMap VersionName Operation) (heads : BTreeMap ValueName ℕ)
-    (e : Entry) (left : List Entry) → HasWrite history e.1 → AreMatched history firsts heads (e ∷ left) →
+pub written_skips : {history : List ClientEvent} {firsts : BTreeMap VersionName Operation} {heads : BTreeMap ValueName ℕ}
+    {e : Entry} {left : List Entry} → HasWrite history e.1 → AreMatched history firsts heads (e ∷ left) →
     AreMatched history firsts heads left
-written_skips history firsts heads e left (write, h) was = matched_skip history firsts heads e left written was
+written_skips {history} {e} {left} (write, h) was = matched_skip written was
   where
     named : IsNamed history e
     named = All-head (IsNamed history) e left was.named
@@ -139,8 +138,8 @@ written_skips history firsts heads e left (write, h) was = matched_skip history 
 
 -- An entry that takes a write
 
-lower : (a b : VersionName) → version_order a b ≡ Less → a.table ≡ b.table → a.key ≡ b.key → a.version < b.version
-lower a b less table key = number (sym versions ∙ less)
+lower : {a : VersionName} (b : VersionName) → version_order a b ≡ Less → a.table ≡ b.table → a.key ≡ b.key → a.version < b.version
+lower {a} b less table key = number (sym versions ∙ less)
   where
     versions : version_order a b ≡ nat_cmp a.version b.version
     versions = ap (λ o. ordering_then o (ordering_then (nat_cmp a.key b.key) (nat_cmp a.version b.version)))
@@ -151,11 +150,11 @@ lower a b less table key = number (sym versions ∙ less)
     number e = let t : is_lt (nat_cmp a.version b.version) ≡ true = ap is_lt e in grind (arith, nat_tests)
 
 -- a greater version may stand above them
-wanting_above : (history : List ClientEvent) (table key : ℕ) (value : Option (List ℕ)) (low high : ℕ)
+wanting_above : (history : List ClientEvent) (table key : ℕ) (value : Option (List ℕ)) {low high : ℕ}
     (others : List (Operation × ℕ)) → low ≤ high → AreWanting history table key value low others →
     AreWanting history table key value high others
-wanting_above history table key value low high [] under h = tt
-wanting_above history table key value low high (one ∷ others) under h = (
+wanting_above history table key value [] under h = tt
+wanting_above history table key value (one ∷ others) under h = (
   record {
     is = h.0.is;
     table_is = h.0.table_is;
@@ -169,9 +168,9 @@ wanting_above history table key value low high (one ∷ others) under h = (
 )
 
 -- what has the version of an operation that a write serves is served by it, too
-same_served : (history : List ClientEvent) (op a : Operation) (m : ℕ) → version_of a ≡ version_of op →
+same_served : {history : List ClientEvent} {op a : Operation} {m : ℕ} → version_of a ≡ version_of op →
     value_of history op ≡ value_of history a → IsPendingWrite history op m → IsPendingWrite history a m
-same_served history op a m same value p = record {
+same_served {history} {op} {a} same value p = record {
   invoked = p.invoked ∙ ap (λ t. Some (Invoked t op.key (request.Write (value_of history op)))) (sym table)
       ∙ ap (λ k. Some (Invoked a.table k (request.Write (value_of history op)))) (sym key)
       ∙ ap (λ v. Some (Invoked a.table a.key (request.Write v))) value;
@@ -201,12 +200,12 @@ module _ (history : List ClientEvent) (firsts : BTreeMap VersionName Operation) 
   named = All-head (IsNamed history) e left was.named
 
   is_pending : IsPendingOf history name h
-  is_pending = asked history e.1 name h table key value served
+  is_pending = asked table key value served
 
   -- behind it stands the next of its value
-  behind : (q : ValueName) → AreAlike name q → IsFirst history q (h + 1) (next_at nexts h)
-  behind q alike =
-      let there = chains.next q h (omega arith) (moved history name q h alike is_pending) in
+  behind : {q : ValueName} → AreAlike name q → IsFirst history q (h + 1) (next_at nexts h)
+  behind {q} alike =
+      let there = chains.next q h (omega arith) (moved alike is_pending) in
       subst (IsFirst history q (h + 1)) (sym (ap (option_and_then (λ o. o)) there.1)) there.2
 
   next_head : (q : ValueName) (i m : ℕ) → is_at (value_order name) q ≡ true → get value_order heads' q ≡ Some i → h + 1 ≤ i
@@ -215,17 +214,17 @@ module _ (history : List ClientEvent) (firsts : BTreeMap VersionName Operation) 
       first : IsFirst history q (h + 1) (Some i)
       first = subst (IsFirst history q (h + 1))
           (sym (advanced q ∙ ap (λ b. cond b (next_at nexts h) (get value_order heads q)) at) ∙ got)
-          (behind q (same_value name q at))
+          (behind (same_value at))
 
   other_head : (q : ValueName) → is_at (value_order name) q ≡ false → get value_order heads' q ≡ get value_order heads q
   other_head q at = advanced q ∙ ap (λ b. cond b (next_at nexts h) (get value_order heads q)) at
 
   now_used : IsUsed history heads' h
   now_used q i got p =
-      let n = next_head q i h (alike_at name q (both_at history name q h is_pending p)) got in omega (arith, n)
+      let n = next_head q i h (alike_at (both_at is_pending p)) got in omega (arith, n)
 
-  still_used : (m : ℕ) → IsUsed history heads m → IsUsed history heads' m
-  still_used m used q i got p = by (is_at (value_order name) q) refl
+  still_used : {m : ℕ} → IsUsed history heads m → IsUsed history heads' m
+  still_used {m} used q i got p = by (is_at (value_order name) q) refl
     where
       back : AreAlike name q → AreAlike q name
       back a = record { table_is = sym a.table_is; key_is = sym a.key_is; value_is = sym a.value_is }
@@ -233,7 +232,7 @@ module _ (history : List ClientEvent) (firsts : BTreeMap VersionName Operation) 
       by : (b : Bool) → is_at (value_order name) q ≡ b → m < i
       by true at =
           let n = next_head q i m at got in
-          let u = used name h head (moved history q name m (back (same_value name q at)) p) in omega (arith, n, u)
+          let u = used name h head (moved (back (same_value at)) p) in omega (arith, n, u)
       by false at = used q i (sym (other_head q at) ∙ got) p
 
   got' : ℕ → ℕ
@@ -246,25 +245,25 @@ module _ (history : List ClientEvent) (firsts : BTreeMap VersionName Operation) 
       ⊎ (lookup (is_at (version_order (version_of a))) left ≡ get version_order firsts (version_of a))
   unfolding got'
   settled a is b at (inl (inl w)) = inl (inl w)
-  settled a is b at (inl (inr (m, p, g, used))) = inl (inr (m, p, other (is_at (nat_cmp h) m) refl ∙ g, still_used m used))
+  settled a is b at (inl (inr (m, p, g, used))) = inl (inr (m, p, other (is_at (nat_cmp h) m) refl ∙ g, still_used used))
     where
       other : (c : Bool) → is_at (nat_cmp h) m ≡ c → cond (is_at (nat_cmp h) m) e.1.version (was.got m) ≡ was.got m
       other false c = ap (λ d. cond d e.1.version (was.got m)) c
       other true c =
-          let same : h ≡ m = numbers_same h m c in
+          let same : h ≡ m = numbers_same c in
           let u = used name h head (subst (IsPendingOf history name) same is_pending) in
           absurd (no h m same u)
         where
           no : (x y : ℕ) → x ≡ y → y < x → ⊥
           no x y f l = omega (arith, f, l)
   settled a is true at (inr look) =
-      let same : version_of a ≡ version_of e.1 = same_version (version_of a) e.0 at ∙ sym named.1 in
-      let there = are.kept a is (within history a.response a is) in
+      let same : version_of a ≡ version_of e.1 = same_version at ∙ sym named.1 in
+      let there = are.kept a is (within history is) in
       let first : e.1 ≡ there.0 = ap (λ o. unwrap_or o e.1)
       (sym (ap (λ c. cond c (Some e.1) (lookup (is_at (version_order (version_of a))) left)) at) ∙ look ∙ there.1) in
       inl (inr (
         h,
-        same_served history e.1 a h same (ap (value_of history) first ∙ there.2) served,
+        same_served same (ap (value_of history) first ∙ there.2) served,
         ap (λ c. cond c e.1.version (was.got h)) (ap is_eq (number_itself h))
             ∙ sym (ap (λ (v : VersionName). v.version) same),
         now_used,
@@ -287,7 +286,7 @@ module _ (history : List ClientEvent) (firsts : BTreeMap VersionName Operation) 
     top = e.1.version + 1;
     others = (e.1, h) ∷ u.others;
     first = subst (IsFirst history q (h + 1))
-        (sym (advanced q ∙ ap (λ b. cond b (next_at nexts h) (get value_order heads q)) at)) (behind q alike);
+        (sym (advanced q ∙ ap (λ b. cond b (next_at nexts h) (get value_order heads q)) at)) (behind alike);
     wanting = (
       record {
         is = named.0;
@@ -298,14 +297,14 @@ module _ (history : List ClientEvent) (firsts : BTreeMap VersionName Operation) 
         later = later;
         unwritten = unwritten;
       },
-      wanting_above history q.table q.key (bytes_in q) u.top e.1.version u.others under u.wanting,
+      wanting_above history q.table q.key (bytes_in q) u.others under u.wanting,
     );
     used = λ k p early. used k p (below k h early);
     above = All-from_above;
   }
     where
       alike : AreAlike name q
-      alike = same_value name q at
+      alike = same_value at
 
       versions : e.0.version ≡ e.1.version
       versions = sym (ap (λ (v : VersionName). v.version) named.1)
@@ -320,7 +319,7 @@ module _ (history : List ClientEvent) (firsts : BTreeMap VersionName Operation) 
       under = let a = All-head (IsAbove q u.top) e left u.above tables keys in omega (arith, a, versions)
 
       first : IsFirst history q u.from (Some h)
-      first = subst (IsFirst history q u.from) (sym (get_alike heads name q alike) ∙ head) u.first
+      first = subst (IsFirst history q u.from) (sym (get_alike heads alike) ∙ head) u.first
 
       used : (k : ℕ) → IsPendingOf history q k → (k < h) ⊎ (k ≡ h) → IsAmong k ((e.1, h) ∷ u.others)
       used k p (inr same) = inl (sym same)
@@ -339,7 +338,7 @@ module _ (history : List ClientEvent) (firsts : BTreeMap VersionName Operation) 
           rest (f ∷ es) less = All-cons (IsAbove q (e.1.version + 1)) f es one (rest es less.1)
             where
               one : IsAbove q (e.1.version + 1) f
-              one t k = let l = lower e.0 f.0 less.0 (tables ∙ sym t) (keys ∙ sym k) in omega (arith, l, versions)
+              one t k = let l = lower f.0 less.0 (tables ∙ sym t) (keys ∙ sym k) in omega (arith, l, versions)
 
   pub matched_take : AreMatched history firsts heads' left
   matched_take = record {
@@ -351,13 +350,13 @@ module _ (history : List ClientEvent) (firsts : BTreeMap VersionName Operation) 
   }
 
 -- the first that is free serves, where it is the one that is found
-pub found_serves : (history : List ClientEvent) (firsts : BTreeMap VersionName Operation) (heads : BTreeMap ValueName ℕ)
-    (bars : List (Option Top)) (left : List Entry) (op : Operation) (name : ValueName) (h : ℕ) →
+pub found_serves : {history : List ClientEvent} {firsts : BTreeMap VersionName Operation} {heads : BTreeMap ValueName ℕ}
+    {bars : List (Option Top)} {left : List Entry} {op : Operation} (name : ValueName) {h : ℕ} →
     AreMatched history firsts heads left → AreBars history (length history) bars →
     name.table ≡ op.table → name.key ≡ op.key → bytes_in name ≡ value_of history op →
     first_write bars (get value_order heads name) op.version ≡ Some h →
     (get value_order heads name ≡ Some h) × IsPendingWrite history op h
-found_serves history firsts heads bars left op name h was bar table key value found =
+found_serves {history} {heads} {bars} {left} {op} name {h} was bar table key value found =
     by (get value_order heads name) refl found
   where
     u : AreUsed history heads left name
@@ -365,44 +364,43 @@ found_serves history firsts heads bars left op name h was bar table key value fo
 
     at : (i : ℕ) (b : Bool) → is_at_least (bar_at bars i) op.version ≡ b → get value_order heads name ≡ Some i →
         cond b None (Some i) ≡ Some h → (get value_order heads name ≡ Some h) × IsPendingWrite history op h
-    at i true low head e = absurd (no_some None h refl e)
+    at i true low head e = absurd (no_some refl e)
     at i false low head e =
         let same : i ≡ h = ap (λ o. unwrap_or o i) e in
         let first : IsFirst history name u.from (Some i) = subst (IsFirst history name u.from) head u.first in
-        (head ∙ e, subst (IsPendingWrite history op) same (serves history bars op name i bar first.0 table key value low))
+        (head ∙ e, subst (IsPendingWrite history op) same (serves bar first.0 table key value low))
 
     by : (o : Option ℕ) → get value_order heads name ≡ o → first_write bars o op.version ≡ Some h →
         (get value_order heads name ≡ Some h) × IsPendingWrite history op h
-    by None head e = absurd (no_some None h refl e)
+    by None head e = absurd (no_some refl e)
     by (Some i) head e = at i (is_at_least (bar_at bars i) op.version) refl head e
 
 -- An entry for which no write is left
 
-wanting_of : (history : List ClientEvent) (table key table' key' : ℕ) (value value' : Option (List ℕ)) (version : ℕ)
+wanting_of : (history : List ClientEvent) {table key table' key' : ℕ} {value value' : Option (List ℕ)} (version : ℕ)
     (others : List (Operation × ℕ)) → table ≡ table' → key ≡ key' → value ≡ value' →
     AreWanting history table key value version others → AreWanting history table' key' value' version others
-wanting_of history table key table' key' value value' version others t k v h =
+wanting_of history {key} {table'} {key'} {value} version others t k v h =
     subst (λ w. AreWanting history table' key' w version others) v
     (subst (λ w. AreWanting history table' w value version others) k
     (subst (λ w. AreWanting history w key value version others) t h))
 
-pub none_left : (history : List ClientEvent) (firsts : BTreeMap VersionName Operation) (heads : BTreeMap ValueName ℕ)
-    (bars : List (Option Top)) (e : Entry) (left : List Entry) (name : ValueName) →
+pub none_left : {history : List ClientEvent} {firsts : BTreeMap VersionName Operation} {heads : BTreeMap ValueName ℕ}
+    {bars : List (Option Top)} {e : Entry} {left : List Entry} (name : ValueName) →
     AreMatched history firsts heads (e ∷ left) → AreBars history (length history) bars →
     e.1.version ≢ 0 → (HasWrite history e.1 → ⊥) →
     name.table ≡ e.1.table → name.key ≡ e.1.key → bytes_in name ≡ value_of history e.1 →
     first_write bars (get value_order heads name) e.1.version ≡ None →
     Breaks history (violation.TooFewWrites e.1.response)
-none_left history firsts heads bars e left name was bar later unwritten table key value none = (
+none_left {history} {heads} {bars} {e} {left} name was bar later unwritten table key value none = (
   e.1,
   named.0,
   later,
   unwritten,
   u.others,
   record {
-    wanting = wanting_of history name.table name.key e.1.table e.1.key (bytes_in name) (value_of history e.1) e.1.version
-        u.others table key value
-        (wanting_above history name.table name.key (bytes_in name) u.top e.1.version u.others under u.wanting);
+    wanting = wanting_of history e.1.version u.others table key value
+        (wanting_above history name.table name.key (bytes_in name) u.others under u.wanting);
     no_more = λ m p. no_more m p (nat_lt m u.from) refl;
   },
 )
@@ -422,25 +420,25 @@ none_left history firsts heads bars e left name was bar later unwritten table ke
 
     free : (m i : ℕ) (b : Bool) → IsPendingWrite history e.1 m → is_at_least (bar_at bars i) e.1.version ≡ b →
         IsFirst history name u.from (Some i) → u.from ≤ m → cond b None (Some i) ≡ None → ⊥
-    free m i true p high first from f = too_late history bars e.1 name i m bar first.0 table key high
-        (first.2 m (asked history e.1 name m table key value p) from) p
-    free m i false p low first from f = no_some (Some i) i f refl
+    free m i true p high first from f = too_late bar first.0 table key high
+        (first.2 m (asked table key value p) from) p
+    free m i false p low first from f = no_some f refl
 
     late : (m : ℕ) (o : Option ℕ) → IsPendingWrite history e.1 m → IsFirst history name u.from o → u.from ≤ m →
         first_write bars o e.1.version ≡ None → ⊥
-    late m None p first from f = first m (asked history e.1 name m table key value p) from
+    late m None p first from f = first m (asked table key value p) from
     late m (Some i) p first from f = free m i (is_at_least (bar_at bars i) e.1.version) p refl first from f
 
     no_more : (m : ℕ) → IsPendingWrite history e.1 m → (b : Bool) → nat_lt m u.from ≡ b → IsAmong m u.others
-    no_more m p true l = u.used m (asked history e.1 name m table key value p) (grind (arith, nat_tests))
+    no_more m p true l = u.used m (asked table key value p) (grind (arith, nat_tests))
     no_more m p false l = absurd (late m (get value_order heads name) p u.first (grind (arith, nat_tests)) none)
 
 -- The end
 
-pub matched_end : (history : List ClientEvent) (firsts : BTreeMap VersionName Operation) (heads : BTreeMap ValueName ℕ)
-    (left : List Entry) → left ≡ [] → AreFirsts history (length history) firsts → AreMatched history firsts heads left →
+pub matched_end : {history : List ClientEvent} {firsts : BTreeMap VersionName Operation} {heads : BTreeMap ValueName ℕ}
+    {left : List Entry} → left ≡ [] → AreFirsts history (length history) firsts → AreMatched history firsts heads left →
     HasChoice history
-matched_end history firsts heads left empty are was = record {
+matched_end {history} {firsts} {heads} {left} empty are was = record {
   got = was.got;
   written = λ a is later. by a is (was.settled a is later);
 }
@@ -451,5 +449,5 @@ matched_end history firsts heads left empty are was = record {
     by a is (inl (inl w)) = inl w
     by a is (inl (inr (m, p, g, used))) = inr (m, p, g)
     by a is (inr look) =
-        let there = are.kept a is (within history a.response a is) in
-        absurd (no_some None there.0 refl (sym (ap (lookup (is_at (version_order (version_of a)))) empty) ∙ look ∙ there.1))
+        let there = are.kept a is (within history is) in
+        absurd (no_some refl (sym (ap (lookup (is_at (version_order (version_of a)))) empty) ∙ look ∙ there.1))

@@ -27,8 +27,8 @@ use Rattle.rc_clients.specs.Evidence.{AreAnswered, AreBars, IsTop, bar_at, is_at
 use Rattle.rc_clients.specs.Pending.{ArePending, IsPendingOf, IsWriteOf, value_order}
 use Rattle.rc_clients.proofs.Facts.{below, get_empty, is_operation, key_asked, number_itself, numbers_same, then_equal, told}
 
-pub no_some : {A : Type 0} (o : Option A) (x : A) → o ≡ None → o ≡ Some x → ⊥
-no_some o x none some = cc
+pub no_some : {A : Type 0} {o : Option A} {x : A} → o ≡ None → o ≡ Some x → ⊥
+no_some none some = cc
 
 -- The order of values, on plain data
 
@@ -55,21 +55,19 @@ pub record AreAlike (a b : ValueName) : Type 0 where
   pub key_is : a.key ≡ b.key
   pub value_is : bytes a.value ≡ bytes b.value
 
-alike_orders : (a b : ValueName) → AreAlike a b → (q : ValueName) → value_order a q ≡ value_order b q
-alike_orders a b h q =
-    order_by a q ∙ ap (λ t. plain_order t a.key (bytes a.value) q) h.table_is
+alike_orders : {a b : ValueName} → AreAlike a b → (q : ValueName) → value_order a q ≡ value_order b q
+alike_orders {a} {b} h q = order_by a q ∙ ap (λ t. plain_order t a.key (bytes a.value) q) h.table_is
     ∙ ap (λ k. plain_order b.table k (bytes a.value) q) h.key_is
     ∙ ap (λ v. plain_order b.table b.key v q) h.value_is ∙ sym (order_by b q)
 
-lookup_alike : (entries : List (ValueName × ℕ)) (f g : ValueName → Bool) → ((q : ValueName) → f q ≡ g q) →
+lookup_alike : (entries : List (ValueName × ℕ)) {f g : ValueName → Bool} → ((q : ValueName) → f q ≡ g q) →
     lookup f entries ≡ lookup g entries
-lookup_alike [] f g same = refl
-lookup_alike (e ∷ entries) f g same =
-    ap (λ b. cond b (Some e.1) (lookup f entries)) (same e.0) ∙ ap (λ o. cond (g e.0) (Some e.1) o) (lookup_alike entries f g same)
+lookup_alike [] same = refl
+lookup_alike (e ∷ entries) {f} {g} same =
+    ap (λ b. cond b (Some e.1) (lookup f entries)) (same e.0) ∙ ap (λ o. cond (g e.0) (Some e.1) o) (lookup_alike entries same)
 
-pub get_alike : (m : BTreeMap ValueName ℕ) (a b : ValueName) → AreAlike a b → get value_order m a ≡ get value_order m b
-get_alike m a b h =
-    lookup_alike m.entries (is_at (value_order a)) (is_at (value_order b)) (λ q. ap is_eq (alike_orders a b h q))
+pub get_alike : (m : BTreeMap ValueName ℕ) {a b : ValueName} → AreAlike a b → get value_order m a ≡ get value_order m b
+get_alike m h = lookup_alike m.entries (λ q. ap is_eq (alike_orders h q))
 
 lists_same : (xs ys : List ℕ) → is_eq (slice_cmp nat_cmp xs ys) ≡ true → xs ≡ ys
 lists_same [] [] e = refl
@@ -77,7 +75,7 @@ lists_same [] (y ∷ ys) e = absurd (true≢false (sym e))
 lists_same (x ∷ xs) [] e = absurd (true≢false (sym e))
 lists_same (x ∷ xs) (y ∷ ys) e =
     let parts = then_equal (nat_cmp x y) (slice_cmp nat_cmp xs ys) e in
-    let first : x ≡ y = numbers_same x y parts.0 in let rest : xs ≡ ys = lists_same xs ys parts.1 in cc
+    let first : x ≡ y = numbers_same parts.0 in let rest : xs ≡ ys = lists_same xs ys parts.1 in cc
 
 values_same : (v w : Option (List ℕ)) → is_eq (option_cmp (slice_cmp nat_cmp) v w) ≡ true → v ≡ w
 values_same None None e = refl
@@ -85,15 +83,15 @@ values_same None (Some y) e = absurd (true≢false (sym e))
 values_same (Some x) None e = absurd (true≢false (sym e))
 values_same (Some x) (Some y) e = ap Some (lists_same x y e)
 
-pub same_value : (a b : ValueName) → is_at (value_order a) b ≡ true → AreAlike a b
-same_value a b e =
+pub same_value : {a b : ValueName} → is_at (value_order a) b ≡ true → AreAlike a b
+same_value {a} {b} e =
     let plain = sym (ap is_eq (order_by a b)) ∙ e in
     let one = then_equal (nat_cmp a.table b.table) (ordering_then (nat_cmp a.key b.key)
     (option_cmp (slice_cmp nat_cmp) (bytes a.value) (bytes b.value))) plain in
     let two = then_equal (nat_cmp a.key b.key) (option_cmp (slice_cmp nat_cmp) (bytes a.value) (bytes b.value)) one.1 in
     record {
-      table_is = numbers_same a.table b.table one.0;
-      key_is = numbers_same a.key b.key two.0;
+      table_is = numbers_same one.0;
+      key_is = numbers_same two.0;
       value_is = values_same (bytes a.value) (bytes b.value) two.1;
     }
 
@@ -112,14 +110,14 @@ name_itself a = ap is_eq (order_by a a
     ∙ ap (λ o. ordering_then o (option_cmp (slice_cmp nat_cmp) (bytes a.value) (bytes a.value))) (number_itself a.key)
     ∙ value_itself (bytes a.value))
 
-pub alike_at : (a b : ValueName) → AreAlike a b → is_at (value_order a) b ≡ true
-alike_at a b h = ap is_eq (alike_orders a b h b) ∙ name_itself b
+pub alike_at : {a b : ValueName} → AreAlike a b → is_at (value_order a) b ≡ true
+alike_at {b} h = ap is_eq (alike_orders h b) ∙ name_itself b
 
 -- What was answered
 
-pub answered_begin : (history : List ClientEvent) (answered : BTreeSet ℕ) → answered.keys ≡ [] →
+pub answered_begin : {history : List ClientEvent} {answered : BTreeSet ℕ} → answered.keys ≡ [] →
     AreAnswered history 0 answered
-answered_begin history answered e = record {
+answered_begin e = record {
   found = λ i has. absurd (true≢false (sym has ∙ ap (list_any (is_at (nat_cmp i))) e));
   kept = λ n i h at. absurd (no n h);
 }
@@ -127,29 +125,29 @@ answered_begin history answered e = record {
     no : (n : ℕ) → n < 0 → ⊥
     no n h = omega (arith, h)
 
-pub answered_none : (history : List ClientEvent) (moment : ℕ) (answered : BTreeSet ℕ) → answered_at history moment ≡ None →
+pub answered_none : {history : List ClientEvent} {moment : ℕ} {answered : BTreeSet ℕ} → answered_at history moment ≡ None →
     AreAnswered history moment answered → AreAnswered history (moment + 1) answered
-answered_none history moment answered none was = record {
+answered_none {history} {moment} {answered} none was = record {
   found = was.found;
   kept = λ n i h at. by n i at (below n moment h);
 }
   where
     by : (n i : ℕ) → answered_at history n ≡ Some i → (n < moment) ⊎ (n ≡ moment) → contains nat_cmp answered i ≡ true
     by n i at (inl h) = was.kept n i h at
-    by n i at (inr e) = absurd (no_some (answered_at history moment) i none (ap (answered_at history) (sym e) ∙ at))
+    by n i at (inr e) = absurd (no_some none (ap (answered_at history) (sym e) ∙ at))
 
-pub answered_more : (history : List ClientEvent) (moment invocation : ℕ) (old new : BTreeSet ℕ) →
+pub answered_more : {history : List ClientEvent} {moment invocation : ℕ} {old new : BTreeSet ℕ} →
     answered_at history moment ≡ Some invocation → AreAnswered history moment old →
     ((q : ℕ) → contains nat_cmp new q ≡ cond (is_at (nat_cmp invocation) q) true (contains nat_cmp old q)) →
     AreAnswered history (moment + 1) new
-answered_more history moment invocation old new is was updates = record {
+answered_more {history} {moment} {invocation} {old} is was updates = record {
   found = λ i has unmet. found i (is_at (nat_cmp invocation) i) refl (sym (updates i) ∙ has) unmet;
   kept = λ n i h at. updates i ∙ kept n i at (is_at (nat_cmp invocation) i) refl (below n moment h);
 }
   where
     found : (i : ℕ) (b : Bool) → is_at (nat_cmp invocation) i ≡ b → cond b true (contains nat_cmp old i) ≡ true →
         IsUnanswered history i → ⊥
-    found i true e has unmet = unmet.none moment (is ∙ ap Some (numbers_same invocation i e))
+    found i true e has unmet = unmet.none moment (is ∙ ap Some (numbers_same e))
     found i false e has unmet = was.found i has unmet
 
     some_number : (x y : ℕ) → ◌≡◌ {A = Option ℕ} (Some x) (Some y) → x ≡ y
@@ -169,29 +167,29 @@ unanswered history moment answered are not_there = record { none = λ n at. no n
   where
     within : (n : ℕ) (o : Option ClientEvent) → slice_get history n ≡ o → option_and_then answered_in o ≡ Some moment →
         n < length history
-    within n None is e = absurd (no_some (option_and_then answered_in None) moment refl e)
+    within n None is e = absurd (no_some refl e)
     within n (Some event) is e = slice_get_within history n event is
 
     no : (n : ℕ) → answered_at history n ≡ Some moment → ⊥
     no n at = true≢false (sym (are.kept n moment (within n (slice_get history n) refl at) at) ∙ not_there)
 
 -- a write that was not answered
-pub pending_of : (history : List ClientEvent) (moment : ℕ) (found : Option ValueName) → IsUnanswered history moment →
+pub pending_of : {history : List ClientEvent} {moment : ℕ} (found : Option ValueName) → IsUnanswered history moment →
     MatchOption found ((q : ValueName) → IsWriteOf history q moment → ⊥) (λ name. IsWriteOf history name moment) →
     MatchOption found ((q : ValueName) → IsPendingOf history q moment → ⊥) (λ name. IsPendingOf history name moment)
-pending_of history moment None unmet h = λ q p. h q p.invoked
-pending_of history moment (Some name) unmet h = record { invoked = h; unanswered = unmet }
+pending_of None unmet h = λ q p. h q p.invoked
+pending_of (Some name) unmet h = record { invoked = h; unanswered = unmet }
 
 -- one that was is none
-pub pending_not : (history : List ClientEvent) (moment : ℕ) (answered : BTreeSet ℕ) →
+pub pending_not : {history : List ClientEvent} {moment : ℕ} {answered : BTreeSet ℕ} →
     AreAnswered history (length history) answered → contains nat_cmp answered moment ≡ true →
     (q : ValueName) → IsPendingOf history q moment → ⊥
-pending_not history moment answered are there q p = are.found moment there p.unanswered
+pending_not {moment} are there q p = are.found moment there p.unanswered
 
 -- one of a value is one of the other, where they are alike
-pub moved : (history : List ClientEvent) (a b : ValueName) (i : ℕ) → AreAlike a b → IsPendingOf history a i →
+pub moved : {history : List ClientEvent} {a b : ValueName} {i : ℕ} → AreAlike a b → IsPendingOf history a i →
     IsPendingOf history b i
-moved history a b i h p = record {
+moved {a} {b} h p = record {
   invoked = p.invoked ∙ ap (λ t. Some (Invoked t a.key (request.Write (bytes a.value)))) h.table_is
       ∙ ap (λ k. Some (Invoked b.table k (request.Write (bytes a.value)))) h.key_is
       ∙ ap (λ v. Some (Invoked b.table b.key (request.Write v))) h.value_is;
@@ -199,9 +197,9 @@ moved history a b i h p = record {
 }
 
 -- of one moment they are alike
-pub both_at : (history : List ClientEvent) (a b : ValueName) (i : ℕ) → IsPendingOf history a i → IsPendingOf history b i →
+pub both_at : {history : List ClientEvent} {a b : ValueName} {i : ℕ} → IsPendingOf history a i → IsPendingOf history b i →
     AreAlike a b
-both_at history a b i p q =
+both_at {a} {b} p q =
     let parts = same_parts a.table b.table a.key b.key (bytes a.value) (bytes b.value) (sym p.invoked ∙ q.invoked) in
     record { table_is = parts.0; key_is = parts.1; value_is = parts.2 }
   where
@@ -212,20 +210,20 @@ both_at history a b i p q =
 
 -- The pending writes, with one event more
 
-pub pending_begin : (history : List ClientEvent) (pending : BTreeMap ValueName ℕ) → pending.entries ≡ [] →
+pub pending_begin : {history : List ClientEvent} {pending : BTreeMap ValueName ℕ} → pending.entries ≡ [] →
     ArePending history 0 pending
-pending_begin history pending e = record {
-  found = λ q i got. absurd (no_some (get value_order pending q) i (get_empty value_order pending q e) got);
+pending_begin {pending} e = record {
+  found = λ q i got. absurd (no_some (get_empty value_order pending q e) got);
   kept = λ q i h p. absurd (no i h);
 }
   where
     no : (n : ℕ) → n < 0 → ⊥
     no n h = omega (arith, h)
 
-pub pending_skip : (history : List ClientEvent) (moment : ℕ) (pending : BTreeMap ValueName ℕ) →
+pub pending_skip : {history : List ClientEvent} {moment : ℕ} {pending : BTreeMap ValueName ℕ} →
     ((q : ValueName) → IsPendingOf history q moment → ⊥) → ArePending history moment pending →
     ArePending history (moment + 1) pending
-pending_skip history moment pending none was = record {
+pending_skip {history} {moment} {pending} none was = record {
   found = λ q i got. let h = was.found q i got in let b = h.1 in (h.0, omega (arith, b));
   kept = λ q i h p. by q i p (below i moment h);
 }
@@ -235,12 +233,12 @@ pending_skip history moment pending none was = record {
     by q i p (inl h) = was.kept q i h p
     by q i p (inr e) = absurd (none q (subst (IsPendingOf history q) e p))
 
-pub pending_more : (history : List ClientEvent) (moment : ℕ) (old new : BTreeMap ValueName ℕ) (name : ValueName) →
+pub pending_more : {history : List ClientEvent} {moment : ℕ} {old new : BTreeMap ValueName ℕ} {name : ValueName} →
     IsPendingOf history name moment → ArePending history moment old →
     ((q : ValueName) → get value_order new q ≡ cond (is_some (get value_order old name)) (get value_order old q)
     (cond (is_at (value_order name) q) (Some moment) (get value_order old q))) →
     ArePending history (moment + 1) new
-pending_more history moment old new name is was updates = record {
+pending_more {history} {moment} {old} {new} {name} is was updates = record {
   found = λ q i got. found q i (is_some (get value_order old name)) (is_at (value_order name) q) refl (sym (updates q) ∙ got);
   kept = λ q i h p. kept q i p (get value_order old name) refl (is_at (value_order name) q) refl (below i moment h);
 }
@@ -256,7 +254,7 @@ pending_more history moment old new name is was updates = record {
     found q i false true e got =
         let same : moment ≡ i = some_number moment i got in (
           subst (IsPendingOf history q) same (record {
-            invoked = (moved history name q moment (same_value name q e) is).invoked;
+            invoked = (moved (same_value e) is).invoked;
             unanswered = is.unanswered;
           }),
           omega (arith, same),
@@ -274,22 +272,21 @@ pending_more history moment old new name is was updates = record {
         (j : ℕ) × (get value_order old q ≡ Some j) × (j ≤ i) → (j : ℕ) × (get value_order new q ≡ Some j) × (j ≤ i)
     before q i p h (Some x) k at e there = (there.0, now q (Some x) at k e ∙ there.1, there.2)
     before q i p h None k false e there = (there.0, now q None false k e ∙ there.1, there.2)
-    before q i p h None k true e there =
-        absurd (no_some (get value_order old q) there.0 (sym (get_alike old name q (same_value name q e)) ∙ k) there.1)
+    before q i p h None k true e there = absurd (no_some (sym (get_alike old (same_value e)) ∙ k) there.1)
 
     here : (q : ValueName) → AreAlike name q → (known : Option ℕ) → get value_order old name ≡ known →
         (j : ℕ) × (get value_order new q ≡ Some j) × (j ≤ moment)
     here q alike (Some x) k =
         let early : x < moment = (was.found name x k).1 in
-        (x, now q (Some x) true k (alike_at name q alike) ∙ sym (get_alike old name q alike) ∙ k, omega (arith, early))
-    here q alike None k = (moment, now q None true k (alike_at name q alike), omega arith)
+        (x, now q (Some x) true k (alike_at alike) ∙ sym (get_alike old alike) ∙ k, omega (arith, early))
+    here q alike None k = (moment, now q None true k (alike_at alike), omega arith)
 
     kept : (q : ValueName) (i : ℕ) → IsPendingOf history q i → (known : Option ℕ) → get value_order old name ≡ known →
         (at : Bool) → is_at (value_order name) q ≡ at → (i < moment) ⊎ (i ≡ moment) →
         (j : ℕ) × (get value_order new q ≡ Some j) × (j ≤ i)
     kept q i p known k at e (inl h) = before q i p h known k at e (was.kept q i h p)
     kept q i p known k at e (inr same) =
-        let there = here q (both_at history name q moment is (subst (IsPendingOf history q) same p)) known k in
+        let there = here q (both_at is (subst (IsPendingOf history q) same p)) known k in
         let level : there.0 ≤ moment = there.2 in (there.0, there.1, omega (arith, level, same))
 
 -- Whether a write without a response can have got a version
@@ -300,13 +297,13 @@ bar_asked : (history : List ClientEvent) (bars : List (Option Top)) (table key i
     IsTop history table key i (bar_at bars i)
 bar_asked history bars table key i value are at =
     are.each i (slice_get_within history i (Invoked table key (request.Write value)) at)
-    (record { table = table; key = key }) (key_asked history i (Invoked table key (request.Write value)) at)
+    (record { table = table; key = key }) (key_asked history i at)
 
 -- one that was invoked before any such version was answered can have got this one
-pub serves : (history : List ClientEvent) (bars : List (Option Top)) (op : Operation) (name : ValueName) (i : ℕ) →
+pub serves : {history : List ClientEvent} {bars : List (Option Top)} {op : Operation} {name : ValueName} {i : ℕ} →
     AreBars history (length history) bars → IsPendingOf history name i → name.table ≡ op.table → name.key ≡ op.key →
     bytes name.value ≡ value_of history op → is_at_least (bar_at bars i) op.version ≡ false → IsPendingWrite history op i
-serves history bars op name i bar pending table key value low = record {
+serves {history} {bars} {op} {name} {i} bar pending table key value low = record {
   invoked = at;
   unanswered = pending.unanswered;
   in_time = λ a is on early. by a is on early (bar_at bars i) low
@@ -325,17 +322,16 @@ serves history bars op name i bar pending table key value low = record {
         let under : a.version ≤ t.version = top.greatest a is on.table_is on.key_is early in
         let over : t.version < op.version = grind (arith, nat_tests) in omega (arith, under, over)
 
-pub can_be : (history : List ClientEvent) (bars : List (Option Top)) (pending : BTreeMap ValueName ℕ) (op : Operation)
-    (name : ValueName) (i : ℕ) → AreBars history (length history) bars → ArePending history (length history) pending →
+pub can_be : {history : List ClientEvent} {bars : List (Option Top)} {pending : BTreeMap ValueName ℕ} {op : Operation}
+    (name : ValueName) {i : ℕ} → AreBars history (length history) bars → ArePending history (length history) pending →
     name.table ≡ op.table → name.key ≡ op.key → bytes name.value ≡ value_of history op →
     get value_order pending name ≡ Some i → is_at_least (bar_at bars i) op.version ≡ false → HasPending history op
-can_be history bars pending op name i bar are table key value got low =
-    (i, serves history bars op name i bar (are.found name i got).0 table key value low)
+can_be name {i} bar are table key value got low = (i, serves bar (are.found name i got).0 table key value low)
 
 -- a write that can have got the version is one of the value
-pub asked : (history : List ClientEvent) (op : Operation) (name : ValueName) (i : ℕ) → name.table ≡ op.table →
+pub asked : {history : List ClientEvent} {op : Operation} {name : ValueName} {i : ℕ} → name.table ≡ op.table →
     name.key ≡ op.key → bytes name.value ≡ value_of history op → IsPendingWrite history op i → IsPendingOf history name i
-asked history op name i table key value p = record {
+asked {history} {op} {name} table key value p = record {
   invoked = p.invoked ∙ ap (λ t. Some (Invoked t op.key (request.Write (value_of history op)))) (sym table)
       ∙ ap (λ k. Some (Invoked name.table k (request.Write (value_of history op)))) (sym key)
       ∙ ap (λ v. Some (Invoked name.table name.key (request.Write v))) (sym value);
@@ -343,18 +339,18 @@ asked history op name i table key value p = record {
 }
 
 -- no write of the value is pending
-pub can_not : (history : List ClientEvent) (pending : BTreeMap ValueName ℕ) (op : Operation) (name : ValueName) →
+pub can_not : {history : List ClientEvent} {pending : BTreeMap ValueName ℕ} {op : Operation} (name : ValueName) →
     ArePending history (length history) pending → name.table ≡ op.table → name.key ≡ op.key →
     bytes name.value ≡ value_of history op → get value_order pending name ≡ None → HasPending history op → ⊥
-can_not history pending op name are table key value none (i, p) =
-    let there = are.kept name i (slice_get_within history i _ p.invoked) (asked history op name i table key value p) in
-    no_some (get value_order pending name) there.0 none there.1
+can_not {history} name are table key value none (i, p) =
+    let there = are.kept name i (slice_get_within history i _ p.invoked) (asked table key value p) in
+    no_some none there.1
 
 -- one that was invoked after an answer with no lower version can't, nor can any after it
-pub too_late : (history : List ClientEvent) (bars : List (Option Top)) (op : Operation) (name : ValueName) (i n : ℕ) →
+pub too_late : {history : List ClientEvent} {bars : List (Option Top)} {op : Operation} {name : ValueName} {i n : ℕ} →
     AreBars history (length history) bars → IsPendingOf history name i → name.table ≡ op.table → name.key ≡ op.key →
     is_at_least (bar_at bars i) op.version ≡ true → i ≤ n → IsPendingWrite history op n → ⊥
-too_late history bars op name i n bar pending table key high first p =
+too_late {history} {bars} {op} {name} {i} bar pending table key high first p =
     by (bar_at bars i) high (bar_asked history bars name.table name.key i (bytes name.value) bar pending.invoked)
   where
     by : (o : Option Top) → is_at_least o op.version ≡ true → IsTop history name.table name.key i o → ⊥
@@ -362,8 +358,8 @@ too_late history bars op name i n bar pending table key high first p =
     by (Some t) e top =
         let a : Operation = top.op in
         let early : t.response < i = top.before in
-        let answered : a.response ≡ t.response = (told history t.response a top.is).response_is in
-        let less : a.version < op.version = p.in_time a (is_operation history t.response a top.is)
+        let answered : a.response ≡ t.response = (told top.is).response_is in
+        let less : a.version < op.version = p.in_time a (is_operation history t.response top.is)
         (record { table_is = top.table_is ∙ table; key_is = top.key_is ∙ key })
         (omega (arith, early, answered, first)) in
         let same : a.version ≡ t.version = top.version_is in
@@ -374,15 +370,15 @@ too_late history bars op name i n bar pending table key high first p =
         no a t v h e f = omega (arith, h, e, f)
 
 -- or the first that is was invoked too late
-pub can_not_yet : (history : List ClientEvent) (bars : List (Option Top)) (pending : BTreeMap ValueName ℕ) (op : Operation)
-    (name : ValueName) (i : ℕ) → AreBars history (length history) bars → ArePending history (length history) pending →
+pub can_not_yet : {history : List ClientEvent} {bars : List (Option Top)} {pending : BTreeMap ValueName ℕ} {op : Operation}
+    (name : ValueName) {i : ℕ} → AreBars history (length history) bars → ArePending history (length history) pending →
     name.table ≡ op.table → name.key ≡ op.key → bytes name.value ≡ value_of history op →
     get value_order pending name ≡ Some i → is_at_least (bar_at bars i) op.version ≡ true → HasPending history op → ⊥
-can_not_yet history bars pending op name i bar are table key value got high (n, p) =
-    too_late history bars op name i n bar (are.found name i got).0 table key high first p
+can_not_yet {history} {pending} name {i} bar are table key value got high (n, p) =
+    too_late bar (are.found name i got).0 table key high first p
   where
     there : (j : ℕ) × (get value_order pending name ≡ Some j) × (j ≤ n)
-    there = are.kept name n (slice_get_within history n _ p.invoked) (asked history op name n table key value p)
+    there = are.kept name n (slice_get_within history n _ p.invoked) (asked table key value p)
 
     first : i ≤ n
     first =
@@ -390,18 +386,18 @@ can_not_yet history bars pending op name i bar are table key value got high (n, 
         let level : there.0 ≤ n = there.2 in omega (arith, same, level)
 
 -- by what was answered before it
-pub can_be_so : (history : List ClientEvent) (bars : List (Option Top)) (pending : BTreeMap ValueName ℕ) (op : Operation)
-    (name : ValueName) (i : ℕ) (result : Bool) → AreBars history (length history) bars →
+pub can_be_so : {history : List ClientEvent} {bars : List (Option Top)} {pending : BTreeMap ValueName ℕ} (op : Operation)
+    (name : ValueName) {i : ℕ} {result : Bool} → AreBars history (length history) bars →
     ArePending history (length history) pending → name.table ≡ op.table → name.key ≡ op.key →
     bytes name.value ≡ value_of history op → get value_order pending name ≡ Some i →
     result ≡ not (is_at_least (bar_at bars i) op.version) →
     MatchBool result (HasPending history op) (HasPending history op → ⊥)
-can_be_so history bars pending op name i result bar are table key value got is =
+can_be_so {history} {bars} op name {i} {result} bar are table key value got is =
     by result (is_at_least (bar_at bars i) op.version) refl is
   where
     by : (r b : Bool) → is_at_least (bar_at bars i) op.version ≡ b → r ≡ not b →
         MatchBool r (HasPending history op) (HasPending history op → ⊥)
-    by true false low e = can_be history bars pending op name i bar are table key value got low
-    by false true high e = can_not_yet history bars pending op name i bar are table key value got high
+    by true false low e = can_be name bar are table key value got low
+    by false true high e = can_not_yet name bar are table key value got high
     by true true h e = absurd (true≢false e)
     by false false h e = absurd (true≢false (sym e))

@@ -16,49 +16,49 @@ use Rattle.rc_clients.specs.Evidence.{AreBars, Else, IsBegunAt, IsBehind, IsTime
 use Rattle.rc_clients.specs.Evidence.{ShowsNothing, bar_at, behind_by, key_of}
 use Rattle.rc_clients.proofs.Facts.{below, one_at, told, within}
 
-no_some : {A : Type 0} (o : Option A) (x : A) → o ≡ None → o ≡ Some x → ⊥
-no_some o x none some = cc
+no_some : {A : Type 0} {o : Option A} {x : A} → o ≡ None → o ≡ Some x → ⊥
+no_some none some = cc
 
 -- what was answered before an operation was invoked
-pub bar_of : (history : List ClientEvent) (moment : ℕ) (bars : List (Option Top)) (op : Operation) →
+pub bar_of : {history : List ClientEvent} (moment : ℕ) {bars : List (Option Top)} {op : Operation} →
     AreBars history (length history) bars → operation_at history moment ≡ Some op →
     IsTop history op.table op.key op.invocation (bar_at bars op.invocation)
-bar_of history moment bars op are is =
-    let known = told history moment op is in
-    let end : moment < length history = within history moment op is in
+bar_of {history} moment {op} are is =
+    let known = told is in
+    let end : moment < length history = within history is in
     let before : op.invocation < moment = known.asked_before in
     are.each op.invocation (omega (arith, end, before)) (key_of op) known.key_is
 
-pub timely_none : (history : List ClientEvent) (moment : ℕ) → operation_at history moment ≡ None → IsTimelyAt history moment
-timely_none history moment none =
-    record { each = λ a b is at on before. absurd (no_some (operation_at history moment) b none at) }
+pub timely_none : {history : List ClientEvent} {moment : ℕ} → operation_at history moment ≡ None → IsTimelyAt history moment
+timely_none none =
+    record { each = λ a b is at on before. absurd (no_some none at) }
 
-pub timely_untold : (history : List ClientEvent) (moment : ℕ) (bars : List (Option Top)) (op : Operation) →
+pub timely_untold : {history : List ClientEvent} {moment : ℕ} {bars : List (Option Top)} {op : Operation} →
     AreBars history (length history) bars → operation_at history moment ≡ Some op → bar_at bars op.invocation ≡ None →
     IsTimelyAt history moment
-timely_untold history moment bars op are is none = record {
-  each = λ a b at now on before. absurd (no a b at (one_at history moment op b is now) on before);
+timely_untold {history} {moment} {op} are is none = record {
+  each = λ a b at now on before. absurd (no a b at (one_at history moment is now) on before);
 }
   where
     untold : IsTop history op.table op.key op.invocation None
-    untold = subst (λ o. IsTop history op.table op.key op.invocation o) none (bar_of history moment bars op are is)
+    untold = subst (λ o. IsTop history op.table op.key op.invocation o) none (bar_of moment are is)
 
     no : (a b : Operation) → IsOperation history a → op ≡ b → AreOnKey a b → Precedes a b → ⊥
     no a b at same on before = untold.none a at (on.table_is ∙ sym (ap (λ (o : Operation). o.table) same))
         (on.key_is ∙ sym (ap (λ (o : Operation). o.key) same))
         (let i : op.invocation ≡ b.invocation = ap (λ (o : Operation). o.invocation) same in omega (arith, i, before))
 
-pub timely_behind : (history : List ClientEvent) (moment : ℕ) (bars : List (Option Top)) (op : Operation) (top : Top) →
+pub timely_behind : {history : List ClientEvent} {moment : ℕ} {bars : List (Option Top)} {op : Operation} {top : Top} →
     AreBars history (length history) bars → operation_at history moment ≡ Some op → bar_at bars op.invocation ≡ Some top →
     IsBehind top.version op → IsTimelyAt history moment
-timely_behind history moment bars op top are is some behind = record {
-  each = λ a b at now on before. subst (λ x. StandsBefore a x) (one_at history moment op b is now)
-      (here a at (subst (λ x. AreOnKey a x) (sym (one_at history moment op b is now)) on)
-      (subst (λ x. Precedes a x) (sym (one_at history moment op b is now)) before));
+timely_behind {history} {moment} {op} {top} are is some behind = record {
+  each = λ a b at now on before. subst (λ x. StandsBefore a x) (one_at history moment is now)
+      (here a at (subst (λ x. AreOnKey a x) (sym (one_at history moment is now)) on)
+      (subst (λ x. Precedes a x) (sym (one_at history moment is now)) before));
 }
   where
     greatest : IsTop history op.table op.key op.invocation (Some top)
-    greatest = subst (λ o. IsTop history op.table op.key op.invocation o) some (bar_of history moment bars op are is)
+    greatest = subst (λ o. IsTop history op.table op.key op.invocation o) some (bar_of moment are is)
 
     level : (v w : ℕ) → v ≤ w → (v < w) ⊎ (v ≡ w)
     level v w h = by (nat_lt v w) refl
@@ -79,16 +79,16 @@ timely_behind history moment bars op top are is some behind = record {
 
     here : (a : Operation) → IsOperation history a → AreOnKey a op → Precedes a op → StandsBefore a op
     here a at on before =
-        let known = told history moment op is in
+        let known = told is in
         let asked : op.invocation < moment = known.asked_before in
         let answered : op.response ≡ moment = known.response_is in
         by a op.kind refl behind (greatest.greatest a at on.table_is on.key_is before)
         (omega (arith, before, asked, answered))
 
-pub late_found : (history : List ClientEvent) (moment : ℕ) (bars : List (Option Top)) (op : Operation) (top : Top) →
+pub late_found : {history : List ClientEvent} {moment : ℕ} {bars : List (Option Top)} {op : Operation} {top : Top} →
     AreBars history (length history) bars → operation_at history moment ≡ Some op → bar_at bars op.invocation ≡ Some top →
     (IsBehind top.version op → ⊥) → Breaks history (violation.OutOfTime top.response moment)
-late_found history moment bars op top are is some not_behind = (
+late_found {history} {moment} {op} {top} are is some not_behind = (
   greatest.op,
   op,
   record {
@@ -101,11 +101,11 @@ late_found history moment bars op top are is some not_behind = (
 )
   where
     greatest : IsTop history op.table op.key op.invocation (Some top)
-    greatest = subst (λ o. IsTop history op.table op.key op.invocation o) some (bar_of history moment bars op are is)
+    greatest = subst (λ o. IsTop history op.table op.key op.invocation o) some (bar_of moment are is)
 
     before : Precedes greatest.op op
     before =
-        let answered : greatest.op.response ≡ top.response = (told history top.response greatest.op greatest.is).response_is in
+        let answered : greatest.op.response ≡ top.response = (told greatest.is).response_is in
         let early : top.response < op.invocation = greatest.before in
         omega (arith, answered, early)
 
@@ -122,9 +122,9 @@ late_found history moment bars op top are is some not_behind = (
 
 -- Moment by moment
 
-pub always_more : (P : ℕ → Type 0) (moment : ℕ) → ((i : ℕ) → i < moment → P i) → P moment →
+pub always_more : (P : ℕ → Type 0) {moment : ℕ} → ((i : ℕ) → i < moment → P i) → P moment →
     (i : ℕ) → i < moment + 1 → P i
-always_more P moment was now i h = by (below i moment h)
+always_more P {moment} was now i h = by (below i moment h)
   where
     by : (i < moment) ⊎ (i ≡ moment) → P i
     by (inl h) = was i h
@@ -144,45 +144,45 @@ else_some history P Q (Some v) e h = h
 
 -- The beginning
 
-pub begun_none : (history : List ClientEvent) (moment : ℕ) → operation_at history moment ≡ None → IsBegunAt history moment
-begun_none history moment none = record { each = λ a at zero. absurd (no_some (operation_at history moment) a none at) }
+pub begun_none : {history : List ClientEvent} {moment : ℕ} → operation_at history moment ≡ None → IsBegunAt history moment
+begun_none none = record { each = λ a at zero. absurd (no_some none at) }
 
-pub begun_later : (history : List ClientEvent) (moment : ℕ) (op : Operation) → operation_at history moment ≡ Some op →
+pub begun_later : {history : List ClientEvent} {moment : ℕ} {op : Operation} → operation_at history moment ≡ Some op →
     op.version ≢ 0 → IsBegunAt history moment
-begun_later history moment op is later = record {
-  each = λ a at zero. absurd (later (ap (λ (o : Operation). o.version) (one_at history moment op a is at) ∙ zero));
+begun_later {history} {moment} is later = record {
+  each = λ a at zero. absurd (later (ap (λ (o : Operation). o.version) (one_at history moment is at) ∙ zero));
 }
 
-pub begun_nothing : (history : List ClientEvent) (moment : ℕ) (op : Operation) → operation_at history moment ≡ Some op →
+pub begun_nothing : {history : List ClientEvent} {moment : ℕ} {op : Operation} → operation_at history moment ≡ Some op →
     ShowsNothing history op → IsBegunAt history moment
-begun_nothing history moment op is nothing = record {
-  each = λ a at zero. subst (ShowsNothing history) (one_at history moment op a is at) nothing;
+begun_nothing {history} {moment} is nothing = record {
+  each = λ a at zero. subst (ShowsNothing history) (one_at history moment is at) nothing;
 }
 
 -- Written
 
-pub written_none : (history : List ClientEvent) (moment : ℕ) → operation_at history moment ≡ None → IsWrittenAt history moment
-written_none history moment none = record { each = λ a at later. absurd (no_some (operation_at history moment) a none at) }
+pub written_none : {history : List ClientEvent} {moment : ℕ} → operation_at history moment ≡ None → IsWrittenAt history moment
+written_none none = record { each = λ a at later. absurd (no_some none at) }
 
-pub written_first : (history : List ClientEvent) (moment : ℕ) (op : Operation) → operation_at history moment ≡ Some op →
+pub written_first : {history : List ClientEvent} {moment : ℕ} {op : Operation} → operation_at history moment ≡ Some op →
     op.version ≡ 0 → IsWrittenAt history moment
-written_first history moment op is zero = record {
-  each = λ a at later. absurd (later (sym (ap (λ (o : Operation). o.version) (one_at history moment op a is at)) ∙ zero));
+written_first {history} {moment} is zero = record {
+  each = λ a at later. absurd (later (sym (ap (λ (o : Operation). o.version) (one_at history moment is at)) ∙ zero));
 }
 
-pub written_so : (history : List ClientEvent) (moment : ℕ) (op : Operation) → operation_at history moment ≡ Some op →
+pub written_so : {history : List ClientEvent} {moment : ℕ} {op : Operation} → operation_at history moment ≡ Some op →
     CanBeWritten history op → IsWrittenAt history moment
-written_so history moment op is written = record {
-  each = λ a at later. subst (CanBeWritten history) (one_at history moment op a is at) written;
+written_so {history} {moment} is written = record {
+  each = λ a at later. subst (CanBeWritten history) (one_at history moment is at) written;
 }
 
-pub not_begun : (history : List ClientEvent) (moment : ℕ) (op : Operation) → operation_at history moment ≡ Some op →
+pub not_begun : (history : List ClientEvent) (moment : ℕ) {op : Operation} → operation_at history moment ≡ Some op →
     op.version ≡ 0 → (ShowsNothing history op → ⊥) → Breaks history (violation.NotNothing moment)
-not_begun history moment op is zero wrong = (op, is, zero, wrong)
+not_begun history moment {op} is zero wrong = (op, is, zero, wrong)
 
-pub not_written : (history : List ClientEvent) (moment : ℕ) (op : Operation) → operation_at history moment ≡ Some op →
+pub not_written : {history : List ClientEvent} (moment : ℕ) {op : Operation} → operation_at history moment ≡ Some op →
     op.version ≢ 0 → (HasWrite history op → ⊥) → (HasPending history op → ⊥) → Breaks history (violation.NeverWritten moment)
-not_written history moment op is later no_write no_pending = (op, is, later, none)
+not_written {history} moment {op} is later no_write no_pending = (op, is, later, none)
   where
     none : CanBeWritten history op → ⊥
     none (inl h) = no_write h

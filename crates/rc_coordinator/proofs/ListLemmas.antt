@@ -29,7 +29,7 @@ not-distinct (y ∷ front) x back there distinct =
   where
     by : (list_any (same_id x) front ≡ true → ⊥) → (b : Bool) → same_id x y ≡ b → (b || list_any (same_id x) front) ≡ true → ⊥
     by others true e there =
-        let same : same_id y x ≡ same_id y y = ap (same_id y) (same_id-true x y e) in
+        let same : same_id y x ≡ same_id y y = ap (same_id y) (same_id-true e) in
         true≢false (sym (same_id-refl y) ∙ sym same ∙ all-middle y front x back distinct.0)
     by others false e there = others there
 
@@ -62,14 +62,12 @@ split-at (y ∷ ys) (suc i) x e = ap (λ zs. y ∷ zs) (split-at ys i x e)
 -- so a list that is gone through comes upon an id that it has come upon before
 pub stands-twice : (ids : List ServerId) (i : ℕ) (x : ServerId) → slice_get ids i ≡ Some x →
     list_any (same_id x) (take i ids) ≡ true → IsDistinct same_id ids → ⊥
-stands-twice ids i x at there distinct =
-    not-distinct (take i ids) x (drop (suc i) ids) there
+stands-twice ids i x at there distinct = not-distinct (take i ids) x (drop (suc i) ids) there
     (subst (λ (those : List ServerId). IsDistinct same_id those) (split-at ids i x at) distinct)
 
 pub keys-twice : {X : Type 0} (es : List (ServerId × X)) (i : ℕ) (e : ServerId × X) → slice_get es i ≡ Some e →
     is_some (lookup (same_id e.0) (take i es)) ≡ true → IsDistinct same_id (keys_of es) → ⊥
-keys-twice {X} es i e at there distinct =
-    not-distinct_keys (take i es) e (drop (suc i) es) there
+keys-twice {X} es i e at there distinct = not-distinct_keys (take i es) e (drop (suc i) es) there
     (subst (λ (those : List (ServerId × X)). IsDistinct same_id (keys_of those)) (split-at es i e at) distinct)
 
 take-more : {X : Type 0} (xs : List X) (i : ℕ) (x : X) → slice_get xs i ≡ Some x → take (suc i) xs ≡ take i xs ++ x ∷ []
@@ -129,8 +127,7 @@ as-long before (row ∷ rows) e = by (as-long (before ++ row ∷ []) rows) (know
         length (cond b (first_rows before rows) (first_rows (before ++ row ∷ []) rows)) ≡ length before + suc (length rows) →
         cond b (first_rows before rows) (first_rows (before ++ row ∷ []) rows) ≡ before ++ row ∷ rows
     by others true e = absurd (omega (arith, no-longer before rows, e))
-    by others false e =
-        others (omega (arith, e, length-append before (row ∷ [])))
+    by others false e = others (omega (arith, e, length-append before (row ∷ [])))
         ∙ append_assoc before (row ∷ []) rows
 
 distinct-rows : (before rows : List (ServerId × Bool)) → IsDistinct same_id (keys_of (before ++ rows)) →
@@ -141,11 +138,9 @@ distinct-rows before (row ∷ rows) distinct = by (distinct-rows (before ++ row 
     by : (IsDistinct same_id (keys_of ((before ++ row ∷ []) ++ rows)) →
         first_rows (before ++ row ∷ []) rows ≡ (before ++ row ∷ []) ++ rows) → (b : Bool) → knows before row.0 ≡ b →
         cond b (first_rows before rows) (first_rows (before ++ row ∷ []) rows) ≡ before ++ row ∷ rows
-    by others true e =
-        absurd (not-distinct (keys_of before) row.0 (keys_of rows) (sym (knows-any before row.0) ∙ e)
+    by others true e = absurd (not-distinct (keys_of before) row.0 (keys_of rows) (sym (knows-any before row.0) ∙ e)
         (subst (λ (ks : List ServerId). IsDistinct same_id ks) (keys-append before (row ∷ rows)) distinct))
-    by others false e =
-        others
+    by others false e = others
         (subst (λ (es : List (ServerId × Bool)). IsDistinct same_id (keys_of es)) (sym (append_assoc before (row ∷ []) rows)) distinct)
         ∙ append_assoc before (row ∷ []) rows
 
@@ -159,8 +154,7 @@ first-of_distinct rows distinct = ap length (distinct-rows [] rows distinct)
 
 pub servers-are : (version : ℕ) (rows : List (ServerId × Bool)) (servers : ServerList) → servers ≡ from_rows version rows →
     length servers.rows ≡ length rows → servers ≡ record { version = version; rows = rows }
-servers-are version rows servers is long =
-    is ∙ ap (λ (rs : List (ServerId × Bool)). servers_with version rs)
+servers-are version rows servers is long = is ∙ ap (λ (rs : List (ServerId × Bool)). servers_with version rs)
     (all-first rows (ap (λ (s : ServerList). length s.rows) (sym is) ∙ long))
 
 pub no-servers : (version : ℕ) (rows : List (ServerId × Bool)) (servers : ServerList) → servers ≡ from_rows version rows →

@@ -32,24 +32,24 @@ picked_err picked (Err e) err fault apart is =
 
 module _ (min : Pair) (replies : List (ServerId × List Row)) where
   pub if_pickable : (result : Result Plan Fault) → IfOk result (λ plan. pick min replies ≡ Ok plan) → IfOk result (IsPickable min replies)
-  if_pickable (Ok plan) ok = pickable-from_picked min replies plan ok
+  if_pickable (Ok plan) ok = pickable-from_picked min replies ok
   if_pickable (Err e) ok = tt
 
   pub is_picked : (result : Result Plan Fault) (plan : Plan) → IfOk result (λ plan. pick min replies ≡ Ok plan) →
       IfErr result (λ e. (e ≡ OutOfMemory) ⊎ (pick min replies ≡ Err e)) → IsPickable min replies plan →
       (result ≡ Ok plan) ⊎ (result ≡ Err OutOfMemory)
-  is_picked result plan ok err is = given_ok (pick min replies) result ok err plan (picked-from_pickable min replies plan is)
+  is_picked result plan ok err is = given_ok (pick min replies) result ok err plan (picked-from_pickable min replies is)
 
   pub is_missed : (result : Result Plan Fault) (seg : ℕ) → IfOk result (λ plan. pick min replies ≡ Ok plan) →
       IfErr result (λ e. (e ≡ OutOfMemory) ⊎ (pick min replies ≡ Err e)) → IsLeastMissing min replies seg →
       (result ≡ Err (SegmentMissing seg)) ⊎ (result ≡ Err OutOfMemory)
-  is_missed result seg ok err is = given_err (pick min replies) result ok err (SegmentMissing seg) (missing_segment min replies seg is)
+  is_missed result seg ok err is = given_err (pick min replies) result ok err (SegmentMissing seg) (missing_segment min replies is)
 
   pub is_missing : (result : Result Plan Fault) (seg : ℕ) →
       IfErr result (λ e. (e ≡ OutOfMemory) ⊎ (pick min replies ≡ Err e)) → result ≡ Err (SegmentMissing seg) →
       IsLeastMissing min replies seg
   is_missing result seg err is =
-      segment_missing min replies seg (picked_err (pick min replies) result err (SegmentMissing seg) (λ same. cc) is)
+      segment_missing min replies (picked_err (pick min replies) result err (SegmentMissing seg) (λ same. cc) is)
 
   pub no_head : (result : Result Plan Fault) → IfErr result (λ e. (e ≡ OutOfMemory) ⊎ (pick min replies ≡ Err e)) →
       result ≡ Err HeadMissing → HasNoHead min replies

@@ -24,8 +24,7 @@ use Rattle.rc_headroll.proofs.LogChanges.{seg_place, append-possible, appended, 
 
 -- of each segment of a log of which one was found
 abbrev pub AreFoundOf : Log → List (Option AliveEntry) → Type 0
-AreFoundOf log found =
-    (seg : ℕ) (one : AliveEntry) → slice_get found seg ≡ Some (Some one) →
+AreFoundOf log found = (seg : ℕ) (one : AliveEntry) → slice_get found seg ≡ Some (Some one) →
     IsFound (entries_of log) (log.segments seg).entries one
 
 -- Logs of the same entries
@@ -123,15 +122,13 @@ entries-opened log digest ids =
     let fresh : Segment = new_segment (log.head + 1) digest ids in
     let new : ℕ → Segment = put log.segments (log.head + 1) fresh in
     let below : places_to new log.head ≡ places_to log.segments log.head =
-    places_to-agrees log.segments new log.head
-    (λ k most. ap (λ (s : Segment). s.entries)
-    (put-other log.segments (log.head + 1) fresh k (ne_eqb (log.head + 1) k (λ same. omega (arith, same, most))))) in
+    places_to-agrees log.segments new log.head (λ k most. ap (λ (s : Segment). s.entries)
+    (put-other log.segments (log.head + 1) fresh (ne_eqb (log.head + 1) k (λ same. omega (arith, same, most))))) in
     let next : log.head + 1 ≡ suc log.head = omega arith in
     let last : (new (suc log.head)).entries ≡ [] = ap (λ k. (new k).entries) (sym next) ∙
-    ap (λ (s : Segment). s.entries) (put-same log.segments (log.head + 1) fresh) in
+    ap (λ (s : Segment). s.entries) (put-same log.segments (log.head + 1)) in
     let places : places_to new (log.head + 1) ≡ places_to log.segments log.head =
-    ap (places_to new) next
-    ∙ (ap (λ entries. places_to new log.head ++ places_in (suc log.head) 0 entries) last
+    ap (places_to new) next ∙ (ap (λ entries. places_to new log.head ++ places_in (suc log.head) 0 entries) last
     ∙ (append-nil (places_to new log.head) ∙ below)) in
     ap (map (λ (p : LogPlace). p.entry)) places
 
@@ -141,8 +138,7 @@ found-opens log digest ids found none are =
     found-agrees log (opens_head log digest ids) found (entries-opened log digest ids)
     (put_each (λ k (s : Segment). (durable : List Entry) (group : ℕ) → has_alive durable group (log.segments k).entries ≡ true →
     has_alive durable group s.entries ≡ true) log.segments (log.head + 1) (new_segment (log.head + 1) digest ids)
-    (λ durable group alive. sym (ap (has_alive durable group) none) ∙ alive)
-    (λ k durable group alive. alive))
+    (λ durable group alive. sym (ap (has_alive durable group) none) ∙ alive) (λ k durable group alive. alive))
     are
 
 pub found-opened : (kept : LogData) (digest : List ℕ) (ids : List ServerId) (x : Segment) (segments : List Segment)

@@ -16,8 +16,7 @@ use Rattle.rc_headroll.specs.Watching.{has_number, is_among, is_under}
 module _ (old new : List (ServerId × List ℕ)) (id : ServerId) (numbers : List ℕ)
     (updates : (other : ServerId) → lookup (same_id other) new ≡ cond (same_id id other) (Some numbers) (lookup (same_id other) old)) where
   pub filed-there : (seg : ℕ) → has_number numbers seg ≡ true → is_among (lookup (same_id id) new) seg ≡ true
-  filed-there seg there =
-      ap (λ (found : Option (List ℕ)). is_among found seg)
+  filed-there seg there = ap (λ (found : Option (List ℕ)). is_among found seg)
       (updates id ∙ ap (λ (b : Bool). cond b (Some numbers) (lookup (same_id id) old)) (same_id-refl id)) ∙ there
 
   pub filed-still : ((seg : ℕ) → is_among (lookup (same_id id) old) seg ≡ true → has_number numbers seg ≡ true) →
@@ -27,7 +26,7 @@ module _ (old new : List (ServerId × List ℕ)) (id : ServerId) (numbers : List
     where
       by : (b : Bool) → same_id id one ≡ b → is_among (cond b (Some numbers) (lookup (same_id one) old)) seg ≡ true
       by true same =
-          more seg (subst (λ (o : ServerId). is_among (lookup (same_id o) old) seg ≡ true) (sym (same_id-true id one same)) filed)
+          more seg (subst (λ (o : ServerId). is_among (lookup (same_id o) old) seg ≡ true) (sym (same_id-true same)) filed)
       by false other = filed
 
 -- and under one more member
@@ -57,22 +56,19 @@ filed-next old new seg members i d inside more filed here =
 module _ (servers : ServerList) (old new : List (ServerId × List ℕ))
     (kept : new ≡ filter (λ entry. not (has_crashed servers entry.0)) old) (id : ServerId) (seg : ℕ) where
   same-answer : (k : ServerId) → same_id id k ≡ true → not (has_crashed servers k) ≡ not (has_crashed servers id)
-  same-answer k same = ap (λ (o : ServerId). not (has_crashed servers o)) (sym (same_id-true id k same))
+  same-answer k same = ap (λ (o : ServerId). not (has_crashed servers o)) (sym (same_id-true same))
 
   found : lookup (same_id id) new ≡ cond (not (has_crashed servers id)) (lookup (same_id id) old) None
-  found =
-      ap (lookup (same_id id)) kept
+  found = ap (lookup (same_id id)) kept
       ∙ lookup-filter-keys (same_id id) (λ k. not (has_crashed servers k)) (not (has_crashed servers id)) same-answer old
 
   pub dropped-crashed : has_crashed servers id ≡ true → is_among (lookup (same_id id) new) seg ≡ false
-  dropped-crashed crashed =
-      ap (λ (o : Option (List ℕ)). is_among o seg)
+  dropped-crashed crashed = ap (λ (o : Option (List ℕ)). is_among o seg)
       (found ∙ ap (λ (b : Bool). cond (not b) (lookup (same_id id) old) None) crashed)
 
   pub dropped-others : has_crashed servers id ≡ false → is_among (lookup (same_id id) old) seg ≡ true →
       is_among (lookup (same_id id) new) seg ≡ true
-  dropped-others up filed =
-      ap (λ (o : Option (List ℕ)). is_among o seg)
+  dropped-others up filed = ap (λ (o : Option (List ℕ)). is_among o seg)
       (found ∙ ap (λ (b : Bool). cond (not b) (lookup (same_id id) old) None) up) ∙ filed
 
   -- each other one is, unless the segment was added

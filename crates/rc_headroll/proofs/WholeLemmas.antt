@@ -53,10 +53,10 @@ whole-pushed segments pushed x whole at none = rw at (record {
       segment_at-push segments x (length segments + 1) refl in
       let newest : newest_of (segments ++ x ∷ []) ≡ x =
       ap (segment_at (segments ++ x ∷ [])) count ∙ ap (λ (t : ℕ → Segment). t (length segments + 1)) table
-      ∙ put-same (segment_at segments) (length segments + 1) x in
+      ∙ put-same (segment_at segments) (length segments + 1) in
       let previous : previous_of (segments ++ x ∷ []) ≡ newest_of segments =
       ap (segment_at (segments ++ x ∷ [])) before ∙ ap (λ (t : ℕ → Segment). t (length segments)) table
-      ∙ put-other (segment_at segments) (length segments + 1) x (length segments)
+      ∙ put-other (segment_at segments) (length segments + 1) x
       (ne_eqb (length segments + 1) (length segments) (λ same. omega (arith, same))) in
       ap (λ (s : Segment). filter (λ seg. not (list_any (nat_eq seg) s.digest)) (previous_of (segments ++ x ∷ [])).digest) newest
       ∙ ap (λ (s : Segment). filter (λ seg. not (list_any (nat_eq seg) x.digest)) s.digest) previous ∙ none e;

@@ -156,7 +156,7 @@ history-from {setup} {earlier} (step ∷ later) apart h =
 
 -- steps that are taken apart are a history
 pub apart-history : {setup : Setup} {steps : List Step} → TakenApart setup steps → IsHistory setup steps
-apart-history {steps} apart = history-from steps apart (history-none)
+apart-history {steps} apart = history-from steps apart history-none
 
 -- Each history comes of steps
 
@@ -214,4 +214,4 @@ comes-from {setup} {steps} (event ∷ rest) apart legal =
     (ap (λ (v : World). is_legal_from v rest) after ∙ parts.1))
 
 pub history-comes : (setup : Setup) (events : List Event) → is_legal setup events ≡ true → ComesOfSteps setup events
-history-comes setup events legal = comes-from events (taken_apart-none) legal
+history-comes setup events legal = comes-from events taken_apart-none legal

@@ -25,7 +25,7 @@ done-state : (w : World) (event : Event) (name : NodeName) (work : NodeWork) →
     node_in (node_done w event name work) name ≡ (node_step (node_in w name) work).0
 done-state w event TheOutside work = refl
 done-state w event TheCoordinator work = refl
-done-state w event (TheHost index) work = ap node.TheHost (put-same w.hosts index (host_step (w.hosts index) work).0)
+done-state w event (TheHost index) work = ap node.TheHost (put-same w.hosts index)
 
 done-sends : (w : World) (event : Event) (name : NodeName) (work : NodeWork) →
     (node_done w event name work).sent ≡ w.sent ++ (node_step (node_in w name) work).1
@@ -44,7 +44,7 @@ done-others w event TheCoordinator work (TheHost other) differ = refl
 done-others w event (TheHost index) work TheOutside differ = refl
 done-others w event (TheHost index) work TheCoordinator differ = refl
 done-others w event (TheHost index) work (TheHost other) differ =
-    ap node.TheHost (put-other w.hosts index (host_step (w.hosts index) work).0 other differ)
+    ap node.TheHost (put-other w.hosts index (host_step (w.hosts index) work).0 differ)
 
 -- what is possible is done
 pub step-possible : (w : World) (event : Event) → is_possible w event ≡ true → step w event ≡ job_done w event (job_of w.sent event)

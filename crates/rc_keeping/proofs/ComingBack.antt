@@ -56,7 +56,7 @@ saved-hosts-come-back loaded host (given ∷ works) same =
     one-more loaded host given works same (λ first second is. saved-hosts-come-back first second works is) (host_keeps given) refl
 
 pub hosts-come-back : HostsComeBack
-hosts-come-back host works = saved-hosts-come-back host host works (same-same)
+hosts-come-back host works = saved-hosts-come-back host host works same-same
 
 pub coordinators-come-back : CoordinatorsComeBack
 coordinators-come-back c [] = refl

@@ -89,7 +89,7 @@ module _ (setup : Setup) (past rest : List Event) where
     pub behind : {s o t k : ℕ} {one other : Entry} → slice_get (log_in (old.masters m).log s) o ≡ Some one → IsSentTo m s o →
         slice_get (log_in (new.masters m).log t) k ≡ Some other → (HasSentFor old.sent m t k → ⊥) →
         (s < t) ⊎ ((s ≡ t) × (o < k))
-    behind {s} {o} {t} {k} {one} {other} here sent there unsent = by (three) (three)
+    behind {s} {o} {t} {k} {one} {other} here sent there unsent = by three three
       where
         at : (0 < s) × (s ≤ (old.masters m).log.head)
         at = opened old.sent old.masters old.hosts old.coordinator all_old o here

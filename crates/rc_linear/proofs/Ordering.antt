@@ -134,7 +134,7 @@ module _ (setup : Setup) (events : List Event) (some : HasReplicas setup) (misse
               IsConfirmed sent m before
           by ((x, ack), at, e) =
               let both = and_parts (same_id m x) (not (has_begun before (x, ack))) e in
-              let here : m ≡ x = same_id-true m x both.0 in
+              let here : m ≡ x = same_id-true both.0 in
               record {
                 ack = ack;
                 acknowledged = subst (λ (y : ServerId). HasAcknowledged sent y ack) (sym here) (acks-say sent x ack at);

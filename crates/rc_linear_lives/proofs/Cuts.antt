@@ -46,7 +46,7 @@ cut {setup} {all} kept rest goes same = record {
     lived name = subst (IsLived name (new_life setup name))
         (ap (own name) same ∙ filter-append (λ (d : Deed). same_node d.node name) kept rest) (goes.well name).lived
 
-    first : Further setup [] kept (told-none)
+    first : Further setup [] kept told-none
     first = told-from (safe_at all) kept (brought-first (safe_at all) [] kept rest brought)
         (λ name. lived-first name (new_life setup name) (own name kept) (own name rest) (lived name))
 

@@ -134,7 +134,7 @@ pub is-done : {setup : Setup} {happenings : List Happening} {k : ℕ} {deed : De
 is-done {happenings} {deed} done = record {
   takes = done.takes;
   does = done.does;
-  stays = λ count at. done.stays count (subst (λ n. In (Falls deed.node count) (drop n happenings)) (next) at);
+  stays = λ count at. done.stays count (subst (λ n. In (Falls deed.node count) (drop n happenings)) next at);
 }
 
 pub done-from : {setup : Setup} {happenings : List Happening} {k : ℕ} {deed : Deed} → IsDone setup happenings k deed →
@@ -142,7 +142,7 @@ pub done-from : {setup : Setup} {happenings : List Happening} {k : ℕ} {deed : 
 done-from {happenings} {deed} done = record {
   takes = done.takes;
   does = done.does;
-  stays = λ count at. done.stays count (subst (λ n. In (Falls deed.node count) (drop n happenings)) (sym (next)) at);
+  stays = λ count at. done.stays count (subst (λ n. In (Falls deed.node count) (drop n happenings)) (sym next) at);
 }
 
 pub outlasts : (more : List Happening) (deed : Deed) → ((count : ℕ) → In (Falls deed.node count) more → deed.rests ≤ count) →
@@ -367,7 +367,7 @@ left-was-sent setup happenings n message may at =
     leaves.its
   where
     both : Goes setup (at_moment setup happenings n) × MayAll setup (at_moment setup happenings n) (drop n happenings)
-    both = goes-at happenings n (goes-new) may
+    both = goes-at happenings n goes-new may
 
     leaves : MayLeave (safe_at (at_moment setup happenings n)) (at_moment setup happenings n).done message
     leaves = both.0.left message at

@@ -128,7 +128,7 @@ module _ (setup : Setup) (happenings : List Happening) (may : MayAll setup (new_
     upto n = sent_by_deeds (before setup (new_processes setup) happenings n)
 
     goes : Goes setup all
-    goes = goes-all setup (new_processes setup) happenings (goes-new) may
+    goes = goes-all setup (new_processes setup) happenings goes-new may
 
     rest-of : (n : ℕ) → (rest : List Deed) × (all.done ≡ before setup (new_processes setup) happenings n ++ rest)
     rest-of n = let more = before-rest setup (new_processes setup) happenings n in
@@ -489,7 +489,7 @@ module _ (setup : Setup) (happenings : List Happening) (may : MayAll setup (new_
 
     one-response : {a b : Operation} → lived.IsWrite setup happenings a → lived.IsWrite setup happenings b → a.table ≡ b.table →
         a.key ≡ b.key → a.version ≡ b.version → a.response ≡ b.response
-    one-response {a} {b} w v table key version = by (three)
+    one-response {a} {b} w v table key version = by three
       where
         one : (b.master ≡ a.master) × (ack b v ≡ ack a w)
         one = (one-write a.master (ack a w) (acked-sent a w)).only b.master (ack b v) (acked-sent b v)
@@ -507,7 +507,7 @@ module _ (setup : Setup) (happenings : List Happening) (may : MayAll setup (new_
     total : (a b : Operation) → lived.IsWrite setup happenings a ⊎ lived.IsRead setup happenings a →
         lived.IsWrite setup happenings b ⊎ lived.IsRead setup happenings b → a.table ≡ b.table → a.key ≡ b.key →
         StandsBefore a b ⊎ (StandsBefore b a ⊎ (a.response ≡ b.response))
-    total a b one other table key = by (three)
+    total a b one other table key = by three
       where
         alike : lived.IsWrite setup happenings a ⊎ lived.IsRead setup happenings a →
             lived.IsWrite setup happenings b ⊎ lived.IsRead setup happenings b → a.version ≡ b.version →
@@ -515,7 +515,7 @@ module _ (setup : Setup) (happenings : List Happening) (may : MayAll setup (new_
         alike (inl w) (inl v) e = inr (inr (one-response w v table key e))
         alike (inl w) (inr r) e = inl (inr (e, r.kind, inl w.kind))
         alike (inr q) (inl v) e = inr (inl (inr (sym e, q.kind, inl v.kind)))
-        alike (inr q) (inr r) e = reads (three)
+        alike (inr q) (inr r) e = reads three
           where
             reads : (a.response < b.response) ⊎ ((a.response ≡ b.response) ⊎ (b.response < a.response)) →
                 StandsBefore a b ⊎ (StandsBefore b a ⊎ (a.response ≡ b.response))

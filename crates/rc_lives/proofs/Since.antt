@@ -143,7 +143,7 @@ go-on {setup} early now goes goes_now since =
     let lived = λ (name : NodeName).
     subst (IsLived name (new_life setup name)) (ap (own name) since.same ∙ own-append name since.kept since.rest)
     (goes_now.well name).lived in
-    let first : Further setup [] since.kept (told-none) = told-from (safe_at now) since.kept
+    let first : Further setup [] since.kept told-none = told-from (safe_at now) since.kept
     (brought-first (safe_at now) [] since.kept since.rest brought)
     (λ name. lived-first name (new_life setup name) (own name since.kept) (own name since.rest) (lived name)) in
     let last : Further setup since.kept since.rest first.told = told-from (safe_at now) since.rest
@@ -188,7 +188,7 @@ may-last setup all (one ∷ early) more may = may-last setup (after setup all on
 pub stays-left : WhatHasLeftStays
 stays-left setup early more may =
     let then : Processes = after_all setup (new_processes setup) early in
-    let goes : Goes setup then = goes-all setup (new_processes setup) early (goes-new)
+    let goes : Goes setup then = goes-all setup (new_processes setup) early goes-new
     (may-first setup (new_processes setup) early more may) in
     let later : MayAll setup then more = may-last setup (new_processes setup) early more may in
     subst (GoesOn setup then) (sym (after-append setup (new_processes setup) early more))

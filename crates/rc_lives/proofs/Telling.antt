@@ -172,13 +172,13 @@ told-none = record { steps = []; apart = taken_apart-none; sent = refl; nodes = 
 
 pub told-done : {setup : Setup} {all : Processes} → Goes setup all → Told setup all.done
 told-done {setup} {all} goes =
-    (told-from {setup = setup} (safe_at all) {done = []} all.done {told = (told-none)} goes.brought (λ name. (goes.well name).lived)).told
+    (told-from {setup = setup} (safe_at all) {done = []} all.done {told = told-none} goes.brought (λ name. (goes.well name).lived)).told
 
 pub has-history : (setup : Setup) (happenings : List Happening) → MayAll setup (new_processes setup) happenings →
     HasHistory setup (after_all setup (new_processes setup) happenings)
 has-history setup happenings may =
     let all : Processes = after_all setup (new_processes setup) happenings in
-    let goes : Goes setup all = goes-all setup (new_processes setup) happenings (goes-new) may in
+    let goes : Goes setup all = goes-all setup (new_processes setup) happenings goes-new may in
     let told : Told setup all.done = told-done goes in
     record {
       steps = told.steps;
@@ -193,7 +193,7 @@ has-history setup happenings may =
 pub steps-come-last : StepsComeLast
 steps-come-last setup happenings may name work taken =
     let all : Processes = after_all setup (new_processes setup) happenings in
-    let goes : Goes setup all = goes-all setup (new_processes setup) happenings (goes-new) may in
+    let goes : Goes setup all = goes-all setup (new_processes setup) happenings goes-new may in
     let deed : Deed = deed_of name (all.at name).life work in
     let told : Told setup (all.done ++ deed ∷ []) = told-done (goes-after (Takes name work) goes taken) in
     record {
@@ -215,4 +215,4 @@ journals-make {setup} {all} goes name =
 
 pub journals-make-nodes : JournalsMakeNodes
 journals-make-nodes setup happenings may = journals-make
-    (goes-all setup (new_processes setup) happenings (goes-new) may)
+    (goes-all setup (new_processes setup) happenings goes-new may)

@@ -100,7 +100,7 @@ module _ (P Q : List Message → ServerId → Master → Type 0) (led : IsLed P 
     view-same None e = refl
     view-same (Some master) e {m} =
         either (λ (now : Master). now ≡ world.masters m) (same_id master.log.own m) master (world.masters m)
-        (λ is. sym ((good.hosts_are i).runs master e) ∙ ap world.masters (sym (own-is e) ∙ same_id-true master.log.own m is))
+        (λ is. sym ((good.hosts_are i).runs master e) ∙ ap world.masters (sym (own-is e) ∙ same_id-true is))
         (λ _. refl)
 
     -- the master stays, and nothing loud is said
@@ -114,7 +114,7 @@ module _ (P Q : List Message → ServerId → Master → Type 0) (led : IsLed P 
         Q (world.sent ++ after.1) (server_of (world.hosts i)) after.0 → Done (with_master (world.hosts i) after)
     done-moved e (now, messages) moved new m =
         either (Q (world.sent ++ messages) m) (same_id now.log.own m) now (world.masters m)
-        (λ is. subst (λ (k : ServerId). Q (world.sent ++ messages) k now) (sym moved.good.own ∙ same_id-true now.log.own m is) new)
+        (λ is. subst (λ (k : ServerId). Q (world.sent ++ messages) k now) (sym moved.good.own ∙ same_id-true is) new)
         (λ isn't. led.others world.sent messages m (world.masters m) (p m)
         (λ message at from. absurd (never (sym (moved.says message at).from ∙ from) isn't)))
       where
@@ -132,9 +132,9 @@ module _ (P Q : List Message → ServerId → Master → Type 0) (led : IsLed P 
     done-starts list = same-view
         (λ m. either (λ (now : Master). now ≡ world.masters m) (same_id (next_server (world.hosts i)) m)
         (new_master (next_server (world.hosts i)) (world.hosts i).setup) (world.masters m)
-        (λ is. sym started ∙ ap world.masters (same_id-true (next_server (world.hosts i)) m is)) (λ _. refl))
+        (λ is. sym started ∙ ap world.masters (same_id-true is)) (λ _. refl))
         (quiet-all (to_coordinator (next_server (world.hosts i)) Enlist ∷ []) p
-        (λ m message at from. each-one BySelf (to_coordinator (next_server (world.hosts i)) Enlist) refl message at))
+        (λ m message at from. each-one BySelf refl message at))
       where
         was : GoodHost world.sent world.masters i (world.hosts i)
         was = good.hosts_are i

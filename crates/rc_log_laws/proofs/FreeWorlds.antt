@@ -56,7 +56,7 @@ none-freed (message ∷ messages) m none s at =
   where
     by : (b : Bool) → is_server m message.from ≡ b → In s (cond b (freed_by message.body) []) ⊎
         In s (freed_of messages m) → (In s (freed_of messages m) → ⊥) → ⊥
-    by true is (inl here) rec = subst (In s) (none message (inl refl) (server-true m message.from is)) here
+    by true is (inl here) rec = subst (In s) (none message (inl refl) (server-true message.from is)) here
     by false is (inl never) rec = never
     by b is (inr rest) rec = rec rest
 
@@ -123,7 +123,7 @@ freed-kept = record {
     opened e = cc
 
 all-world : (setup : Setup) (events : List Event) (m : ServerId) → Freed (replay setup events).sent m ((replay setup events).masters m)
-all-world setup events m = kept-replay setup Freed (freed-kept) events m
+all-world setup events m = kept-replay setup Freed freed-kept events m
 
 -- What the plans and the Frees say of it
 

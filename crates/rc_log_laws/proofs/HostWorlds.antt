@@ -23,7 +23,7 @@ use Rattle.rc_model.proofs.Ids.{server-same}
 pub coordinator-still : {sent : List Message} (messages : List Message) {c : Coordinator} → GoodCoordinator sent c
     → GoodCoordinator (sent ++ messages) c
 coordinator-still messages good = record {
-  attempts = λ number attempt numbered. attempt-kept messages (kept-refl) (good.attempts number attempt numbered);
+  attempts = λ number attempt numbered. attempt-kept messages kept-refl (good.attempts number attempt numbered);
   servers = good.servers;
   current_numbered = good.current_numbered;
   current_master = good.current_master;
@@ -46,7 +46,7 @@ module _ (sent : List Message) (masters : ServerId → Master) (hosts : ℕ → 
 
   -- who newly tells is the host's server
   teller : (x m : ServerId) (s e len : ℕ) (closed : Bool) → In (between x m (body.Stored s e len closed)) messages → x ≡ server_of (hosts i)
-  teller x m s e len closed at = server-same x (server_of (hosts i)) (moved.from (between x m (body.Stored s e len closed)) at)
+  teller x m s e len closed at = server-same (moved.from (between x m (body.Stored s e len closed)) at)
 
   fits : (m : ServerId) → NewlyToldFits sent (sent ++ messages) m (masters m).log
   fits m x s e len closed at = In-either (between x m (body.Stored s e len closed)) sent messages at (λ there. inl there)

@@ -81,7 +81,7 @@ heads-rise setup events one m =
     (((led-step (replay setup events) one (good-world setup events)).onward.grown m).later.head)
 
 pub keeps-unless-written : OfEachEvent KeepsUnlessWritten
-keeps-unless-written setup events one m s = by (upto_or s new.head)
+keeps-unless-written setup events one m s = by upto_or
   where
     old : Log
     old = log_of setup events m
@@ -96,7 +96,7 @@ keeps-unless-written setup events one m s = by (upto_or s new.head)
 
     known : HasItsEntries old new s ⊎ (IsWritingIn old s ⊎ MayTakeData new s) →
         (log_in new s ≡ log_in old s) ⊎ (IsWritingIn old s ⊎ MayTakeData new s)
-    known (inl has) = inl (same has (upto_or s old.head))
+    known (inl has) = inl (same has upto_or)
     known (inr other) = inr other
 
     by : (s ≤ new.head) ⊎ (new.head < s) → (log_in new s ≡ log_in old s) ⊎ (IsWritingIn old s ⊎ MayTakeData new s)
@@ -138,8 +138,7 @@ module _ (world : World) (one : Event) (good : GoodWorld world) where
   -- the view of the running master
   view-of : {i : ℕ} {master : Master} {m : ServerId} → (world.hosts i).master ≡ Some master →
       Server (server_of (world.hosts i)) ≡ Server m → world.masters m ≡ master
-  view-of {i} {master} {m} e same = ap world.masters (sym (server-same (server_of (world.hosts i)) m same))
-      ∙ (good.hosts_are i).runs master e
+  view-of {i} {master} {m} e same = ap world.masters (sym (server-same same)) ∙ (good.hosts_are i).runs master e
 
   said-takes : (i : ℕ) (master : Master) (given message : Message) → (world.hosts i).master ≡ Some master → In given world.sent →
       given.to ≡ Server (server_of (world.hosts i)) → (at : In message (master_takes master given.from given.body).1) →
@@ -189,8 +188,7 @@ module _ (world : World) (one : Event) (good : GoodWorld world) where
           (λ attempt rows. refl) (λ x attempt seg term entries. refl) given.from given.body message at);
       starts = λ after i from. soft (world.masters m).log (after.masters m).log Enlist refl;
       takes = λ after i master given message e among to view at. by_view after message e
-          (takes-from i master given message e among to at) view
-          (takes master given.from given.body message at);
+          (takes-from i master given message e among to at) view (takes master given.from given.body message at);
       ticks = λ after i master message e view at. by_view after message e
           (ticks-from i master message e at) view (ticks master message at);
     }
@@ -216,7 +214,7 @@ module _ (world : World) (one : Event) (good : GoodWorld world) where
     backup = λ after i given message among to view at is from. inl
         (each-told (λ (message : Message). is_backups message.body ≡ true) (world.hosts i).backup (λ x s e len closed. refl)
         (λ attempt rows. refl) (λ x attempt seg term entries. refl) given.from given.body message at);
-    starts = λ after i is from. true_false (sym is ∙ began i (server-same (next_server (world.hosts i)) m from));
+    starts = λ after i is from. true_false (sym is ∙ began i (server-same from));
     takes = λ after i master given message e among to view at is from. answers i master given message e among to at is
         (sym (takes-from i master given message e among to at) ∙ from);
     ticks = λ after i master message e view at is from. absurd (subst (In message) (ap (λ (done : Master × List Message). done.1)
@@ -239,7 +237,7 @@ module _ (world : World) (one : Event) (good : GoodWorld world) where
 
   silent-in : {m : ServerId} (message : Message) → In message (drop (length world.sent) (step world one).sent) →
       Silent m (step world one) message
-  silent-in {m} = each-sent world one good (Silent m) (silent-sender)
+  silent-in {m} = each-sent world one good (Silent m) silent-sender
 
   -- Backups
 
@@ -260,7 +258,7 @@ module _ (world : World) (one : Event) (good : GoodWorld world) where
     coordinator = λ after work message given at y from. not-coordinator
         (sym (coordinator-from world work good given message at) ∙ from);
     backup = λ after i given message among to view at y from is. told i after given message among to view at y
-        (server-same (server_of (world.hosts i)) y (sym (backup-from i given message at) ∙ from)) is;
+        (server-same (sym (backup-from i given message at) ∙ from)) is;
     starts = λ after i y from is. true_false (sym is);
     takes = λ after i master given message e among to view at y from is. absurd (no-telling _ _ _ _ _ message.to message.body is
         (said-takes i master given message e among to at));

@@ -128,8 +128,7 @@ keeps-joined : Joined Kept
 keeps-joined = record { still = λ master k. k; both = λ one two first after p q k. q (p k) }
 
 pub keeps-takes : {master : Master} (from : Addr) (body : Body) → Keeps master → KeepsAfter (master_takes master from body)
-keeps-takes {master} from body =
-    kept-takes Kept keeps-joined keeps-listed keeps-followed master from body (keeps-taken)
+keeps-takes {master} from body = kept-takes Kept keeps-joined keeps-listed keeps-followed keeps-taken
 
 pub keeps-ticks : (master : Master) → Keeps master → KeepsAfter (master_ticks master)
 keeps-ticks = kept-ticks Kept keeps-joined keeps-listed keeps-followed

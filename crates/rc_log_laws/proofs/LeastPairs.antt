@@ -52,7 +52,7 @@ module _ (c : Coordinator) (H : Addr → Body → Type 0) where
 
   pub told-step : {work : NodeWork} → ((message : Message) → work ≡ Deliver message → H message.from message.body) →
       Told (coordinator_step c work)
-  told-step {work} h = walked-step c H Same Told (any-stays c H Told (λ messages m. inl refl)) told-moves work h
+  told-step {work} h = walked-step c H Same Told (any-stays H Told (λ messages m. inl refl)) told-moves work h
 
 -- A world: each least pair is the first one, or was told
 

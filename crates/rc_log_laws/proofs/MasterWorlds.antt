@@ -79,7 +79,7 @@ module _ (sent : List Message) (masters : ServerId → Master) (hosts : ℕ → 
   back : (m : ServerId) → (z ≡ m → ⊥) → NoNewPlaceOf sent (sent ++ messages) m
   back m differs x s e digest entries closed at = In-either (between m x (body.Place s e digest entries closed)) sent messages at
       (λ there. there) (λ new. absurd (differs (sym
-      (server-same m z (moved.says (between m x (body.Place s e digest entries closed)) new).from))))
+      (server-same (moved.says (between m x (body.Place s e digest entries closed)) new).from))))
 
   grown_own : Grown sent (sent ++ messages) z (masters z).log after.log
   grown_own = record {
@@ -127,7 +127,7 @@ module _ (sent : List Message) (masters : ServerId → Master) (hosts : ℕ → 
   mine = record {
     index = was.index;
     own = was.own;
-    runs = λ master e. (let is : after ≡ master = cc in ap (put_id masters z after) server ∙ (put_id-same masters z after ∙ is));
+    runs = λ master e. (let is : after ≡ master = cc in ap (put_id masters z after) server ∙ (put_id-same masters z ∙ is));
     unstarted = λ g above. put_id-other masters after (λ same. not_now g above same) ∙ was.unstarted g above;
     held = λ m. held-later sent masters hosts c (sent ++ messages) (put_id masters z after)
         (put hosts i (record (hosts i) { master = Some after })) c good onward
@@ -155,7 +155,7 @@ module _ (sent : List Message) (masters : ServerId → Master) (hosts : ℕ → 
       (λ j. put-cases (λ k host. GoodHost (sent ++ messages) (put_id masters z after) k host) hosts i
       (record (hosts i) { master = Some after }) mine other j)
       (record {
-        attempts = λ number attempt numbered. attempt-kept messages (kept-refl)
+        attempts = λ number attempt numbered. attempt-kept messages kept-refl
             (good.coordinator.attempts number attempt numbered);
         servers = good.coordinator.servers;
         current_numbered = good.coordinator.current_numbered;

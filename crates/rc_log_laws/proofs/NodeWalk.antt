@@ -132,7 +132,7 @@ module _ (world : World) (one : Event) (i : ℕ) (good : GoodWorld world) where
 
   -- the test of an address
   pub is_server-true : {id : ServerId} (to : Addr) → is_server id to ≡ true → to ≡ Server id
-  is_server-true {id} (Server other) e = ap Server (sym (same_id-true id other e))
+  is_server-true {id} (Server other) e = ap Server (sym (same_id-true e))
   is_server-true AtCoordinator e = true_false (sym e)
   is_server-true Outside e = true_false (sym e)
 
@@ -148,8 +148,7 @@ module _ (world : World) (one : Event) (i : ℕ) (good : GoodWorld world) where
         (with_master (world.hosts i) (master_takes master message.from message.body))
         (λ _. w.backs master e message.from message.body at
         (moved-backup world.sent world.masters world.hosts now world.coordinator i message.from message.body good at
-        (ap now (good.hosts_are i).index ∙ put-same world.hosts i (record (world.hosts i)
-        { backup = (backup_takes (world.hosts i).backup message.from message.body).0 }))))
+        (ap now (good.hosts_are i).index ∙ put-same world.hosts i)))
         (λ _. w.takes master e message.from message.body at
         (master_takes_keeps world.sent (server_of (world.hosts i)) master message.from message.body (is-good e)
         (is-fine e) (hears message.from message.body at)))

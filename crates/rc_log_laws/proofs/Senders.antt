@@ -82,7 +82,7 @@ module _ (world : World) (one : Event) (good : GoodWorld world) (P : World → M
             Done (with_backup (world.hosts i) after)
         by (backup, messages) e message is =
             each.backup (host_done world one i (record (world.hosts i) { backup = backup }, messages)) i given message at to
-            (ap (λ (now : HostNode). now.backup) (put-same world.hosts i (record (world.hosts i) { backup = backup })) ∙
+            (ap (λ (now : HostNode). now.backup) (put-same world.hosts i) ∙
             ap (λ (after : Backup × List Message). after.0) (sym e))
             (subst (λ (after : Backup × List Message). In message after.1) (sym e) (new world.sent messages message is))
 
@@ -90,7 +90,7 @@ module _ (world : World) (one : Event) (good : GoodWorld world) (P : World → M
     moved-view : {after : Master} → after.log.own ≡ server_of (world.hosts i) →
         put_id world.masters after.log.own after (server_of (world.hosts i)) ≡ after
     moved-view {after} own = ap (λ (key : ServerId). put_id world.masters key after (server_of (world.hosts i))) own ∙
-        put_id-same world.masters (server_of (world.hosts i)) after
+        put_id-same world.masters (server_of (world.hosts i))
 
     of_takes : (master : Master) → (world.hosts i).master ≡ Some master → (given : Message) → In given world.sent →
         given.to ≡ Server (server_of (world.hosts i)) →

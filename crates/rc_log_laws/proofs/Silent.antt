@@ -29,7 +29,7 @@ silent-all (message ∷ messages) all =
     ap (λ (some : List ℕ). some ++ freed_in messages) (all message (inl refl)) ∙ silent-all messages (λ other at. all other (inr at))
 
 pub silent-ids : (own : ServerId) (ids : List ServerId) (body : Body) → freed_by body ≡ [] → Silent (to_ids own ids body)
-silent-ids own ids body is = silent-all (to_ids own ids body) (each-to_ids Frees own ids body (λ id _. is))
+silent-ids own ids body is = silent-all (to_ids own ids body) (each-to_ids Frees ids (λ id _. is))
 
 -- what the Frees of these segments free
 freed-ids : (own : ServerId) (ids : List ServerId) (seg s : ℕ) → In s (freed_in (to_ids own ids (Free seg))) → s ≡ seg

@@ -29,7 +29,7 @@ both : (a b : Master) (first : List Message) (after : Master × List Message) �
 both a b first after p q = search (arith, append_assoc, freed-append)
 
 moves-joined : Joined Moves
-moves-joined = record { still = λ master. quiet (stays-refl) silent-none; both = both }
+moves-joined = record { still = λ master. quiet stays-refl silent-none; both = both }
 
 -- the log is as it was, and this is said
 says : {old new : Master} {message : Message} → Stays old.log new.log → freed_by message.body ≡ [] → Moves old (new, message ∷ [])
@@ -56,20 +56,19 @@ moves-appends {master} entry client same = quiet (subst (λ log. Stays log (appe
     (Append master.log.head (length (head_of master.log).entries) (entry ∷ [])) refl)
 
 moves-taken : {master : Master} {from : Addr} {body : Body} → Taken Moves master from body
-moves-taken {master} =
-    search (
-      arith,
-      says,
-      stays-refl,
-      moves-rolls,
-      moves-appends,
-      quiet,
-      silent-none,
-      stays-stored,
-      stays-commit_noted,
-      silent-all,
-      each-map,
-    )
+moves-taken {master} = search (
+  arith,
+  says,
+  stays-refl,
+  moves-rolls,
+  moves-appends,
+  quiet,
+  silent-none,
+  stays-stored,
+  stays-commit_noted,
+  silent-all,
+  each-map,
+)
 
 moves-ticked : Ticked Moves
 moves-ticked = search (arith, says, stays-refl, quiet, silent-all, each-reminds)
@@ -92,30 +91,28 @@ moves-counts : {log : Log} → Stays log (record log { durable = durable_now log
 moves-counts {log} freed good = search arith
 
 moves-followed : Followed Moves
-moves-followed =
-    search (
-      arith,
-      quiet,
-      stays-put,
-      silent-none,
-      says,
-      stays-starts,
-      stays-closes,
-      silent-ids,
-      moves-shuts,
-      moves-counts,
-      silent-all,
-      each-write_oks,
-      moves-rolls,
-      moves-appends,
-      stays-refl,
-    )
+moves-followed = search (
+  arith,
+  quiet,
+  stays-put,
+  silent-none,
+  says,
+  stays-starts,
+  stays-closes,
+  silent-ids,
+  moves-shuts,
+  moves-counts,
+  silent-all,
+  each-write_oks,
+  moves-rolls,
+  moves-appends,
+  stays-refl,
+)
 
 -- Whole steps
 
 pub takes-moves : {master : Master} (from : Addr) (body : Body) → Moves master (master_takes master from body)
-takes-moves {master} from body =
-    kept-takes Moves moves-joined moves-listed moves-followed master from body (moves-taken)
+takes-moves {master} from body = kept-takes Moves moves-joined moves-listed moves-followed moves-taken
 
 pub ticks-moves : (master : Master) → Moves master (master_ticks master)
 ticks-moves = kept-ticks Moves moves-joined moves-listed moves-followed moves-ticked

@@ -93,7 +93,7 @@ pub head-is : (min : Pair) (replies : List (ServerId × List Row)) (head : HeldR
     replies head
 head-is min replies head e =
     let first : IsFirst IsHigher (filter (is_open_valid min) (held_rows replies)) head =
-    first_by_first head_first IsHigher tells_higher apart_higher split_higher (filter (is_open_valid min) (held_rows replies)) head e in
+    first_by_first head_first IsHigher tells_higher apart_higher split_higher (filter (is_open_valid min) (held_rows replies)) e in
     let at : In head (filter (is_open_valid min) (held_rows replies)) =
     subst (λ (all : List HeldRow). In head all) (sym first.place) (In-right head first.earlier (head ∷ first.later) (inl refl)) in
     let both : In head (held_rows replies) × (is_open_valid min head ≡ true) = In-filter (is_open_valid min) head (held_rows replies) at in

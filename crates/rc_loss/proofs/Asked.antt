@@ -30,7 +30,7 @@ NoAnswer message = is_answer message.body ≡ false
 none-keeps : (backup : Backup) (m : ServerId) (seg : ℕ) (found : Option Replica) → Each NoAnswer (keeps backup m seg found).1
 unfolding is_answer
 none-keeps backup m seg None = each-none NoAnswer
-none-keeps backup m seg (Some replica) = each-one NoAnswer (between backup.own m (stored_of seg replica)) refl
+none-keeps backup m seg (Some replica) = each-one NoAnswer refl
 
 none-stores : (backup : Backup) (m : ServerId) (seg : ℕ) (body : Body) → Each NoAnswer (stores backup m seg body).1
 none-stores backup m seg body = search (arith, each-none, none-keeps)
@@ -39,7 +39,7 @@ none-data : (attempt seg len : ℕ) (part : Part) (found : Option Replica) → E
     (data_of attempt seg len part found)
 unfolding is_answer
 none-data attempt seg len part None = each-none _
-none-data attempt seg len part (Some replica) = each-if _ _ (Data attempt seg part.term _ ∷ []) (λ _. each-one _ _ refl)
+none-data attempt seg len part (Some replica) = each-if _ (Data attempt seg part.term _ ∷ []) (λ _. each-one _ refl)
 
 none-fetch : (backup : Backup) (asker m : ServerId) (bodies : List Body) → Each (λ (body : Body). is_answer body ≡ false) bodies →
     Each NoAnswer (answers_fetch backup asker m bodies)

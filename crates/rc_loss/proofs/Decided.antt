@@ -71,7 +71,7 @@ answer-of y (reply ∷ replies) e = by (same_id y reply.0) refl (λ rest. answer
   where
     by : (b : Bool) → same_id y reply.0 ≡ b → (has_answered y replies ≡ true → (rows : List Row) × In (y, rows) replies) →
         (b || has_answered y replies) ≡ true → (rows : List Row) × In (y, rows) (reply ∷ replies)
-    by true same _ _ = (reply.1, inl (ap (λ (id : ServerId). (id, reply.1)) (same_id-true y reply.0 same)))
+    by true same _ _ = (reply.1, inl (ap (λ (id : ServerId). (id, reply.1)) (same_id-true same)))
     by false _ others rest = let found = others rest in (found.0, inr found.1)
 
 -- The refusal

@@ -75,7 +75,7 @@ module _ (setup : Setup) (events : List Event) (number : ℕ) (m : ServerId) (ro
   parts = and_parts (runs host) (is_server (server_of host) (Server row.holder)) running
 
   last : server_of host ≡ row.holder
-  last = same_id-true (server_of host) row.holder parts.1
+  last = same_id-true parts.1
 
   same : {id : ServerId} → row.holder ≡ id → id.generation ≡ ((replay setup events).hosts id.index).generation
   same is = subst (λ (one : ServerId). one.generation ≡ ((replay setup events).hosts one.index).generation) is

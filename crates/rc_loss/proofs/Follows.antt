@@ -160,7 +160,7 @@ module _ (f : ℕ) (W : ℕ → ℕ → Type 0) (m : ServerId) where
       Follows master (with_log master (starts master.log), to_coordinator master.log.own Ready ∷ [])
   follows-starts master e = follows-by (placed-kept (omega arith) (λ s _. refl))
       (λ sent now good. phase-put f W sent m writing-opening (omega (arith, first), (epoch, placed now)) good)
-      (λ sent now good _. each-one _ _ (epoch, subst (λ n. W n epoch) first (placed now)))
+      (λ sent now good _. each-one _ (epoch, subst (λ n. W n epoch) first (placed now)))
     where
       both : (is_opening master.log.phase ≡ true) × ((nat_eq master.log.head 1 && is_ready (head_of master.log)) ≡ true)
       both = and_parts (is_opening master.log.phase) (nat_eq master.log.head 1 && is_ready (head_of master.log)) e
@@ -208,8 +208,7 @@ module _ (f : ℕ) (W : ℕ → ℕ → Type 0) (m : ServerId) where
   )
   follows-closes master e =
       follows-alike (master.log.head - 1) (with_closes_sent (old_head_of master.log)) refl refl refl
-      (λ sent good. each-to_ids _ master.log.own (unclosed master.log)
-      (Close (master.log.head - 1) (length (old_head_of master.log).entries))
+      (λ sent good. each-to_ids _ (unclosed master.log)
       (λ id _. inr (omega (arith, has_old), λ some. closing-is master.log.phase both.0)))
     where
       both : (is_closing master.log.phase ≡ true) ×
@@ -250,7 +249,7 @@ module _ (f : ℕ) (W : ℕ → ℕ → Type 0) (m : ServerId) where
         next = (good.each seg).next;
         shut = (good.each seg).shut;
         asked = λ _. placed now;
-      })) (λ sent now good _. each-one _ _ (placed now))
+      })) (λ sent now good _. each-one _ (placed now))
     where
       log : Log
       log = master.log
@@ -274,9 +273,8 @@ module _ (f : ℕ) (W : ℕ → ℕ → Type 0) (m : ServerId) where
   follows-rolls master ids writing room chosen = follows-by
       (kept-opens (next_digest master.log (dead_segments master)) ids)
       (λ sent now good. opens-put f W sent m (next_digest master.log (dead_segments master)) ids
-      (choose-length (master.log.head + 1) master.log.own master.log.factor master.known ids chosen ∙ good.factor)
-      (inl (writing-is master.log.phase writing)) good) (λ sent now good _. each-to_ids _ master.log.own _
-      (place_of (opens_head master.log (next_digest master.log (dead_segments master)) ids) (master.log.head + 1) false)
+      (choose-length (master.log.head + 1) master.log.own master.known chosen ∙ good.factor)
+      (inl (writing-is master.log.phase writing)) good) (λ sent now good _. each-to_ids _ _
       (λ id _ never. true_false (sym never)))
 
   pub follows-followed : Followed Follows
@@ -289,13 +287,12 @@ module _ (f : ℕ) (W : ℕ → ℕ → Type 0) (m : ServerId) where
     commits = follows-commits;
     counts = λ master more. follows-by (placed-kept (omega arith) (λ s _. refl))
         (λ sent now good. counted-put f W sent m good)
-        (λ sent now good _. each-write_oks _ master.log.own (new_durable master.log) (λ place _ _. tt));
+        (λ sent now good _. each-write_oks _ (new_durable master.log) (λ place _ _. tt));
     rolls = follows-rolls;
     replays = λ master entry entries is writing room. follows-both master (record master { ownership = after_replay master.ownership }) []
         (appends_entry (record master { ownership = after_replay master.ownership }) entry false)
         (follows-same refl (λ log message none. absurd none)) (follows-alike master.log.head
         (with_entry entry false (head_of master.log)) refl refl refl
-        (λ sent good. each-to_ids _ master.log.own (ids_of (not_lost (head_of master.log).config.members))
-        (Append master.log.head (length (head_of master.log).entries) (entry ∷ [])) (λ id _. tt)));
-    answers = λ master term is. follows-same refl (λ log. each-one _ _ tt);
+        (λ sent good. each-to_ids _ (ids_of (not_lost (head_of master.log).config.members)) (λ id _. tt)));
+    answers = λ master term is. follows-same refl (λ log. each-one _ tt);
   }

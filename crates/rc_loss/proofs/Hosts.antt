@@ -141,7 +141,7 @@ module _ (world : World) (one : Event) (good : GoodWorld world) (x : ServerId) (
         world.coordinator (world.hosts i) (backup_takes (world.hosts i).backup from heard) →
         HostStands (with_backup (world.hosts i) (backup_takes (world.hosts i).backup from heard))
     by-backup from heard given moved at =
-        (server-same x (server_of (world.hosts i)) (moved.from message_said at), is_said.by_backup i from heard given at)
+        (server-same (moved.from message_said at), is_said.by_backup i from heard given at)
 
     by-master : (master : Master) (after : Master × List Message) → MasterMoved world.sent (server_of (world.hosts i)) master after →
         HostStands (with_master (world.hosts i) after)
@@ -210,7 +210,7 @@ stored-said {world} good {x} {m} {s} {e} {len} {closed} = record {
       (put world.hosts i (record (world.hosts i) { backup = (backup_takes (world.hosts i).backup from heard).0 })) world.coordinator i from
       heard good given
       (ap (put world.hosts i (record (world.hosts i) { backup = (backup_takes (world.hosts i).backup from heard).0 }))
-      (good.hosts_are i).index ∙ put-same world.hosts i _)).says (between x m (Stored s e len closed)) at).1.0;
+      (good.hosts_are i).index ∙ put-same world.hosts i)).says (between x m (Stored s e len closed)) at).1.0;
 }
   where
     differs : Stored s e len closed ≡ Enlist → ⊥

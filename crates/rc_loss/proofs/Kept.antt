@@ -71,8 +71,7 @@ kept-keeps : {sent : List Message} (backup : Backup) {m : ServerId} {seg : ℕ} 
     found ≡ replica_after (replica_of seg (backup.held m).replicas) says → AllKept sent (keeps backup m seg found).0
 kept-keeps backup says closing all None is = all
 kept-keeps {sent} backup {m} {seg} says closing all (Some after) is =
-    put_id_each (λ other one. GoodKept sent other one) backup.held m
-    (record (backup.held m) { replicas = put_replica seg after (backup.held m).replicas }) (record {
+    put_id_each (λ other one. GoodKept sent other one) (record {
       closed = λ s replica at closed. by s replica at closed (cases_eq s seg);
       freed = (all m).freed;
     }) all

@@ -50,9 +50,9 @@ module _ (f : ℕ) (W : ℕ → ℕ → Type 0) (m : ServerId) where
   stepped sent master from says told p at =
       either (After sent) master.deposed (deposed_takes master says) (then_does (master_takes_first master from says) goes_on)
       (λ _. wider sent (deposed_takes master says) (kept-deposed (first.Begins f W m sent) (first.begins-joined f W m sent)
-      (first.begins-taken f W m sent master from says at told).refuses master says sent (λ message there. there) p))
+      (first.begins-taken f W m sent master from says at told).refuses says sent (λ message there. there) p))
       (λ _. joined sent (master_takes_first master from says)
-      (kept-takes_first (first.Begins f W m sent) (first.begins-joined f W m sent) (first.begins-listed f W m sent) master from says
+      (kept-takes_first (first.Begins f W m sent) (first.begins-joined f W m sent) (first.begins-listed f W m sent) from says
       (first.begins-taken f W m sent master from says at told) sent (λ message there. there) p))
 
   pub ticked : {sent : List Message} (master : Master) → Placings f W sent m master.log → After sent (master_ticks master)

@@ -35,11 +35,11 @@ pub known-anew : (sent : List Message) (m : ServerId) (s e : ℕ) (members : Lis
     AllKnown sent m s e (map (λ member. new_member member.id) members)
 known-anew sent m s e members member at =
     let found = In-map (λ (one : Member). new_member one.id) member members at in
-    subst (λ one. IsKnown sent m s e one) (sym found.2) (known-new)
+    subst (λ one. IsKnown sent m s e one) (sym found.2) known-new
 
 pub known-chosen : (sent : List Message) (m : ServerId) (s e : ℕ) (ids : List ServerId) → AllKnown sent m s e (map new_member ids)
 known-chosen sent m s e ids member at =
-    let found = In-map new_member member ids at in subst (λ one. IsKnown sent m s e one) (sym found.2) (known-new)
+    let found = In-map new_member member ids at in subst (λ one. IsKnown sent m s e one) (sym found.2) known-new
 
 pub known-lost : {sent : List Message} {m : ServerId} {s e : ℕ} (servers : ServerList) (members : List Member) →
     AllKnown sent m s e members → AllKnown sent m s e (map (lost_if_crashed servers) members)
@@ -59,7 +59,7 @@ known-replaced sent m s e (one ∷ members) (id ∷ ids) all member at =
   where
     new_first : (In member (replaced members ids) → IsKnown sent m s e member) →
         (member ≡ new_member id) ⊎ In member (replaced members ids) → IsKnown sent m s e member
-    new_first rec (inl same) = subst (λ x. IsKnown sent m s e x) (sym same) (known-new)
+    new_first rec (inl same) = subst (λ x. IsKnown sent m s e x) (sym same) known-new
     new_first rec (inr rest) = rec rest
 
     old_first : (In member (replaced members (id ∷ ids)) → IsKnown sent m s e member) →
@@ -82,5 +82,5 @@ known-told sent m s e from len closed at shuts members all = known-mapped sent m
     (λ member old. either (λ one. IsKnown sent m s e one) (is_heard from member)
     (record member { told = Some (told_with member.told len closed) }) member
     (λ heard. known-with sent m s e from len closed at shuts member
-    (same_id-true from member.id (and_parts (same_id from member.id) (not member.lost) heard).0) old) (λ _. old))
+    (same_id-true (and_parts (same_id from member.id) (not member.lost) heard).0) old) (λ _. old))
     members all

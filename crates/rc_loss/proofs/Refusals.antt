@@ -465,7 +465,7 @@ module _ (setup : Setup) (events : List Event) (m : ServerId) (hosts : ℕ → L
       (((log_of setup events m).segments t).shut ≡ true) × Absent t)
 
   pub refused-gone : {fault : Fault} → WasReady (sent_after setup events) m → IsRefused setup events m replies fault → Refusal fault
-  refused-gone {fault} ready refused = by_factor (positive)
+  refused-gone {fault} ready refused = by_factor positive
     where
       outcome : (t : ℕ) → fault ≡ SegmentMissing t → Outcome t → Refusal fault
       outcome t same (inl gone) = inl gone
@@ -474,7 +474,7 @@ module _ (setup : Setup) (events : List Event) (m : ServerId) (hosts : ℕ → L
       by_fault : 0 < factor_of setup m.index → IsMissing fault → Refusal fault
       by_fault some (inl same) = search (arith, no-head, head_missing, least-unshut)
       by_fault some (inr (t, same)) =
-          outcome t same (segment-gone (segment_missing ((replay setup events).coordinator.least m) replies t
+          outcome t same (segment-gone (segment_missing ((replay setup events).coordinator.least m) replies
           (subst (λ (one : Fault). pick ((replay setup events).coordinator.least m) replies ≡ Err one) same refused)) some)
 
       by_factor : (factor_of setup m.index ≡ 0) ⊎ (0 < factor_of setup m.index) → Refusal fault

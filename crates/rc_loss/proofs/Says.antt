@@ -39,7 +39,7 @@ module _ (f : ℕ) (W : ℕ → ℕ → Type 0) (sent : List Message) (m : Serve
 
   lacking-holds : (seg : ℕ) (member : Member) (told : Option Told) →
       Each Holds (map (λ body. between log.own member.id body) (lacking log seg told))
-  lacking-holds seg member None = each-one Holds _ (λ never. true_false (sym never))
+  lacking-holds seg member None = each-one Holds (λ never. true_false (sym never))
   lacking-holds seg member (Some told) = search (arith, nat_lt, each-one, each-none, and_parts, eqb-true, closing-not)
 
   members-hold : (seg : ℕ) (members : List Member) → Each Holds (reminds_members log seg members)
@@ -59,8 +59,7 @@ module _ (f : ℕ) (W : ℕ → ℕ → Type 0) (sent : List Message) (m : Serve
   shut-holds before [] = each-none Holds
   shut-holds before (seg ∷ segs) = each-both Holds
       (cond ((log.segments seg).shut && not (log.segments seg).freed) (reminds_shut_members log seg (standing before log seg)) [])
-      (reminds_shut before log segs)
-      (each-if Holds ((log.segments seg).shut && not (log.segments seg).freed) (reminds_shut_members log seg (standing before log seg))
+      (reminds_shut before log segs) (each-if Holds (reminds_shut_members log seg (standing before log seg))
       (λ e. each-map Holds (λ (member : Member). between log.own member.id (place_of log seg true))
       (filter (λ (member : Member). not (is_some member.told)) (standing before log seg))
       (λ member among _. (p.each seg).next (and_parts (log.segments seg).shut (not (log.segments seg).freed) e).0)))

@@ -70,7 +70,7 @@ module _ (f : ℕ) (W : ℕ → ℕ → Type 0) (m : ServerId) where
     begins-opens master digest {ids} seg chosen may =
         begins-by master (with_log master (opens_head master.log digest ids)) (places_head (opens_head master.log digest ids))
         (λ sent more good. opens-put f W sent m digest ids
-        (choose-length seg master.log.own master.log.factor master.known ids chosen ∙ good.factor) may good)
+        (choose-length seg master.log.own master.known chosen ∙ good.factor) may good)
         (λ sent good. whole-claims sent (opens_head master.log digest ids) (master.log.head + 1) false _ (λ never. true_false (sym never)))
 
     pub begins-rolls : (master : Master) → Rolls Begins master
@@ -95,18 +95,17 @@ module _ (f : ℕ) (W : ℕ → ℕ → Type 0) (m : ServerId) where
     begins-appends master entry client =
         begins-by master (appends_entry master entry client).0 (appends_entry master entry client).1
         (λ sent more good. alike-put f W sent m (with_entry entry client (head_of master.log)) good refl refl refl)
-        (λ sent good. each-to_ids (λ message. Claims _ (Some_placed W 1) W message.body) master.log.own
-        (ids_of (not_lost (head_of master.log).config.members))
-        (Append master.log.head (length (head_of master.log).entries) (entry ∷ [])) (λ id _. tt))
+        (λ sent good. each-to_ids (λ message. Claims _ (Some_placed W 1) W message.body)
+        (ids_of (not_lost (head_of master.log).config.members)) (λ id _. tt))
 
     pub begins-taken : (master : Master) (from : Addr) (says : Body) → In (record { from = from; to = Server m; body = says }) known →
         ((x : ServerId) (s e len : ℕ) (closed : Bool) → In (between x m (Stored s e len closed)) known → closed ≡ true →
         HasClosed known m s) → Taken Begins master from says
     begins-taken master from says at told = record {
-      refuses = λ one fault. begins-same one one _ refl (λ log. each-one _ _ tt);
+      refuses = λ one fault. begins-same one one _ refl (λ log. each-one _ tt);
       rolls = begins-rolls master;
       writes = λ term table key value is owned writing room. begins-appends master _ true;
-      reads = λ term table key is owned. begins-same master master _ refl (λ log. each-one _ _ tt);
+      reads = λ term table key is owned. begins-same master master _ refl (λ log. each-one _ tt);
       lists = λ version rows is newer. begins-same master (record master { known = from_rows version rows }) [] refl quiet-none;
       stores = λ teller seg epoch len closed is tells. begins-by master
           (with_log master (stored seg teller epoch len closed master.log)) []
@@ -134,7 +133,7 @@ module _ (f : ℕ) (W : ℕ → ℕ → Type 0) (m : ServerId) where
 
     pub begins-ticked : Ticked Begins
     begins-ticked = record {
-      enlists = λ master. begins-same master master _ refl (λ log. each-one _ _ tt);
+      enlists = λ master. begins-same master master _ refl (λ log. each-one _ tt);
       reminds = λ before master. begins-by master master (reminds before master).1 (λ sent more good. good)
           (λ sent good. reminds-hold W before master good);
     }

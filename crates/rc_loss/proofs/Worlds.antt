@@ -147,7 +147,7 @@ module _ (setup : Setup) (events : List Event) (one : Event) (p : LossFacts setu
         kept stay = inl (record {
           replica = stands.replica;
           kept = subst (λ (backup : Backup). replica_of s (backup.held m).replicas ≡ Some stands.replica) (sym start.backup)
-              (stay-found (stays start.kept m) old.replicas s stands.replica stands.kept stay);
+              (stay-found (stays start.kept m) old.replicas stands.kept stay);
           epoch = stands.epoch;
           enough = stands.enough;
           closed_too = stands.closed_too;
@@ -191,4 +191,4 @@ facts-from {setup} {past} (one ∷ events) p =
     (facts-from events (facts-step setup past one p))
 
 pub loss-facts : (setup : Setup) (events : List Event) → LossFacts setup events (replay setup events)
-loss-facts setup events = facts-from events (facts-opening)
+loss-facts setup events = facts-from events facts-opening

@@ -118,11 +118,10 @@ same-opened log digest ids = record { places = places; durable = refl; opened = 
         let fresh : Segment = new_segment (log.head + 1) digest ids in
         let new : ℕ → Segment = put log.segments (log.head + 1) fresh in
         let below : places_to new log.head ≡ places_to log.segments log.head =
-        places_to-agrees log.segments new log.head
-        (λ k most. ap (λ (s : Segment). s.entries)
-        (put-other log.segments (log.head + 1) fresh k (not-after log.head k most))) in
+        places_to-agrees log.segments new log.head (λ k most. ap (λ (s : Segment). s.entries)
+        (put-other log.segments (log.head + 1) fresh (not-after log.head k most))) in
         let last : (new (suc log.head)).entries ≡ [] = ap (λ k. (new k).entries) (sym (add-one log.head)) ∙
-        ap (λ (s : Segment). s.entries) (put-same log.segments (log.head + 1) fresh) in
+        ap (λ (s : Segment). s.entries) (put-same log.segments (log.head + 1)) in
         ap (places_to new) (add-one log.head)
         ∙ (ap (λ entries. places_to new log.head ++ places_in (suc log.head) 0 entries) last
         ∙ (append-nil (places_to new log.head) ∙ below))
@@ -229,8 +228,7 @@ possible-writes log e = by (is_writing log.phase) refl
   where
     by : (b : Bool) → is_writing log.phase ≡ b → is_writing log.phase ≡ true
     by true is = is
-    by false is = let rolling : append_fault log ≡ Some Rolling =
-        ap (λ b. cond (not b) (Some Rolling)
+    by false is = let rolling : append_fault log ≡ Some Rolling = ap (λ b. cond (not b) (Some Rolling)
         (cond (not (is_full log)) None (cond (nat_lt log.head LAST_SEGMENT) (Some Rolling) (Some LogFull)))) is in cc
 
 -- what was replayed, by the marks of its places

@@ -66,8 +66,7 @@ In-insert_once_old k n (m ∷ ms) at =
 
 In-from_insert_once : (k n : ℕ) (ms : List ℕ) → In k (insert_once n ms) → (k ≡ n) ⊎ In k ms
 In-from_insert_once k n [] at = at
-In-from_insert_once k n (m ∷ ms) at =
-    either (λ ks. In k ks → (k ≡ n) ⊎ In k (m ∷ ms)) (nat_lt n m) (n ∷ m ∷ ms)
+In-from_insert_once k n (m ∷ ms) at = either (λ ks. In k ks → (k ≡ n) ⊎ In k (m ∷ ms)) (nat_lt n m) (n ∷ m ∷ ms)
     (cond (nat_eq n m) (m ∷ ms) (m ∷ insert_once n ms)) (λ _ new. new) (λ _.
     either (λ ks. In k ks → (k ≡ n) ⊎ In k (m ∷ ms)) (nat_eq n m) (m ∷ ms) (m ∷ insert_once n ms) (λ _ old. inr old)
     (λ _ new. after (In-from_insert_once k n ms) new)) at
@@ -145,15 +144,12 @@ IsStrictlyIncreasing-ascending (n ∷ m ∷ ms) up (suc k) inside =
     let further : suc k + 1 ≡ suc (k + 1) = omega arith in rw further (IsStrictlyIncreasing-ascending (m ∷ ms) up.1 k (omega arith))
 
 -- what a sort and a `dedup` leave
-pub ascending-sorted : (digest sorted : List ℕ) → IsPermutation digest sorted → IsSorted nat_cmp sorted →
+pub ascending-sorted : {digest sorted : List ℕ} → IsPermutation digest sorted → IsSorted nat_cmp sorted →
     dedup eqb sorted ≡ ascending digest
-ascending-sorted digest sorted moved up =
-    same_from_in (dedup eqb sorted) (ascending digest)
-    (IsAscending-increasing (dedup eqb sorted) (IsStrictlyIncreasing-dedup sorted up))
-    (IsAscending-ascending digest)
+ascending-sorted {digest} {sorted} moved up = same_from_in (dedup eqb sorted) (ascending digest)
+    (IsAscending-increasing (dedup eqb sorted) (IsStrictlyIncreasing-dedup sorted up)) (IsAscending-ascending digest)
     (λ k at. In-ascending k digest
     (In-contains k digest (Contains-permutation sorted digest k (IsPermutation-sym digest sorted moved)
     (Contains-from_dedup eqb sorted k (Contains-in k (dedup eqb sorted) at)))))
-    (λ k at. In-contains k (dedup eqb sorted)
-    (Contains-dedup_nat sorted k
+    (λ k at. In-contains k (dedup eqb sorted) (Contains-dedup_nat sorted k
     (Contains-permutation digest sorted k moved (Contains-in k digest (In-from_ascending k digest at)))))

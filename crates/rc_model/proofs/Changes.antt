@@ -1,11 +1,11 @@
 -- How members change, and what a roll opens.
 use Rattle.std.proofs.Common.{◌≡◌, ℕ, zero, suc, ◌+◌, Bool, true, false, not, ◌||◌, nat_eq, nat_lt, List, [], ◌∷◌, ◌++◌, map, filter}
-use Rattle.std.proofs.Common.{Option, Some, None, Result, Ok, Err, slice_get, refl, sym, ap, ◌∙◌, subst}
+use Rattle.std.proofs.Common.{Option, Some, None, Result, Ok, Err, slice_get, refl, sym, ap, ◌∙◌, subst, arith}
 use Rattle.std.specs.List.{list_any}
 use Rattle.rc_model.specs.Heads.{opened_on}
-use Rattle.rc_model.specs.Model.{ServerId, Fault, EpochsExhausted, LogFull, Member, LAST_SEGMENT, LAST_EPOCH, ServerList, Config}
-use Rattle.rc_model.specs.Model.{new_member, changed, changes_to, replaced, with_lost, any_lost, substitutes_for, lose, noted, choose}
-use Rattle.rc_model.specs.Model.{Segment, new_segment, Log, head_of, next_digest, begin_roll, Master, dead_segments}
+use Rattle.rc_model.specs.Model.{ServerId, Fault, LogFull, Member, LAST_SEGMENT, ServerList, Config}
+use Rattle.rc_model.specs.Model.{new_member, changes_to, lose, noted, choose}
+use Rattle.rc_model.specs.Model.{Segment, Log, head_of, next_digest, begin_roll, Master, dead_segments}
 use Rattle.rc_model.proofs.Tests.{either, true_false}
 use Rattle.rc_model.proofs.Tables.{put-same}
 
@@ -14,9 +14,7 @@ fresh-untold : (members : List Member) (k : ℕ) (member : Member) →
     slice_get (map (λ (one : Member). new_member one.id) members) k ≡ Some member →
     (member.told ≡ None) × (member.lost ≡ false)
 fresh-untold [] k member found = cc
-fresh-untold (one ∷ others) zero member found =
-    let same : new_member one.id ≡ member = cc in
-    (ap (λ (m : Member). m.told) (sym same), ap (λ (m : Member). m.lost) (sym same))
+fresh-untold (one ∷ others) zero member found = search arith
 fresh-untold (one ∷ others) (suc k) member found = fresh-untold others k member found
 
 -- a config as it is right after a change from another
@@ -28,22 +26,17 @@ pub record Fresh (old new : Config) : Type 0 where
 abbrev FreshIfChanged : Config → Config × Result Bool Fault → Type 0
 FreshIfChanged old answer = answer.1 ≡ Ok true → Fresh old answer.0
 
-fresh-changed : (old marked : Config) (found : Option (List ServerId)) → marked.epoch ≡ old.epoch →
+fresh-changed : {old : Config} (marked : Config) (found : Option (List ServerId)) → marked.epoch ≡ old.epoch →
     FreshIfChanged old (changes_to marked found)
-fresh-changed old marked None same e = cc
-fresh-changed old marked (Some ids) same e =
-    either (FreshIfChanged old) (nat_lt marked.epoch LAST_EPOCH) (changed marked ids, Ok true) (marked, Err EpochsExhausted)
-    (λ _ _. record { epoch = ap (λ n. n + 1) same; committed = refl; untold = fresh-untold (replaced marked.members ids) }) (λ _ e. cc) e
+fresh-changed marked None same e = cc
+fresh-changed {old} marked (Some ids) same e = search (arith, either, nat_lt, fresh-untold)
 
-fresh-lose : (own : ServerId) (servers : ServerList) (old : Config) → FreshIfChanged old (lose own servers old)
-fresh-lose own servers old =
-    either (FreshIfChanged old) (any_lost (with_lost servers old).members)
-    (changes_to (with_lost servers old) (substitutes_for own servers (with_lost servers old))) (with_lost servers old, Ok false)
-    (λ _. fresh-changed old (with_lost servers old) (substitutes_for own servers (with_lost servers old)) refl) (λ _ e. cc)
+fresh-lose : (own : ServerId) (servers : ServerList) {old : Config} → FreshIfChanged old (lose own servers old)
+fresh-lose own servers {old} = search (arith, either, fresh-changed)
 
 -- a change of members begins afresh
-pub lose-fresh : (own : ServerId) (servers : ServerList) (old new : Config) → lose own servers old ≡ (new, Ok true) → Fresh old new
-lose-fresh own servers old new e = subst (FreshIfChanged old) e (fresh-lose own servers old) refl
+pub lose-fresh : (own : ServerId) (servers : ServerList) {old new : Config} → lose own servers old ≡ (new, Ok true) → Fresh old new
+lose-fresh own servers {old} e = subst (FreshIfChanged old) e (fresh-lose own servers) refl
 
 -- what is told under another epoch isn't noted
 pub noted-other : (from : ServerId) (epoch len : ℕ) (closed : Bool) (config : Config) →
@@ -69,13 +62,11 @@ DigestKept old answer = (began : Bool) → answer.1 ≡ Ok began → (head_of an
 
 kept-opened_on : (old : Log) (chosen : Option (List ServerId)) → DigestKept old (opened_on old (next_digest old []) chosen)
 kept-opened_on old None began e = cc
-kept-opened_on old (Some ids) began e =
-    ap (λ (s : Segment). s.digest) (put-same old.segments (old.head + 1) (new_segment (old.head + 1) (next_digest old []) ids))
+kept-opened_on old (Some ids) began e = ap (λ (s : Segment). s.digest) (put-same old.segments (old.head + 1))
     ∙ ap (λ segs. segs ++ (old.head + 1) ∷ []) (all-stay old.head (head_of old).digest)
 
 kept-begun : (old : Log) (servers : ServerList) → DigestKept old (begin_roll servers [] old)
-kept-begun old servers =
-    either (DigestKept old) (nat_lt old.head LAST_SEGMENT)
+kept-begun old servers = either (DigestKept old) (nat_lt old.head LAST_SEGMENT)
     (opened_on old (next_digest old []) (choose (old.head + 1) old.own old.factor servers)) (old, Err LogFull)
     (λ _. kept-opened_on old (choose (old.head + 1) old.own old.factor servers)) (λ _ began e. cc)
 
@@ -83,8 +74,4 @@ kept-begun old servers =
 pub rolls-keep : (master : Master) (log : Log) (began : Bool) → master.free ≡ false →
     begin_roll master.known (dead_segments master) master.log ≡ (log, Ok began) →
     (head_of log).digest ≡ (head_of master.log).digest ++ (master.log.head + 1) ∷ []
-rolls-keep master log began keeps e =
-    let none : dead_segments master ≡ [] = rw keeps refl in
-    let kept : DigestKept master.log (begin_roll master.known (dead_segments master) master.log) =
-    subst (λ dead. DigestKept master.log (begin_roll master.known dead master.log)) (sym none) (kept-begun master.log master.known) in
-    subst (DigestKept master.log) e kept began refl
+rolls-keep master log began keeps e = search (arith, kept-begun)

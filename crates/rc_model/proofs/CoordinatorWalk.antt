@@ -1,6 +1,6 @@
 -- One walk over the rules of the coordinator: what holds of each single rule holds of its whole steps.
-use Rattle.std.proofs.Common.{◌≡◌, ℕ, suc, ◌+◌, ◌-◌, not, Bool, true, false, cond, nat_eq, ◌&&◌, List, [], ◌∷◌, ◌++◌, filter}
-use Rattle.std.proofs.Common.{slice_get, Option, Some, None, Result, Ok, Err, refl, sym, ap, ◌∙◌, subst, arith}
+use Rattle.std.proofs.Common.{◌≡◌, ℕ, suc, ◌+◌, not, Bool, true, false, cond, nat_eq, ◌&&◌, List, [], ◌∷◌, ◌++◌, filter}
+use Rattle.std.proofs.Common.{slice_get, Option, Some, None, Result, Ok, Err, refl, ◌∙◌, subst, arith}
 use Rattle.std.proofs.lemmas.Bool.{and_parts, not-false}
 use Rattle.std.proofs.lemmas.Bool.Decides.{nat_tests}
 use Rattle.std.proofs.lemmas.List.{append-nil}
@@ -11,7 +11,7 @@ use Rattle.rc_model.specs.Model.{Commit, CommitOk, Replicas, Recovered, Gather, 
 use Rattle.rc_model.specs.Model.{coordinator_refuses, coordinator_tells, is_up, has_crashed, is_newest, enlisted, up, holds, has_table}
 use Rattle.rc_model.specs.Model.{tablet_of, split_at, marked_crashed, has_range, assigned, pick, greater_pair, Attempt, Decision}
 use Rattle.rc_model.specs.Model.{has_answered, is_gathering, parts_of, plan_message, plan_messages, refuses_server}
-use Rattle.rc_model.specs.Model.{list_body, spreads_list, begins_attempt, has_tablets, begins_if_needed, attempt_at, with_attempt}
+use Rattle.rc_model.specs.Model.{list_body, spreads_list, begins_attempt, begins_if_needed, attempt_at, with_attempt}
 use Rattle.rc_model.specs.Model.{up_of_host, follows_generation, enlists, notes_ready, with_crashed, suspects, spreads_then_begins}
 use Rattle.rc_model.specs.Model.{commits_pair, is_current, with_answer, keeps_answer_in, ready_ids, decision_of, decides_on, decides_with}
 use Rattle.rc_model.specs.Model.{decides_attempt, own_body, grant_of, grant_to, part_of_sender, grants_part}
@@ -36,8 +36,7 @@ is_lack _ = false
 
 -- what a split does, given why it can't be made, if so
 abbrev splits_unless : Coordinator → ℕ → ℕ → Option Fault → Coordinator × List Message
-splits_unless c table at fault =
-    option_map_or (λ why. (c, coordinator_refuses why ∷ [])) fault
+splits_unless c table at fault = option_map_or (λ why. (c, coordinator_refuses why ∷ [])) fault
     (record c { tablets = split_at table at c.tablets }, coordinator_tells (SplitOk table at) ∷ [])
 
 -- a part that is asked for, and wasn't granted
@@ -59,16 +58,9 @@ pub record Stays (c : Coordinator) (H : Addr → Body → Type 0) (M : Coordinat
   pub ticks : M (c, coordinator_ticks c)
 
 -- whatever is sent
-pub any-stays : (c : Coordinator) (H : Addr → Body → Type 0) (M : Coordinator × List Message → Type 0) →
+pub any-stays : {c : Coordinator} (H : Addr → Body → Type 0) (M : Coordinator × List Message → Type 0) →
     ((messages : List Message) → M (c, messages)) → Stays c H M
-any-stays c H M any = record {
-  refuses = λ fault. any (coordinator_refuses fault ∷ []);
-  denies = λ id fault other. any (refuses_server id fault ∷ []);
-  lists = λ id. any (from_coordinator id (list_body c.servers) ∷ []);
-  repeats = λ id term grant is found. any (from_coordinator id (own_body grant) ∷ []);
-  lacks = λ id number term part is none. any (refuses_server id NoTable ∷ []);
-  ticks = any (coordinator_ticks c);
-}
+any-stays {c} H M any = search arith
 
 -- where it changes: N holds before an attempt may begin
 pub record Moves (c : Coordinator) (H : Addr → Body → Type 0) (N M : Coordinator × List Message → Type 0) : Type 0 where
@@ -128,46 +120,30 @@ holds-found table at (first ∷ tablets) one e =
 
 -- the attempt of a number
 attempt-found : (c : Coordinator) (k : ℕ) → attempt_at c (1 + k) ≡ slice_get c.attempts k
-attempt-found c k =
-    ap (λ b. cond b None (slice_get c.attempts (1 + k - 1))) (above k) ∙ ap (slice_get c.attempts) (back k)
-  where
-    above : (n : ℕ) → nat_eq (1 + n) 0 ≡ false
-    above n = grind (arith, nat_tests)
-
-    back : (n : ℕ) → 1 + n - 1 ≡ n
-    back n = omega arith
+attempt-found c k = search (arith, slice_get, nat_eq, nat_tests)
 
 -- The walk
 
 module _ (c : Coordinator) (H : Addr → Body → Type 0) (N M : Coordinator × List Message → Type 0) (s : Stays c H M)
     (w : Moves c H N M) where
-  walked-begins : (new : Coordinator) (messages : List Message) (master : ServerId) → N (new, messages) →
+  walked-begins : {new : Coordinator} {messages : List Message} (master : ServerId) → N (new, messages) →
       M ((begins_if_needed new master).0, messages ++ (begins_if_needed new master).1)
-  walked-begins new messages master n =
-      either (λ (after : Coordinator × List Message). M (after.0, messages ++ after.1))
-      (has_crashed new.servers master && has_tablets new master) (begins_attempt new master) (new, [])
-      (λ both. w.begins new messages master n (and_parts (has_crashed new.servers master) (has_tablets new master) both).0)
-      (λ _. subst (λ all. M (new, all)) (sym (append-nil messages)) (w.done new messages n))
+  walked-begins {new} {messages} master n = search (arith, either, and_parts, append-nil)
 
   pub walked-suspects : (id : ServerId) → M (suspects c id)
   walked-suspects id =
       either M (is_up c.servers id) (spreads_then_begins (with_crashed c id) id) (begins_if_needed c id)
-      (λ is. walked-begins (with_crashed c id) (spreads_list (with_crashed c id).servers) id (w.crashes id is))
-      (λ _. walked-begins c [] id w.same)
+      (λ is. walked-begins id (w.crashes id is)) (λ _. walked-begins id w.same)
 
   walked-follows : (id : ServerId) (older : Option ServerId) → up_of_host id.index c.servers ≡ older →
       M (follows_generation (record c { servers = enlisted id c.servers }) older)
   walked-follows id None is = w.done (record c { servers = enlisted id c.servers }) (spreads_list (enlisted id c.servers)) (w.enlists id is)
-  walked-follows id (Some older) is =
-      walked-begins (record c { servers = enlisted id c.servers; tablets = marked_crashed older c.tablets })
-      (spreads_list (enlisted id c.servers)) older (w.replaces id older is)
+  walked-follows id (Some older) is = walked-begins older (w.replaces id older is)
 
   walked-enlists : (id : ServerId) → M (enlists c id)
-  walked-enlists id =
-      either M (is_up c.servers id) (c, from_coordinator id (list_body c.servers) ∷ [])
+  walked-enlists id = either M (is_up c.servers id) (c, from_coordinator id (list_body c.servers) ∷ [])
       (cond (is_newest id c.servers.rows) (follows_generation (record c { servers = enlisted id c.servers })
-      (up_of_host id.index c.servers)) (c, refuses_server id StaleGeneration ∷ []))
-      (λ _. s.lists id)
+      (up_of_host id.index c.servers)) (c, refuses_server id StaleGeneration ∷ [])) (λ _. s.lists id)
       (λ _. either M (is_newest id c.servers.rows)
       (follows_generation (record c { servers = enlisted id c.servers }) (up_of_host id.index c.servers))
       (c, refuses_server id StaleGeneration ∷ [])
@@ -178,71 +154,52 @@ module _ (c : Coordinator) (H : Addr → Body → Type 0) (N M : Coordinator × 
       either M (is_up c.servers id) (record c { ready = put_id c.ready id true }, []) (c, refuses_server id Deposed ∷ [])
       (λ _. w.readies id) (λ _. s.denies id Deposed refl)
 
-  walked-commits : (id : ServerId) (pair : Pair) → H (Server id) (Commit pair.seg pair.epoch) → M (commits_pair c id pair)
-  walked-commits id pair h =
-      either M (is_up c.servers id) (
-        record c { least = put_id c.least id (greater_pair (c.least id) pair) },
-        from_coordinator id (CommitOk pair.seg pair.epoch) ∷ [],
-      ) (c, refuses_server id Deposed ∷ []) (w.commits id pair h) (λ _. s.denies id Deposed refl)
+  walked-commits : {id : ServerId} {pair : Pair} → H (Server id) (Commit pair.seg pair.epoch) → M (commits_pair c id pair)
+  walked-commits {id} {pair} h = either M (is_up c.servers id) (
+    record c { least = put_id c.least id (greater_pair (c.least id) pair) },
+    from_coordinator id (CommitOk pair.seg pair.epoch) ∷ [],
+  ) (c, refuses_server id Deposed ∷ []) (w.commits id pair h) (λ _. s.denies id Deposed refl)
 
-  walked-keeps : (from : ServerId) (number : ℕ) (rows : List Row) (found : Option Attempt) → attempt_at c number ≡ found →
+  walked-keeps : {from : ServerId} {number : ℕ} {rows : List Row} (found : Option Attempt) → attempt_at c number ≡ found →
       H (Server from) (Replicas number rows) → M (option_map_or (keeps_answer_in c from number rows) found c, [])
-  walked-keeps from number rows None is h = w.done c [] w.same
-  walked-keeps from number rows (Some attempt) is h =
-      either (λ (new : Coordinator). M (new, []))
-      (is_current c number attempt && (is_gathering attempt && not (has_answered from attempt.replies)))
-      (with_attempt c number (with_answer from rows attempt)) c
-      (λ all. w.answers from number rows attempt h is (undecided-none attempt.decided
-      (and_parts (is_gathering attempt) (not (has_answered from attempt.replies))
-      (and_parts (is_current c number attempt) (is_gathering attempt && not (has_answered from attempt.replies))
-      all).1).0))
-      (λ _. w.done c [] w.same)
+  walked-keeps None is h = w.done c [] w.same
+  walked-keeps {from} {number} {rows} (Some attempt) is h = search (arith, either, undecided-none, and_parts)
 
-  walked-picks : (master : ServerId) (attempt : Attempt) (picked : Result Plan Fault) (ids : List ServerId) →
+  walked-picks : (master : ServerId) {attempt : Attempt} (picked : Result Plan Fault) (ids : List ServerId) →
       attempt_at c (c.current master) ≡ Some attempt → attempt.decided ≡ None →
       pick (c.least master) attempt.replies ≡ picked → M (decides_with c (c.current master) attempt picked ids)
-  walked-picks master attempt (Err fault) ids is undecided e = s.refuses fault
-  walked-picks master attempt (Ok plan) [] is undecided e = s.refuses NotReady
-  walked-picks master attempt (Ok plan) (id ∷ ids) is undecided e = w.decides master attempt plan id ids is undecided e
+  walked-picks master (Err fault) ids is undecided e = s.refuses fault
+  walked-picks master (Ok plan) [] is undecided e = s.refuses NotReady
+  walked-picks master {attempt} (Ok plan) (id ∷ ids) is undecided e = w.decides master attempt plan id ids is undecided e
 
   pub walked-decides : (master : ServerId) (found : Option Attempt) → attempt_at c (c.current master) ≡ found →
       M (decides_attempt c master found)
   walked-decides master None is = s.refuses StaleAttempt
-  walked-decides master (Some attempt) is =
-      either M (is_gathering attempt)
+  walked-decides master (Some attempt) is = either M (is_gathering attempt)
       (decides_with c (c.current master) attempt (pick (c.least master) attempt.replies) (ready_ids c))
       (c, coordinator_refuses StaleAttempt ∷ [])
-      (λ e. walked-picks master attempt (pick (c.least master) attempt.replies) (ready_ids c) is
-      (undecided-none attempt.decided e) refl)
-      (λ _. s.refuses StaleAttempt)
+      (λ e. walked-picks master (pick (c.least master) attempt.replies) (ready_ids c) is
+      (undecided-none attempt.decided e) refl) (λ _. s.refuses StaleAttempt)
 
-  walked-part : (id : ServerId) (number term : ℕ) (part : Part) → IsAsked c H id number term part → M (grants_part c id number part)
-  walked-part id number term part is =
-      either M (has_range part.range c.tablets) (
-        record c {
-          tablets = assigned part.range id part.term c.tablets;
-          grants = c.grants ++ grant_of number id part ∷ [];
-        },
-        from_coordinator id (own_body (grant_of number id part)) ∷ [],
-      )
-      (c, refuses_server id NoTable ∷ []) (w.grants id number term part is) (s.lacks id number term part is)
+  walked-part : {id : ServerId} {number term : ℕ} {part : Part} → IsAsked c H id number term part → M (grants_part c id number part)
+  walked-part {id} {number} {term} {part} is = search (arith, either)
 
-  walked-given : (id : ServerId) (number term : ℕ) (part : Option Part) → H (Server id) (Recovered number term) →
+  walked-given : {id : ServerId} {number term : ℕ} (part : Option Part) → H (Server id) (Recovered number term) →
       is_up c.servers id ≡ true → grant_to c id term ≡ None → part_of_sender c id number term ≡ part →
       M (by_part c id number part)
-  walked-given id number term None h is none found = s.denies id StaleAttempt refl
-  walked-given id number term (Some part) h is none found =
-      walked-part id number term part (record { heard = h; up = is; ungranted = none; found = found })
+  walked-given {id} None h is none found = s.denies id StaleAttempt refl
+  walked-given (Some part) h is none found =
+      walked-part (record { heard = h; up = is; ungranted = none; found = found })
 
-  walked-grants : (id : ServerId) (number term : ℕ) (grant : Option Grant) → H (Server id) (Recovered number term) →
+  walked-grants : {id : ServerId} {number term : ℕ} (grant : Option Grant) → H (Server id) (Recovered number term) →
       is_up c.servers id ≡ true → grant_to c id term ≡ grant → M (by_grant c id number term grant)
-  walked-grants id number term (Some grant) h is found = s.repeats id term grant is found
-  walked-grants id number term None h is found = walked-given id number term (part_of_sender c id number term) h is found refl
+  walked-grants {id} {term} (Some grant) h is found = s.repeats id term grant is found
+  walked-grants {id} {number} {term} None h is found = walked-given (part_of_sender c id number term) h is found refl
 
-  walked-recovered : (id : ServerId) (number term : ℕ) → H (Server id) (Recovered number term) → M (takes_recovered c id number term)
-  walked-recovered id number term h =
+  walked-recovered : {id : ServerId} {number term : ℕ} → H (Server id) (Recovered number term) → M (takes_recovered c id number term)
+  walked-recovered {id} {number} {term} h =
       either M (is_up c.servers id) (by_grant c id number term (grant_to c id term)) (c, refuses_server id Deposed ∷ [])
-      (λ is. walked-grants id number term (grant_to c id term) h is refl) (λ _. s.denies id Deposed refl)
+      (λ is. walked-grants (grant_to c id term) h is refl) (λ _. s.denies id Deposed refl)
 
   pub walked-creates : (table : ℕ) (owner : ServerId) → M (creates c table owner)
   walked-creates table owner =
@@ -254,8 +211,7 @@ module _ (c : Coordinator) (H : Addr → Body → Type 0) (N M : Coordinator × 
       (cond (is_too_many c.tablets) (c, coordinator_refuses TooManyTablets ∷ []) (creates_table c table owner))
       (λ _. s.refuses TableExists)
       (λ fresh. either M (is_too_many c.tablets) (c, coordinator_refuses TooManyTablets ∷ []) (creates_table c table owner)
-      (λ _. s.refuses TooManyTablets)
-      (w.creates table owner (and_parts (is_up c.servers owner) (c.ready owner)
+      (λ _. s.refuses TooManyTablets) (w.creates table owner (and_parts (is_up c.servers owner) (c.ready owner)
       (not-false (is_up c.servers owner && c.ready owner) able)).0 fresh)))
 
   pub walked-splits : (table at : ℕ) (found : Option Tablet) → tablet_of c.tablets table at ≡ found →
@@ -266,19 +222,17 @@ module _ (c : Coordinator) (H : Addr → Body → Type 0) (N M : Coordinator × 
       (cond tablet.crashed (Some Recovering) (cond (is_too_many c.tablets) (Some TooManyTablets) None))
       (λ _. s.refuses BadSplit)
       (λ inside. either (λ (fault : Option Fault). M (splits_unless c table at fault)) tablet.crashed (Some Recovering)
-      (cond (is_too_many c.tablets) (Some TooManyTablets) None)
-      (λ _. s.refuses Recovering)
+      (cond (is_too_many c.tablets) (Some TooManyTablets) None) (λ _. s.refuses Recovering)
       (λ unmarked. either (λ (fault : Option Fault). M (splits_unless c table at fault)) (is_too_many c.tablets)
-      (Some TooManyTablets) None
-      (λ _. s.refuses TooManyTablets)
+      (Some TooManyTablets) None (λ _. s.refuses TooManyTablets)
       (w.splits table at tablet is (holds-found table at c.tablets tablet is) inside unmarked)))
 
   pub walked-takes : (from : Addr) (body : Body) → H from body → M (coordinator_takes c from body)
   walked-takes (Server from) Enlist h = walked-enlists from
   walked-takes (Server from) Ready h = walked-ready from
-  walked-takes (Server from) (Commit seg epoch) h = walked-commits from (record { seg = seg; epoch = epoch }) h
-  walked-takes (Server from) (Replicas attempt rows) h = walked-keeps from attempt rows (attempt_at c attempt) refl h
-  walked-takes (Server from) (Recovered attempt term) h = walked-recovered from attempt term h
+  walked-takes (Server from) (Commit seg epoch) h = walked-commits h
+  walked-takes (Server from) (Replicas attempt rows) h = walked-keeps (attempt_at c attempt) refl h
+  walked-takes (Server from) (Recovered attempt term) h = walked-recovered h
   walked-takes from body h = w.done c [] w.same
 
   pub walked-step : (work : NodeWork) → ((message : Message) → work ≡ Deliver message → H message.from message.body) →
@@ -293,25 +247,24 @@ module _ (c : Coordinator) (H : Addr → Body → Type 0) (N M : Coordinator × 
 
 -- Messages of several kinds
 
-pub each-to : (P : Message → Type 0) (body : Body) → ((id : ServerId) → P (from_coordinator id body)) → (ids : List ServerId) →
+pub each-to : (P : Message → Type 0) {body : Body} → ((id : ServerId) → P (from_coordinator id body)) → (ids : List ServerId) →
     Each P (to_each ids body)
-each-to P body p [] = each-none P
-each-to P body p (id ∷ ids) = each-more P (from_coordinator id body) (to_each ids body) (p id) (each-to P body p ids)
+each-to P p [] = each-none P
+each-to P {body} p (id ∷ ids) = each-more P (to_each ids body) (p id) (each-to P p ids)
 
 -- the plans of a decision: each has some parts of its addressee
-pub each-plans : (P : Message → Type 0) (number : ℕ) (master : ServerId) (decision : Decision) →
+pub each-plans : (P : Message → Type 0) {number : ℕ} {master : ServerId} (decision : Decision) →
     ((id : ServerId) (part : Part) (parts : List Part) → parts_of id decision.parts ≡ part ∷ parts →
     P (from_coordinator id (PlanBody decision.plan.head number master decision.plan.rows (part ∷ parts)))) →
     (ids : List ServerId) → Each P (plan_messages number master decision ids)
-each-plans P number master decision p [] = each-none P
-each-plans P number master decision p (id ∷ ids) =
+each-plans P decision p [] = each-none P
+each-plans P {number} {master} decision p (id ∷ ids) =
     each-both P (plan_message number master decision.plan id (parts_of id decision.parts)) (plan_messages number master decision ids)
-    (one (parts_of id decision.parts) refl) (each-plans P number master decision p ids)
+    (one (parts_of id decision.parts) refl) (each-plans P decision p ids)
   where
     one : (parts : List Part) → parts_of id decision.parts ≡ parts → Each P (plan_message number master decision.plan id parts)
     one [] e = each-none P
-    one (part ∷ parts) e =
-        each-one P (from_coordinator id (PlanBody decision.plan.head number master decision.plan.rows (part ∷ parts))) (p id part parts e)
+    one (part ∷ parts) e = each-one P (p id part parts e)
 
 -- what the timer says again
 pub record Again (c : Coordinator) (P : Message → Type 0) : Type 0 where
@@ -324,13 +277,11 @@ pub record Again (c : Coordinator) (P : Message → Type 0) : Type 0 where
       P (from_coordinator id (PlanBody decision.plan.head number attempt.master decision.plan.rows (part ∷ parts)))
 
 module _ (c : Coordinator) (P : Message → Type 0) (a : Again c P) where
-  each-asks : (number : ℕ) (attempt : Attempt) (decided : Option Decision) → attempt_at c number ≡ Some attempt →
+  each-asks : (number : ℕ) {attempt : Attempt} (decided : Option Decision) → attempt_at c number ≡ Some attempt →
       attempt.decided ≡ decided → Each P (asks_again c number attempt decided)
-  each-asks number attempt None is e =
-      each-to P (Gather number attempt.master) (λ id. a.gathers number attempt id is)
+  each-asks number {attempt} None is e = each-to P (λ id. a.gathers number attempt id is)
       (filter (λ id. not (has_answered id attempt.replies)) (up c.servers))
-  each-asks number attempt (Some decision) is e =
-      each-plans P number attempt.master decision (a.plans number attempt decision is e)
+  each-asks number {attempt} (Some decision) is e = each-plans P decision (a.plans number attempt decision is e)
       (filter (has_open_part c decision) (up c.servers))
 
   -- of the last attempts, from this number on
@@ -340,9 +291,8 @@ module _ (c : Coordinator) (P : Message → Type 0) (a : Again c P) where
   each-asks_of [] number found = each-none P
   each-asks_of (attempt ∷ attempts) number found =
       each-both P (cond (is_current c number attempt) (asks_again c number attempt attempt.decided) [])
-      (asks_again_of c (number + 1) attempts)
-      (each-if P (is_current c number attempt) (asks_again c number attempt attempt.decided)
-      (λ _. each-asks number attempt attempt.decided first refl))
+      (asks_again_of c (number + 1) attempts) (each-if P (asks_again c number attempt attempt.decided)
+      (λ _. each-asks number attempt.decided first refl))
       (each-asks_of attempts (number + 1) (λ k one e. (let place : number + suc k ≡ number + 1 + k = omega arith in
       subst (λ n. attempt_at c n ≡ Some one) place (found (suc k) one e))))
     where
@@ -350,7 +300,5 @@ module _ (c : Coordinator) (P : Message → Type 0) (a : Again c P) where
       first = let place : number + 0 ≡ number = omega arith in subst (λ n. attempt_at c n ≡ Some attempt) place (found 0 attempt refl)
 
   pub each-ticks : Each P (coordinator_ticks c)
-  each-ticks =
-      each-both P (spreads_list c.servers) (asks_again_of c 1 c.attempts)
-      (each-to P (list_body c.servers) a.lists (up c.servers))
+  each-ticks = each-both P (spreads_list c.servers) (asks_again_of c 1 c.attempts) (each-to P a.lists (up c.servers))
       (each-asks_of c.attempts 1 (λ k attempt e. attempt-found c k ∙ e))

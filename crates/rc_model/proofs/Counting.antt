@@ -10,10 +10,10 @@ abbrev pub Narrower : {X : Type 0} → (X → Bool) → (X → Bool) → Type 0
 Narrower {X} wide narrow = (x : X) → narrow x ≡ true → wide x ≡ true
 
 -- then no more pass the second
-pub filter-fewer : {X : Type 0} (wide narrow : X → Bool) (xs : List X) → Narrower wide narrow →
+pub filter-fewer : {X : Type 0} {wide narrow : X → Bool} (xs : List X) → Narrower wide narrow →
     length (filter narrow xs) ≤ length (filter wide xs)
-filter-fewer wide narrow [] less = omega arith
-filter-fewer wide narrow (x ∷ xs) less = by (narrow x) refl (wide x) refl (filter-fewer wide narrow xs less)
+filter-fewer [] less = omega arith
+filter-fewer {wide} {narrow} (x ∷ xs) less = by (narrow x) refl (wide x) refl (filter-fewer xs less)
   where
     by : (b : Bool) → narrow x ≡ b → (t : Bool) → wide x ≡ t → length (filter narrow xs) ≤ length (filter wide xs) →
         length (cond b (x ∷ filter narrow xs) (filter narrow xs)) ≤ length (cond t (x ∷ filter wide xs) (filter wide xs))
@@ -23,12 +23,12 @@ filter-fewer wide narrow (x ∷ xs) less = by (narrow x) refl (wide x) refl (fil
     by false n false w rest = rest
 
 -- and fewer, where one that was found passes the first alone
-pub filter-lower : {X : Type 0} (test wide narrow : X → Bool) (xs : List X) (found : X) → Narrower wide narrow →
+pub filter-lower : {X : Type 0} (test : X → Bool) {wide narrow : X → Bool} (xs : List X) {found : X} → Narrower wide narrow →
     wide found ≡ true → narrow found ≡ false → find test xs ≡ Some found →
     length (filter narrow xs) < length (filter wide xs)
-filter-lower test wide narrow [] found less is isn't e = cc
-filter-lower test wide narrow (x ∷ xs) found less is isn't e =
-    by (test x) (narrow x) refl (wide x) refl (filter-fewer wide narrow xs less) (filter-lower test wide narrow xs found less is isn't) e
+filter-lower test [] less is isn't e = cc
+filter-lower test {wide} {narrow} (x ∷ xs) {found} less is isn't e =
+    by (test x) (narrow x) refl (wide x) refl (filter-fewer xs less) (filter-lower test xs less is isn't) e
   where
     here : (b : Bool) → narrow x ≡ b → (t : Bool) → wide x ≡ t → length (filter narrow xs) ≤ length (filter wide xs) → x ≡ found →
         length (cond b (x ∷ filter narrow xs) (filter narrow xs)) < length (cond t (x ∷ filter wide xs) (filter wide xs))
@@ -50,11 +50,10 @@ filter-lower test wide narrow (x ∷ xs) found less is isn't e =
     by false b n t w rest rec e = there b n t w (rec e)
 
 -- Of the numbers to one as many pass one test as another that agrees with it there.
-pub filter-agrees : (one other : ℕ → Bool) (n : ℕ) → ((k : ℕ) → 0 < k → k ≤ n → one k ≡ other k) →
+pub filter-agrees : {one other : ℕ → Bool} (n : ℕ) → ((k : ℕ) → 0 < k → k ≤ n → one k ≡ other k) →
     filter one (numbers_to n) ≡ filter other (numbers_to n)
-filter-agrees one other zero same = refl
-filter-agrees one other (suc n) same =
-    filter-append one (numbers_to n) (suc n ∷ [])
-    ∙ (ap (λ front. front ++ cond (one (suc n)) (suc n ∷ []) []) (filter-agrees one other n (λ k above below. same k above (omega arith)))
+filter-agrees zero same = refl
+filter-agrees {one} {other} (suc n) same = filter-append one (numbers_to n) (suc n ∷ [])
+    ∙ (ap (λ front. front ++ cond (one (suc n)) (suc n ∷ []) []) (filter-agrees n (λ k above below. same k above (omega arith)))
     ∙ (ap (λ b. filter other (numbers_to n) ++ cond b (suc n ∷ []) []) (same (suc n) (omega arith) (omega arith))
     ∙ sym (filter-append other (numbers_to n) (suc n ∷ []))))

@@ -1,11 +1,11 @@
 -- What the digest of the next head leaves out, and when a segment is dead.
-use Rattle.std.proofs.Common.{◌≡◌, ℕ, zero, suc, ◌+◌, ◌<◌, Bool, true, false, cond, not, ◌&&◌, ◌||◌, nat_eq, nat_lt, List, [], ◌∷◌, ◌++◌}
-use Rattle.std.proofs.Common.{map, filter, Option, Some, None, Result, Ok, Err, slice_get, refl, sym, ap, ◌∙◌, subst}
+use Rattle.std.proofs.Common.{◌≡◌, ℕ, zero, suc, ◌+◌, ◌<◌, Bool, true, false, cond, ◌&&◌, ◌||◌, nat_eq, nat_lt, List, [], ◌∷◌, ◌++◌}
+use Rattle.std.proofs.Common.{map, filter, Option, Some, None, Result, Ok, Err, slice_get, refl, sym, ap, ◌∙◌, subst, arith}
 use Rattle.std.specs.List.{list_any, list_all}
 use Rattle.std.proofs.lemmas.Bool.{and_parts, eqb-true, ltb-true, or_left, or_right, or_parts, not-false}
 use Rattle.rc_model.specs.Heads.{opened_on}
-use Rattle.rc_model.specs.Model.{ServerId, Entry, Fault, LogFull, LAST_SEGMENT, ServerList, choose, Segment, new_segment, Log, head_of}
-use Rattle.rc_model.specs.Model.{next_digest, begin_roll, is_of, is_outdated, is_dead, Master, durable_entries, is_dead_segment}
+use Rattle.rc_model.specs.Model.{ServerId, Entry, Fault, LogFull, LAST_SEGMENT, ServerList, choose, Log, head_of}
+use Rattle.rc_model.specs.Model.{next_digest, begin_roll, is_of, is_outdated, Master, durable_entries, is_dead_segment}
 use Rattle.rc_model.specs.Model.{dead_segments}
 use Rattle.rc_model.proofs.Tests.{either, true_false}
 use Rattle.rc_model.proofs.Tables.{put-same}
@@ -13,12 +13,12 @@ use Rattle.rc_model.proofs.Tables.{put-same}
 -- Tests over lists
 
 -- what all pass, each passes
-pub all-get : {X : Type 0} (test : X → Bool) (xs : List X) (k : ℕ) (x : X) → list_all test xs ≡ true →
+pub all-get : {X : Type 0} (test : X → Bool) (xs : List X) (k : ℕ) {x : X} → list_all test xs ≡ true →
     slice_get xs k ≡ Some x → test x ≡ true
-all-get test [] k x all found = cc
-all-get test (y ∷ ys) zero x all found =
+all-get test [] k all found = cc
+all-get test (y ∷ ys) zero {x} all found =
     let same : y ≡ x = cc in ap test (sym same) ∙ (and_parts (test y) (list_all test ys) all).0
-all-get test (y ∷ ys) (suc k) x all found = all-get test ys k x (and_parts (test y) (list_all test ys) all).1 found
+all-get test (y ∷ ys) (suc k) all found = all-get test ys k (and_parts (test y) (list_all test ys) all).1 found
 
 -- one that passes
 pub record Passes {X : Type 0} (test : X → Bool) (xs : List X) : Type 0 where
@@ -28,9 +28,9 @@ pub record Passes {X : Type 0} (test : X → Bool) (xs : List X) : Type 0 where
   pub passes : test one ≡ true
 
 -- where any passes, one does
-pub any-get : {X : Type 0} (test : X → Bool) (xs : List X) → list_any test xs ≡ true → Passes test xs
-any-get test [] any = cc
-any-get test (y ∷ ys) any = by (test y) refl any (any-get test ys)
+pub any-get : {X : Type 0} {test : X → Bool} (xs : List X) → list_any test xs ≡ true → Passes test xs
+any-get [] any = cc
+any-get {test} (y ∷ ys) any = by (test y) refl any (any-get ys)
   where
     by : (b : Bool) → test y ≡ b → b || list_any test ys ≡ true → (list_any test ys ≡ true → Passes test ys) → Passes test (y ∷ ys)
     by true is any rec = record { place = 0; one = y; found = refl; passes = is }
@@ -38,9 +38,9 @@ any-get test (y ∷ ys) any = by (test y) refl any (any-get test ys)
         let rest : Passes test ys = rec any in record { place = suc rest.place; one = rest.one; found = rest.found; passes = rest.passes }
 
 -- a number that is there and passes is there among those that pass
-kept : (test : ℕ → Bool) (n : ℕ) (ns : List ℕ) → list_any (nat_eq n) ns ≡ true → test n ≡ true → list_any (nat_eq n) (filter test ns) ≡ true
-kept test n [] there is = cc
-kept test n (m ∷ ms) there is = by (nat_eq n m) refl (test m) refl there (λ rest. kept test n ms rest is)
+kept : (test : ℕ → Bool) {n : ℕ} (ns : List ℕ) → list_any (nat_eq n) ns ≡ true → test n ≡ true → list_any (nat_eq n) (filter test ns) ≡ true
+kept test [] there is = cc
+kept test {n} (m ∷ ms) there is = by (nat_eq n m) refl (test m) refl there (λ rest. kept test ms rest is)
   where
     by : (b : Bool) → nat_eq n m ≡ b → (t : Bool) → test m ≡ t → b || list_any (nat_eq n) ms ≡ true →
         (list_any (nat_eq n) ms ≡ true → list_any (nat_eq n) (filter test ms) ≡ true) →
@@ -51,9 +51,9 @@ kept test n (m ∷ ms) there is = by (nat_eq n m) refl (test m) refl there (λ r
     by false other false fails there rec = rec there
 
 -- a number among those that pass passes
-passed : (test : ℕ → Bool) (n : ℕ) (ns : List ℕ) → list_any (nat_eq n) (filter test ns) ≡ true → test n ≡ true
-passed test n [] there = cc
-passed test n (m ∷ ms) there = by (test m) refl there (passed test n ms)
+passed : (test : ℕ → Bool) {n : ℕ} (ns : List ℕ) → list_any (nat_eq n) (filter test ns) ≡ true → test n ≡ true
+passed test [] there = cc
+passed test {n} (m ∷ ms) there = by (test m) refl there (passed test ms)
   where
     here : (b : Bool) → nat_eq n m ≡ b → test m ≡ true → b || list_any (nat_eq n) (filter test ms) ≡ true →
         (list_any (nat_eq n) (filter test ms) ≡ true → test n ≡ true) → test n ≡ true
@@ -82,19 +82,7 @@ joined-left n (k ∷ ks) ms there = by (nat_eq n k) refl there (joined-left n ks
 left-dead : (log : Log) (dead : List ℕ) (seg : ℕ) → list_any (nat_eq seg) (head_of log).digest ≡ true →
     list_any (nat_eq seg) (next_digest log dead) ≡ false →
     (list_any (nat_eq seg) dead ≡ true) × (nat_eq seg log.head ≡ false)
-left-dead log dead seg there gone = by (nat_eq seg log.head || not (list_any (nat_eq seg) dead)) refl
-  where
-    by : (b : Bool) → nat_eq seg log.head || not (list_any (nat_eq seg) dead) ≡ b →
-        (list_any (nat_eq seg) dead ≡ true) × (nat_eq seg log.head ≡ false)
-    by true stays =
-        let still : list_any (nat_eq seg) (filter (λ s. nat_eq s log.head || not (list_any (nat_eq s) dead)) (head_of log).digest) ≡ true =
-        kept (λ s. nat_eq s log.head || not (list_any (nat_eq s) dead)) seg (head_of log).digest there stays in
-        true_false (sym (joined-left seg (filter (λ s. nat_eq s log.head || not (list_any (nat_eq s) dead))
-        (head_of log).digest) ((log.head + 1) ∷ []) still) ∙ gone)
-    by false goes =
-        let parts : (nat_eq seg log.head ≡ false) × (not (list_any (nat_eq seg) dead) ≡ false) =
-        or_parts (nat_eq seg log.head) (not (list_any (nat_eq seg) dead)) goes in
-        (not-false (list_any (nat_eq seg) dead) parts.1, parts.0)
+left-dead log dead seg there gone = search (arith, nat_eq, kept, true_false, joined-left, or_parts, not-false)
 
 abbrev LeavesDead : Log → List ℕ → ℕ → Log × Result Bool Fault → Type 0
 LeavesDead old dead seg answer = (began : Bool) → answer.1 ≡ Ok began → list_any (nat_eq seg) (head_of old).digest ≡ true →
@@ -103,25 +91,16 @@ LeavesDead old dead seg answer = (began : Bool) → answer.1 ≡ Ok began → li
 leaves-opened_on : (old : Log) (dead : List ℕ) (seg : ℕ) (chosen : Option (List ServerId)) →
     LeavesDead old dead seg (opened_on old (next_digest old dead) chosen)
 leaves-opened_on old dead seg None began e there gone = cc
-leaves-opened_on old dead seg (Some ids) began e there gone =
-    let digest : (head_of (opened_on old (next_digest old dead) (Some ids)).0).digest ≡ next_digest old dead =
-    ap (λ (s : Segment). s.digest) (put-same old.segments (old.head + 1) (new_segment (old.head + 1) (next_digest old dead) ids)) in
-    left-dead old dead seg there (ap (list_any (nat_eq seg)) (sym digest) ∙ gone)
+leaves-opened_on old dead seg (Some ids) began e there gone = search (arith, put-same, left-dead, nat_eq)
 
 leaves-begun : (old : Log) (servers : ServerList) (dead : List ℕ) (seg : ℕ) → LeavesDead old dead seg (begin_roll servers dead old)
-leaves-begun old servers dead seg =
-    either (LeavesDead old dead seg) (nat_lt old.head LAST_SEGMENT)
+leaves-begun old servers dead seg = either (LeavesDead old dead seg) (nat_lt old.head LAST_SEGMENT)
     (opened_on old (next_digest old dead) (choose (old.head + 1) old.own old.factor servers)) (old, Err LogFull)
     (λ _. leaves-opened_on old dead seg (choose (old.head + 1) old.own old.factor servers)) (λ _ began e there gone. cc)
 
 -- a number in the list of the dead segments is that of a dead one
 listed-dead : (master : Master) (seg : ℕ) → list_any (nat_eq seg) (dead_segments master) ≡ true → is_dead_segment master seg ≡ true
-listed-dead master seg there = by master.free there
-  where
-    by : (b : Bool) → list_any (nat_eq seg) (cond b (filter (is_dead_segment master) (head_of master.log).digest) []) ≡
-        true → is_dead_segment master seg ≡ true
-    by true there = passed (is_dead_segment master) seg (head_of master.log).digest there
-    by false there = cc
+listed-dead master seg there = search (arith, nat_eq, passed)
 
 -- a roll leaves out dead segments alone
 pub rolls-leave : (master : Master) (log : Log) (began : Bool) (seg : ℕ) →
@@ -142,7 +121,7 @@ above : (durable : List Entry) (entry : Entry) → is_outdated durable entry ≡
     (is_of entry.term entry.table entry.key other ≡ true) × (entry.version < other.version)
 above durable entry is =
     let one : Passes (λ (other : Entry). is_of entry.term entry.table entry.key other && nat_lt entry.version other.version) durable =
-    any-get (λ (other : Entry). is_of entry.term entry.table entry.key other && nat_lt entry.version other.version) durable is in
+    any-get durable is in
     let parts : (is_of entry.term entry.table entry.key one.one ≡ true) × (nat_lt entry.version one.one.version ≡ true) =
     and_parts (is_of entry.term entry.table entry.key one.one) (nat_lt entry.version one.one.version) one.passes in
     (one.place, one.one, one.found, parts.0, ltb-true entry.version one.one.version parts.1)
@@ -152,12 +131,4 @@ pub dead-outdated : (master : Master) (seg k : ℕ) (entry : Entry) → is_dead_
     slice_get (map (λ one. one.0) (master.log.segments seg).entries) k ≡ Some entry →
     ((master.log.segments seg).shut ≡ true) × ((j : ℕ) × (other : Entry) × (slice_get (durable_entries master) j ≡ Some other)
     × (is_of entry.term entry.table entry.key other ≡ true) × (entry.version < other.version))
-dead-outdated master seg k entry dead found =
-    let parts : ((master.log.segments seg).shut ≡ true) ×
-    (is_dead (durable_entries master) (map (λ one. one.0) (master.log.segments seg).entries) ≡ true) =
-    and_parts (master.log.segments seg).shut
-    (is_dead (durable_entries master) (map (λ one. one.0) (master.log.segments seg).entries)) dead in (
-      parts.0,
-      above (durable_entries master) entry
-          (all-get (is_outdated (durable_entries master)) (map (λ one. one.0) (master.log.segments seg).entries) k entry parts.1 found),
-    )
+dead-outdated master seg k entry dead found = search (arith, and_parts, above, all-get)

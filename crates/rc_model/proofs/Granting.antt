@@ -1,12 +1,12 @@
 -- What the coordinator commits and grants.
-use Rattle.std.proofs.Common.{◌≡◌, ℕ, true, false, cond, List, [], ◌∷◌, Some, None, refl, ap, ◌∙◌, arith}
+use Rattle.std.proofs.Common.{◌≡◌, ℕ, true, false, List, [], ◌∷◌, Some, None, refl, ap, ◌∙◌, arith}
 use Rattle.std.proofs.lemmas.Bool.Decides.{nat_tests}
-use Rattle.std.specs.Prelude.{Option, option_and_then}
+use Rattle.std.specs.Prelude.{Option}
 use Rattle.std.specs.Option.{option_map_or}
 use Rattle.rc_model.specs.Model.{Part, Grant, grants_part, own_body}
-use Rattle.rc_model.specs.Model.{ServerId, Pair, Deposed, StaleAttempt, Message, CommitOk, put_id, is_up, is_below, greater_pair, Attempt}
+use Rattle.rc_model.specs.Model.{ServerId, Pair, Deposed, StaleAttempt, Message, is_up, is_below, greater_pair, Attempt}
 use Rattle.rc_model.specs.Model.{from_coordinator, refuses_server, attempt_at, commits_pair, is_current, grant_to}
-use Rattle.rc_model.specs.Model.{part_in, part_of_sender, takes_recovered}
+use Rattle.rc_model.specs.Model.{part_of_sender, takes_recovered}
 use Rattle.rc_model.specs.Coordinator.{Coordinator}
 use Rattle.rc_model.proofs.Tests.{either}
 use Rattle.rc_model.proofs.Tables.{put_id_each, put_id-same}
@@ -16,8 +16,7 @@ abbrev pub by_part : Coordinator → ServerId → ℕ → Option Part → Coordi
 by_part c id number part = option_map_or (grants_part c id number) part (c, refuses_server id StaleAttempt ∷ [])
 
 abbrev pub by_grant : Coordinator → ServerId → ℕ → ℕ → Option Grant → Coordinator × List Message
-by_grant c id number term grant =
-    option_map_or (λ one. (c, from_coordinator id (own_body one) ∷ [])) grant
+by_grant c id number term grant = option_map_or (λ one. (c, from_coordinator id (own_body one) ∷ [])) grant
     (by_part c id number (part_of_sender c id number term))
 
 -- no pair is below itself, and of two one isn't below the other
@@ -36,20 +35,13 @@ greater-right a b = either (λ p. is_below p b ≡ false) (is_below a b) b a (λ
 -- a least pair never falls
 pub least-rises : (c : Coordinator) (id other : ServerId) (pair : Pair) →
     is_below ((commits_pair c id pair).0.least other) (c.least other) ≡ false
-least-rises c id other pair =
-    either (λ (after : Coordinator × List Message). is_below (after.0.least other) (c.least other) ≡ false) (is_up c.servers id)
-    (record c { least = put_id c.least id (greater_pair (c.least id) pair) }, from_coordinator id (CommitOk pair.seg pair.epoch) ∷ [])
-    (c, refuses_server id Deposed ∷ [])
-    (λ _. put_id_each (λ one least. is_below least (c.least one) ≡ false) c.least id (greater_pair (c.least id) pair)
-    (greater-left (c.least id) pair)
-    (λ one. below-itself (c.least one)) other)
-    (λ _. below-itself (c.least other))
+least-rises c id other pair = search (arith, either, put_id_each, greater-left, below-itself)
 
 -- and is at least what is committed
 pub least-covers : (c : Coordinator) (id : ServerId) (pair : Pair) → is_up c.servers id ≡ true →
     is_below ((commits_pair c id pair).0.least id) pair ≡ false
 least-covers c id pair is =
-    rw is (ap (λ least. is_below least pair) (put_id-same c.least id (greater_pair (c.least id) pair)) ∙ greater-right (c.least id) pair)
+    rw is (ap (λ least. is_below least pair) (put_id-same c.least id) ∙ greater-right (c.least id) pair)
 
 -- who isn't up is refused
 pub commit-refused : (c : Coordinator) (id : ServerId) (pair : Pair) → is_up c.servers id ≡ false →
@@ -64,9 +56,4 @@ recovered-refused c id number term isn't = rw isn't refl
 pub stale-refused : (c : Coordinator) (id : ServerId) (number term : ℕ) (attempt : Attempt) → is_up c.servers id ≡ true →
     grant_to c id term ≡ None → attempt_at c number ≡ Some attempt → is_current c number attempt ≡ false →
     takes_recovered c id number term ≡ (c, refuses_server id StaleAttempt ∷ [])
-stale-refused c id number term attempt is fresh at stale =
-    let none : part_of_sender c id number term ≡ None =
-    ap (option_and_then (λ one. cond (is_current c number one) (part_in id term one.decided) None)) at
-    ∙ ap (λ b. cond b (part_in id term attempt.decided) None) stale in
-    ap (λ b. cond b (by_grant c id number term (grant_to c id term)) (c, refuses_server id Deposed ∷ [])) is
-    ∙ (ap (by_grant c id number term) fresh ∙ ap (by_part c id number) none)
+stale-refused c id number term attempt is fresh at stale = search arith

@@ -1,9 +1,9 @@
 -- The coordinator grants commits and ranges only to ids that are up.
 use Rattle.std.proofs.Common.{◌≡◌, ℕ, ◌+◌, true, false, List, [], ◌∷◌, length, refl, sym, ◌∙◌, subst}
-use Rattle.rc_model.specs.Model.{ServerId, Server, Message, Body, CommitOk, Gather, SplitOk, from_coordinator, coordinator_refuses}
-use Rattle.rc_model.specs.Model.{coordinator_tells, is_up, up, ServerList, Decision, refuses_server, list_body, spreads_list}
+use Rattle.rc_model.specs.Model.{ServerId, Server, Message, Body, CommitOk, Gather, from_coordinator}
+use Rattle.rc_model.specs.Model.{is_up, up, ServerList, Decision, list_body, spreads_list}
 use Rattle.rc_model.specs.Model.{own_body, grant_of, first_grant, decision_of}
-use Rattle.rc_model.specs.Model.{NoTable, begins_attempt, with_crashed, enlisted, plan_messages}
+use Rattle.rc_model.specs.Model.{begins_attempt, with_crashed, enlisted, plan_messages}
 use Rattle.rc_types.specs.declared.messages.Body.TheVariants.{Plan as PlanBody}
 use Rattle.rc_model.specs.Coordinator.{Coordinator}
 use Rattle.rc_model.specs.CoordinatorClaims.{is_granting, GrantsGoOnlyToTheUp}
@@ -24,22 +24,22 @@ module _ (c : Coordinator) where
   plain : (message : Message) → is_granting message.body ≡ false → ToUp message
   plain message other is id to = true_false (sym is ∙ other)
 
-  up-one : (id : ServerId) (body : Body) → is_up c.servers id ≡ true → ToUp (from_coordinator id body)
-  up-one id body is _ other to = subst (λ (one : ServerId). is_up c.servers one ≡ true) (server-same id other to) is
+  up-one : {id : ServerId} (body : Body) → is_up c.servers id ≡ true → ToUp (from_coordinator id body)
+  up-one body is _ other to = subst (λ (one : ServerId). is_up c.servers one ≡ true) (server-same to) is
 
-  plain-one : (message : Message) → is_granting message.body ≡ false → Each ToUp (message ∷ [])
-  plain-one message other = each-one ToUp message (plain message other)
+  plain-one : {message : Message} → is_granting message.body ≡ false → Each ToUp (message ∷ [])
+  plain-one {message} other = each-one ToUp (plain message other)
 
   plain-list : (servers : ServerList) → Each ToUp (spreads_list servers)
-  plain-list servers = each-to ToUp (list_body servers) (λ id. plain (from_coordinator id (list_body servers)) refl) (up servers)
+  plain-list servers = each-to ToUp (λ id. plain (from_coordinator id (list_body servers)) refl) (up servers)
 
   up-stays : Stays c (λ _ _. Unit {0}) After
   up-stays = record {
-    refuses = λ fault. plain-one (coordinator_refuses fault) refl;
-    denies = λ id fault other. plain-one (refuses_server id fault) refl;
-    lists = λ id. plain-one (from_coordinator id (list_body c.servers)) refl;
-    repeats = λ id term grant is found. each-one ToUp (from_coordinator id (own_body grant)) (up-one id (own_body grant) is);
-    lacks = λ id number term part is none. plain-one (refuses_server id NoTable) refl;
+    refuses = λ fault. plain-one refl;
+    denies = λ id fault other. plain-one refl;
+    lists = λ id. plain-one refl;
+    repeats = λ id term grant is found. each-one ToUp (up-one (own_body grant) is);
+    lacks = λ id number term part is none. plain-one refl;
     ticks = each-ticks c ToUp (record {
       lists = λ id. plain (from_coordinator id (list_body c.servers)) refl;
       gathers = λ number attempt id is. plain (from_coordinator id (Gather number attempt.master)) refl;
@@ -50,7 +50,7 @@ module _ (c : Coordinator) where
 
   up-decides : (number : ℕ) (master : ServerId) (decision : Decision) (ids : List ServerId) →
       Each ToUp (plan_messages number master decision ids)
-  up-decides number master decision ids = each-plans ToUp number master decision
+  up-decides number master decision ids = each-plans ToUp decision
       (λ id part parts e. plain (from_coordinator id (PlanBody decision.plan.head number master decision.plan.rows (part ∷ parts))) refl)
       ids
 
@@ -61,20 +61,17 @@ module _ (c : Coordinator) where
     enlists = λ id is. plain-list (enlisted id c.servers);
     replaces = λ id older is. plain-list (enlisted id c.servers);
     done = λ new messages p. p;
-    begins = λ new messages master p crashed. each-both ToUp messages (begins_attempt new master).1 p
-        (each-to ToUp (Gather (length new.attempts + 1) master)
+    begins = λ new messages master p crashed. each-both ToUp messages (begins_attempt new master).1 p (each-to ToUp
         (λ id. plain (from_coordinator id (Gather (length new.attempts + 1) master)) refl) (up new.servers));
     readies = λ id. each-none ToUp;
-    commits = λ id pair h is.
-        each-one ToUp (from_coordinator id (CommitOk pair.seg pair.epoch)) (up-one id (CommitOk pair.seg pair.epoch) is);
+    commits = λ id pair h is. each-one ToUp (up-one (CommitOk pair.seg pair.epoch) is);
     answers = λ from number rows attempt h is undecided. each-none ToUp;
     decides = λ master attempt plan id ids is undecided picked. up-decides (c.current master) attempt.master
         (decision_of c (c.current master) attempt.master plan (id ∷ ids)) (id ∷ ids);
-    grants = λ id number term part is has.
-        each-one ToUp (from_coordinator id (own_body (grant_of number id part))) (up-one id (own_body (grant_of number id part)) is.up);
-    creates = λ table owner is fresh room. each-one ToUp (from_coordinator owner (own_body (first_grant table owner (c.last_term + 1))))
-        (up-one owner (own_body (first_grant table owner (c.last_term + 1))) is);
-    splits = λ table at tablet is holds inside unmarked room. plain-one (coordinator_tells (SplitOk table at)) refl;
+    grants = λ id number term part is has. each-one ToUp (up-one (own_body (grant_of number id part)) is.up);
+    creates = λ table owner is fresh room. each-one ToUp
+        (up-one (own_body (first_grant table owner (c.last_term + 1))) is);
+    splits = λ table at tablet is holds inside unmarked room. plain-one refl;
   }
 
 pub grants-go-only-to-the-up : GrantsGoOnlyToTheUp

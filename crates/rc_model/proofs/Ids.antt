@@ -5,12 +5,12 @@ use Rattle.std.proofs.lemmas.Bool.Decides.{nat_tests}
 use Rattle.rc_model.specs.Model.{ServerId, same_id, NodeName, TheOutside, TheCoordinator, TheHost, same_node, Server}
 
 -- ids with the same parts are one
-pub same_parts : (a b : ServerId) → a.index ≡ b.index → a.generation ≡ b.generation → a ≡ b
-same_parts a b p q j = record { index = p j; generation = q j }
+pub same_parts : {a b : ServerId} → a.index ≡ b.index → a.generation ≡ b.generation → a ≡ b
+same_parts p q j = record { index = p j; generation = q j }
 
 -- ids that pass the test are one
-pub same_id-true : (a b : ServerId) → same_id a b ≡ true → a ≡ b
-same_id-true a b h = same_parts a b (grind (arith, nat_tests)) (grind (arith, nat_tests))
+pub same_id-true : {a b : ServerId} → same_id a b ≡ true → a ≡ b
+same_id-true h = same_parts (grind (arith, nat_tests)) (grind (arith, nat_tests))
 
 -- an id passes the test with itself
 pub same_id-refl : (a : ServerId) → same_id a a ≡ true
@@ -35,5 +35,5 @@ same_node-refl TheCoordinator = refl
 same_node-refl (TheHost index) = eq-eqb index index refl
 
 -- one address of a server is that of one server
-pub server-same : (a b : ServerId) → Server a ≡ Server b → a ≡ b
-server-same a b e = cc
+pub server-same : {a b : ServerId} → Server a ≡ Server b → a ≡ b
+server-same e = cc

@@ -15,17 +15,17 @@ pub record SameParts (old new : Segment) : Type 0 where
   pub config : new.config ≡ old.config
   pub commit_sent : new.commit_sent ≡ old.commit_sent
 
-pub same_parts-refl : (segment : Segment) → SameParts segment segment
-same_parts-refl segment = record { entries = refl; config = refl; commit_sent = refl }
+pub same_parts-refl : {segment : Segment} → SameParts segment segment
+same_parts-refl = record { entries = refl; config = refl; commit_sent = refl }
 
 abbrev pub AllSameParts : (ℕ → Segment) → (ℕ → Segment) → Type 0
 AllSameParts old new = (k : ℕ) → SameParts (old k) (new k)
 
 -- a segment with the same parts is put into its place
-pub same_parts-put : (segments : ℕ → Segment) (seg : ℕ) (segment : Segment) → SameParts (segments seg) segment →
+pub same_parts-put : (segments : ℕ → Segment) {seg : ℕ} {segment : Segment} → SameParts (segments seg) segment →
     AllSameParts segments (put segments seg segment)
-same_parts-put segments seg segment same =
-    put_each (λ k one. SameParts (segments k) one) segments seg segment same (λ k. same_parts-refl (segments k))
+same_parts-put segments {seg} {segment} same =
+    put_each (λ k one. SameParts (segments k) one) segments seg segment same (λ k. same_parts-refl)
 
 -- Places
 
@@ -74,8 +74,7 @@ durable-within (segment ∷ segments) =
     let rest : durable_among segments ≤ total segments = durable-within segments in
     let least : durable_in segment ≤ length segment.entries = min-right (durable_len segment.config) (length segment.entries) in
     either (λ n. n ≤ length segment.entries + total segments) segment.shut
-    (length segment.entries + durable_among segments) (durable_in segment)
-    (λ _. omega arith) (λ _. omega arith)
+    (length segment.entries + durable_among segments) (durable_in segment) (λ _. omega arith) (λ _. omega arith)
   where
     min-right : (a b : ℕ) → min a b ≤ b
     min-right a b = omega arith
@@ -97,13 +96,13 @@ pub record MarkedAlone (old new : Segment) : Type 0 where
   pub closes_sent : new.closes_sent ≡ old.closes_sent
 
 pub marked-alone : (segs : List ℕ) (segments : ℕ → Segment) (k : ℕ) → MarkedAlone (segments k) (marked segs segments k)
-marked-alone [] segments k = record { parts = same_parts-refl (segments k); closes_sent = refl }
+marked-alone [] segments k = record { parts = same_parts-refl; closes_sent = refl }
 marked-alone (seg ∷ segs) segments k =
     let one : ℕ → Segment = put segments seg (record (segments seg) { freed = true }) in
     let first : MarkedAlone (segments k) (one k) =
     put_each (λ j s. MarkedAlone (segments j) s) segments seg (record (segments seg) { freed = true })
     (record { parts = record { entries = refl; config = refl; commit_sent = refl }; closes_sent = refl })
-    (λ j. record { parts = same_parts-refl (segments j); closes_sent = refl }) k in
+    (λ j. record { parts = same_parts-refl; closes_sent = refl }) k in
     let rest : MarkedAlone (one k) (marked segs one k) = marked-alone segs one k in
     record {
       parts = record {

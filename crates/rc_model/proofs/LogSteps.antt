@@ -1,9 +1,9 @@
 -- What a step does to a log: which segments take entries, and where a head begins to be written in.
 use Rattle.std.proofs.Common.{◌≡◌, ◌⊎◌, inl, inr, ℕ, ◌+◌, ◌-◌, ◌<◌, ◌≤◌, Bool, true, false, cond, nat_eq, ◌&&◌, List, [], ◌∷◌}
-use Rattle.std.proofs.Common.{Result, Ok, Err, refl, sym, ap, ◌∙◌, subst, arith}
+use Rattle.std.proofs.Common.{Result, Ok, Err, refl, sym, ap, ◌∙◌, arith}
 use Rattle.std.proofs.lemmas.Bool.{and_parts, eqb-true, eq-eqb}
-use Rattle.rc_model.specs.Model.{ServerId, Addr, Fault, Phase, Opening, Closing, Writing, Entry, Body, put, ServerList, Config}
-use Rattle.rc_model.specs.Model.{all_placed, lose, refill, noted, committed_at, Segment, new_segment, with_entry, with_closes_sent, Log}
+use Rattle.rc_model.specs.Model.{ServerId, Addr, Fault, Phase, Opening, Entry, Body, ServerList, Config}
+use Rattle.rc_model.specs.Model.{all_placed, noted, committed_at, Segment, with_closes_sent, Log}
 use Rattle.rc_model.specs.Model.{head_of, with_segment, old_head_of, has_old_head, has_segment, is_opening, is_closing, is_writing}
 use Rattle.rc_model.specs.Model.{is_ready, may_start, may_close, may_write, left_out, with_freed, starts, writes_on, with_config}
 use Rattle.rc_model.specs.Model.{opens_change, refills, loses}
@@ -15,22 +15,15 @@ use Rattle.rc_model.proofs.Walk.{OfLog, LogJoined, LogListed, LogWritten, LogFol
 use Rattle.rc_model.proofs.Walk.{of_log-ticked, of_log-followed, kept-goes_on, kept-takes_first, kept-ticks_first, kept-obeys}
 
 -- numbers
-pub upto_or : (a b : ℕ) → (a ≤ b) ⊎ (b < a)
-upto_or a b = grind arith
+pub upto_or : {a b : ℕ} → (a ≤ b) ⊎ (b < a)
+upto_or = grind arith
 
 -- where its entries are the same the head stays
-has-refl : (log : Log) (s : ℕ) → s ≤ log.head → HasItsEntries log log s
-has-refl log s upto = record { still = λ _. refl; none = λ above. absurd (omega (arith, upto, above)) }
+has-refl : {log : Log} {s : ℕ} → s ≤ log.head → HasItsEntries log log s
+has-refl upto = record { still = λ _. refl; none = λ above. absurd (omega (arith, upto, above)) }
 
-has-both : (a b c : Log) (s : ℕ) → a.head ≤ b.head → HasItsEntries a b s → HasItsEntries b c s → HasItsEntries a c s
-has-both a b c s less p q = record {
-  still = λ upto. q.still (omega (arith, upto, less)) ∙ p.still upto;
-  none = λ above. by above (upto_or s b.head);
-}
-  where
-    by : a.head < s → (s ≤ b.head) ⊎ (b.head < s) → (c.segments s).entries ≡ []
-    by above (inl upto) = q.still upto ∙ p.none above
-    by above (inr over) = q.none over
+has-both : {a b c : Log} {s : ℕ} → a.head ≤ b.head → HasItsEntries a b s → HasItsEntries b c s → HasItsEntries a c s
+has-both {a} {b} {c} {s} less p q = search (arith, upto_or)
 
 -- Inputs
 
@@ -43,13 +36,7 @@ pub record InputLeads (old new : Log) : Type 0 where
   pub entries : (s : ℕ) → s ≤ new.head → HasItsEntries old new s ⊎ IsWritingIn old s
 
 pub input-refl : (log : Log) → InputLeads log log
-input-refl log = record {
-  own = refl;
-  head = omega arith;
-  phase = inl (refl, refl);
-  asked = λ s e. e;
-  entries = λ s upto. inl (has-refl log s upto);
-}
+input-refl log = search (arith, has-refl)
 
 -- what was so in a phase was so in it before
 phase-was : (test : Phase → Bool) (old new : Log) → test Opening ≡ false →
@@ -58,12 +45,12 @@ phase-was : (test : Phase → Bool) (old new : Log) → test Opening ≡ false �
 phase-was test old new isn't (inl same) is = (ap test (sym same.0) ∙ is, same.1)
 phase-was test old new isn't (inr opened) is = true_false (sym is ∙ (ap test opened ∙ isn't))
 
-pub writing-was : (old new : Log) → InputLeads old new → (s : ℕ) → IsWritingIn new s → IsWritingIn old s
-writing-was old new p s is = let was = phase-was is_writing old new refl p.phase is.0 in (was.0, is.1 ∙ was.1)
+pub writing-was : {old new : Log} → InputLeads old new → {s : ℕ} → IsWritingIn new s → IsWritingIn old s
+writing-was {old} {new} p is = let was = phase-was is_writing old new refl p.phase is.0 in (was.0, is.1 ∙ was.1)
 
-pub closing-was : (old new : Log) → InputLeads old new → is_closing new.phase ≡ true →
+pub closing-was : {old new : Log} → InputLeads old new → is_closing new.phase ≡ true →
     (is_closing old.phase ≡ true) × (new.head ≡ old.head)
-closing-was old new p is = phase-was is_closing old new refl p.phase is
+closing-was {old} {new} p is = phase-was is_closing old new refl p.phase is
 
 input-both : (a b c : Log) → InputLeads a b → InputLeads b c → InputLeads a c
 input-both a b c p q = record {
@@ -82,19 +69,15 @@ input-both a b c p q = record {
     joins (inr opened) (inl same) = inr (same.0 ∙ opened)
 
     known : (s : ℕ) → HasItsEntries b c s → HasItsEntries a b s ⊎ IsWritingIn a s → HasItsEntries a c s ⊎ IsWritingIn a s
-    known s has (inl had) = inl (has-both a b c s p.head had has)
+    known s has (inl had) = inl (has-both p.head had has)
     known s has (inr wrote) = inr wrote
 
     new : (s : ℕ) → b.head < s → HasItsEntries b c s → HasItsEntries a c s ⊎ IsWritingIn a s
     new s over has = inl (record { still = λ upto. absurd (omega (arith, over, upto, p.head)); none = λ above. has.none over })
 
     by : (s : ℕ) → HasItsEntries b c s ⊎ IsWritingIn b s → HasItsEntries a c s ⊎ IsWritingIn a s
-    by s (inr wrote) = inr (writing-was a b p s wrote)
-    by s (inl has) = which (upto_or s b.head)
-      where
-        which : (s ≤ b.head) ⊎ (b.head < s) → HasItsEntries a c s ⊎ IsWritingIn a s
-        which (inl upto) = known s has (p.entries s upto)
-        which (inr over) = new s over has
+    by s (inr wrote) = inr (writing-was p wrote)
+    by s (inl has) = search (arith, upto_or, known, new)
 
 inputs : LogJoined InputLeads
 inputs = record { still = input-refl; both = input-both }
@@ -102,119 +85,59 @@ inputs = record { still = input-refl; both = input-both }
 -- a segment changes, but for its entries
 input-put : (log : Log) (seg : ℕ) (segment : Segment) → segment.entries ≡ (log.segments seg).entries →
     (segment.commit_sent ≡ true → (log.segments seg).commit_sent ≡ true) → InputLeads log (with_segment seg segment log)
-input-put log seg segment same asked = record {
-  own = refl;
-  head = omega arith;
-  phase = inl (refl, refl);
-  asked = put_each (λ k (one : Segment). one.commit_sent ≡ true → (log.segments k).commit_sent ≡ true) log.segments seg segment
-      asked (λ k e. e);
-  entries = λ s upto. inl (record {
-    still = λ _. put_each (λ k (one : Segment). one.entries ≡ (log.segments k).entries) log.segments seg segment same (λ k. refl) s;
-    none = λ above. absurd (omega (arith, upto, above));
-  });
-}
+input-put log seg segment same asked = search (arith, put_each)
 
 -- the entries of a segment below the head are not the new head's
-below-head : (log : Log) (digest : List ℕ) (ids : List ServerId) (s : ℕ) → s ≤ log.head →
+below-head : (log : Log) (digest : List ℕ) (ids : List ServerId) {s : ℕ} → s ≤ log.head →
     (opens_head log digest ids).segments s ≡ log.segments s
-below-head log digest ids s upto =
-    put-other log.segments (log.head + 1) (new_segment (log.head + 1) digest ids) s (isn't (nat_eq (log.head + 1) s) refl)
-  where
-    isn't : (b : Bool) → nat_eq (log.head + 1) s ≡ b → nat_eq (log.head + 1) s ≡ false
-    isn't true e = absurd (let same : log.head + 1 ≡ s = eqb-true (log.head + 1) s e in omega (arith, same, upto))
-    isn't false e = e
+below-head log digest ids {s} upto = search (arith, put-other, nat_eq, eqb-true)
 
-opened-entries : (log : Log) (digest : List ℕ) (ids : List ServerId) (s : ℕ) → s ≤ log.head + 1 →
+opened-entries : {log : Log} (digest : List ℕ) (ids : List ServerId) {s : ℕ} → s ≤ log.head + 1 →
     HasItsEntries log (opens_head log digest ids) s
-opened-entries log digest ids s upto = record {
-  still = λ there. ap (λ (one : Segment). one.entries) (below-head log digest ids s there);
-  none = λ above. (let same : s ≡ log.head + 1 = omega (arith, above, upto) in
-      ap (λ k. ((opens_head log digest ids).segments k).entries) same ∙
-      ap (λ (one : Segment). one.entries) (put-same log.segments (log.head + 1) (new_segment (log.head + 1) digest ids)));
-}
+opened-entries {log} digest ids {s} upto = search (arith, below-head, put-same)
 
-input-opens : (log : Log) (digest : List ℕ) (ids : List ServerId) → InputLeads log (opens_head log digest ids)
-input-opens log digest ids = record {
-  own = refl;
-  head = omega arith;
-  phase = inr refl;
-  asked = put_each (λ k (one : Segment). one.commit_sent ≡ true → (log.segments k).commit_sent ≡ true) log.segments
-      (log.head + 1) (new_segment (log.head + 1) digest ids) (λ e. true_false (sym e)) (λ k e. e);
-  entries = λ s upto. inl (opened-entries log digest ids s upto);
-}
+input-opens : {log : Log} (digest : List ℕ) (ids : List ServerId) → InputLeads log (opens_head log digest ids)
+input-opens {log} digest ids = search (arith, put_each, true_false, opened-entries)
 
 -- the head takes an entry
-beside-head : (log : Log) (entry : Entry) (client : Bool) (s : ℕ) → (s ≡ log.head → ⊥) →
+beside-head : (log : Log) (entry : Entry) (client : Bool) {s : ℕ} → (s ≡ log.head → ⊥) →
     (appends entry client log).segments s ≡ log.segments s
-beside-head log entry client s isn't =
-    put-other log.segments log.head (with_entry entry client (head_of log)) s (by (nat_eq log.head s) refl)
-  where
-    by : (b : Bool) → nat_eq log.head s ≡ b → nat_eq log.head s ≡ false
-    by true e = absurd (isn't (sym (eqb-true log.head s e)))
-    by false e = e
+beside-head log entry client {s} isn't = search (arith, put-other, nat_eq, eqb-true)
 
-same_or : (a b : ℕ) → (a ≡ b) ⊎ (a ≡ b → ⊥)
-same_or a b = by (nat_eq a b) refl
-  where
-    by : (c : Bool) → nat_eq a b ≡ c → (a ≡ b) ⊎ (a ≡ b → ⊥)
-    by true e = inl (eqb-true a b e)
-    by false e = inr (λ same. true_false (sym (eq-eqb a b same) ∙ e))
+same_or : {a b : ℕ} → (a ≡ b) ⊎ (a ≡ b → ⊥)
+same_or {a} {b} = search (arith, nat_eq, eqb-true, true_false, eq-eqb)
 
-input-appends : (entry : Entry) (client : Bool) (log : Log) → is_writing log.phase ≡ true → InputLeads log (appends entry client log)
-input-appends entry client log writing = record {
-  own = refl;
-  head = omega arith;
-  phase = inl (refl, refl);
-  asked = put_each (λ k (one : Segment). one.commit_sent ≡ true → (log.segments k).commit_sent ≡ true) log.segments
-      log.head (with_entry entry client (head_of log)) (λ e. e) (λ k e. e);
-  entries = λ s upto. by s upto (same_or s log.head);
-}
-  where
-    by : (s : ℕ) → s ≤ log.head → (s ≡ log.head) ⊎ (s ≡ log.head → ⊥) →
-        HasItsEntries log (appends entry client log) s ⊎ IsWritingIn log s
-    by s upto (inl is) = inr (writing, is)
-    by s upto (inr isn't) = inl (record {
-      still = λ _. ap (λ (one : Segment). one.entries) (beside-head log entry client s isn't);
-      none = λ above. absurd (omega (arith, upto, above));
-    })
+input-appends : (entry : Entry) (client : Bool) {log : Log} → is_writing log.phase ≡ true → InputLeads log (appends entry client log)
+input-appends entry client {log} writing = search (arith, put_each, same_or, beside-head)
 
-input-change : (seg : ℕ) (log : Log) (answer : Config × Result Bool Fault) → InputLeads log (opens_change seg log answer).0
-input-change seg log (config, Ok true) =
+input-change : (seg : ℕ) {log : Log} (answer : Config × Result Bool Fault) → InputLeads log (opens_change seg log answer).0
+input-change seg {log} (config, Ok true) =
     input-put log seg (record (log.segments seg) { config = config; commit_sent = false; closes_sent = [] }) refl (λ e. true_false (sym e))
-input-change seg log (config, Ok false) = input-put log seg (record (log.segments seg) { config = config }) refl (λ e. e)
-input-change seg log (config, Err fault) = input-put log seg (record (log.segments seg) { config = config }) refl (λ e. e)
+input-change seg {log} (config, Ok false) = input-put log seg (record (log.segments seg) { config = config }) refl (λ e. e)
+input-change seg {log} (config, Err fault) = input-put log seg (record (log.segments seg) { config = config }) refl (λ e. e)
 
-input-refills : (seg : ℕ) (log : Log) (answer : Config × Result (List ServerId) Fault) → InputLeads log (refills seg log answer).0
-input-refills seg log (config, answer) = input-put log seg (record (log.segments seg) { config = config }) refl (λ e. e)
+input-refills : (seg : ℕ) {log : Log} (answer : Config × Result (List ServerId) Fault) → InputLeads log (refills seg log answer).0
+input-refills seg {log} (config, answer) = input-put log seg (record (log.segments seg) { config = config }) refl (λ e. e)
 
 input-loses : (servers : ServerList) (seg : ℕ) (log : Log) → InputLeads log (loses servers seg log).0
-input-loses servers seg log =
-    either (λ (after : Log × Result (List ServerId) Fault). InputLeads log after.0) (log.segments seg).shut
-    (refills seg log (refill log.own servers (log.segments seg).config))
-    (opens_change seg log (lose log.own servers (log.segments seg).config))
-    (λ _. input-refills seg log (refill log.own servers (log.segments seg).config))
-    (λ _. input-change seg log (lose log.own servers (log.segments seg).config))
+input-loses servers seg log = search (arith, either, input-refills, input-change)
 
-input-if : (log : Log) (b : Bool) (seg : ℕ) (config : Config) → InputLeads log (cond b (with_config seg config log) log)
-input-if log b seg config = either (InputLeads log) b (with_config seg config log) log
+input-if : {log : Log} (b : Bool) (seg : ℕ) (config : Config) → InputLeads log (cond b (with_config seg config log) log)
+input-if {log} b seg config = either (InputLeads log) b (with_config seg config log) log
     (λ _. input-put log seg (record (log.segments seg) { config = config }) refl (λ e. e)) (λ _. input-refl log)
 
 listed : LogListed InputLeads
-listed = record { replaces = input-loses; opens = λ servers log ids none chosen. input-opens log (1 ∷ []) ids }
+listed = record { replaces = input-loses; opens = λ servers log ids none chosen. input-opens (1 ∷ []) ids }
 
 written : LogWritten InputLeads
-written = record {
-  rolls = λ servers log digest ids writing room chosen. input-opens log digest ids;
-  writes = λ log entry client writing room. input-appends entry client log writing;
-}
+written = search (arith, input-opens, input-appends)
 
 pub takes_first-leads : (master : Master) (from : Addr) (body : Body) → InputLeads master.log (master_takes_first master from body).0.log
 takes_first-leads master from body =
-    kept-takes_first (OfLog InputLeads) (of_log-joined InputLeads inputs) (of_log-listed InputLeads inputs listed) master from body
-    (of_log-taken InputLeads inputs written master from body
-    (λ teller seg epoch len closed is says.
-    input-if master.log (has_segment master.log seg) seg (noted teller epoch len closed (master.log.segments seg).config))
-    (λ seg epoch is. input-if master.log (has_segment master.log seg) seg (committed_at epoch (master.log.segments seg).config)))
+    kept-takes_first (OfLog InputLeads) (of_log-joined InputLeads inputs) (of_log-listed InputLeads inputs listed) from body
+    (of_log-taken InputLeads inputs written (λ teller seg epoch len closed is says.
+    input-if (has_segment master.log seg) seg (noted teller epoch len closed (master.log.segments seg).config))
+    (λ seg epoch is. input-if (has_segment master.log seg) seg (committed_at epoch (master.log.segments seg).config)))
 
 pub obeys-leads : (master : Master) → InputLeads master.log (obeys_list master).0.log
 obeys-leads = kept-obeys (OfLog InputLeads) (of_log-joined InputLeads inputs) (of_log-listed InputLeads inputs listed)
@@ -238,28 +161,11 @@ pub record FollowLeads (old new : Log) : Type 0 where
   pub entries : (s : ℕ) → s ≤ new.head → HasItsEntries old new s ⊎ (IsWritingIn old s ⊎ MayTakeData new s)
 
 -- what may take data still may
-pub may-later : (b c : Log) (s : ℕ) → FollowLeads b c → s ≤ b.head → MayTakeData b s → MayTakeData c s
-may-later b c s q upto p = record {
-  before = by p.before;
-  placed = ap all_placed (q.configs s upto) ∙ p.placed;
-  committed = ap (λ (config : Config). config.committed) (q.configs s upto) ∙ p.committed;
-}
-  where
-    by : (s ≡ 1) ⊎ ((b.segments (s - 1)).shut ≡ true) → (s ≡ 1) ⊎ ((c.segments (s - 1)).shut ≡ true)
-    by (inl first) = inl first
-    by (inr is) = inr (q.shut (s - 1) (omega (arith, upto)) is)
+pub may-later : {b c : Log} {s : ℕ} → FollowLeads b c → s ≤ b.head → MayTakeData b s → MayTakeData c s
+may-later {b} {c} {s} q upto p = search arith
 
 follow-refl : (log : Log) → FollowLeads log log
-follow-refl log = record {
-  own = refl;
-  head = omega arith;
-  configs = λ s upto. refl;
-  shut = λ s upto is. is;
-  final = λ s below. refl;
-  writing = λ s is. inl is;
-  closing = λ is. inl (is, refl);
-  entries = λ s upto. inl (has-refl log s upto);
-}
+follow-refl log = search (arith, has-refl)
 
 follow-both : (a b c : Log) → FollowLeads a b → FollowLeads b c → FollowLeads a c
 follow-both a b c p q = record {
@@ -275,7 +181,7 @@ follow-both a b c p q = record {
   where
     from : (s : ℕ) → s ≤ b.head → IsWritingIn a s ⊎ MayTakeData b s → IsWritingIn a s ⊎ MayTakeData c s
     from s upto (inl was) = inl was
-    from s upto (inr may) = inr (may-later b c s q upto may)
+    from s upto (inr may) = inr (may-later q upto may)
 
     wrote : (s : ℕ) → IsWritingIn b s ⊎ MayTakeData c s → IsWritingIn a s ⊎ MayTakeData c s
     wrote s (inr may) = inr may
@@ -294,13 +200,13 @@ follow-both a b c p q = record {
 
     known : (s : ℕ) → s ≤ b.head → HasItsEntries b c s → HasItsEntries a b s ⊎ (IsWritingIn a s ⊎ MayTakeData b s) →
         HasItsEntries a c s ⊎ (IsWritingIn a s ⊎ MayTakeData c s)
-    known s upto has (inl had) = inl (has-both a b c s p.head had has)
+    known s upto has (inl had) = inl (has-both p.head had has)
     known s upto has (inr other) = inr (from s upto other)
 
     by : (s : ℕ) → HasItsEntries b c s ⊎ (IsWritingIn b s ⊎ MayTakeData c s) →
         HasItsEntries a c s ⊎ (IsWritingIn a s ⊎ MayTakeData c s)
     by s (inr other) = inr (wrote s other)
-    by s (inl has) = which (upto_or s b.head)
+    by s (inl has) = which upto_or
       where
         which : (s ≤ b.head) ⊎ (b.head < s) → HasItsEntries a c s ⊎ (IsWritingIn a s ⊎ MayTakeData c s)
         which (inl upto) = known s upto has (p.entries s upto)
@@ -313,103 +219,39 @@ follows : LogJoined FollowLeads
 follows = record { still = follow-refl; both = follow-both }
 
 -- a segment is marked
-follow-put : (log : Log) (seg : ℕ) (segment : Segment) → segment.config ≡ (log.segments seg).config →
+follow-put : {log : Log} (seg : ℕ) (segment : Segment) → segment.config ≡ (log.segments seg).config →
     segment.entries ≡ (log.segments seg).entries → ((log.segments seg).shut ≡ true → segment.shut ≡ true) →
     FollowLeads log (with_segment seg segment log)
-follow-put log seg segment config same shut = record {
-  own = refl;
-  head = omega arith;
-  configs = λ s upto. put_each (λ k (one : Segment). one.config ≡ (log.segments k).config) log.segments seg segment config (λ k. refl) s;
-  shut = λ s upto. put_each (λ k (one : Segment). (log.segments k).shut ≡ true → one.shut ≡ true) log.segments seg segment shut
-      (λ k e. e) s;
-  final = λ s below. kept s;
-  writing = λ s is. inl is;
-  closing = λ is. inl (is, refl);
-  entries = λ s upto. inl (record { still = λ _. kept s; none = λ above. absurd (omega (arith, upto, above)) });
-}
-  where
-    kept : (s : ℕ) → (put log.segments seg segment s).entries ≡ (log.segments s).entries
-    kept s = put_each (λ k (one : Segment). one.entries ≡ (log.segments k).entries) log.segments seg segment same (λ k. refl) s
+follow-put {log} seg segment config same shut = search (arith, put_each)
 
 -- the phase changes
-follow-phase : (log : Log) (phase : Phase) → (is_writing phase ≡ true → MayTakeData log log.head) →
+follow-phase : {log : Log} {phase : Phase} → (is_writing phase ≡ true → MayTakeData log log.head) →
     (is_closing phase ≡ true → all_placed (head_of log).config ≡ true) → FollowLeads log (record log { phase = phase })
-follow-phase log phase may placed = record {
-  own = refl;
-  head = omega arith;
-  configs = λ s upto. refl;
-  shut = λ s upto is. is;
-  final = λ s below. refl;
-  writing = λ s is. inr (let there = may is.0 in
-      record {
-        before = subst (λ k. (k ≡ 1) ⊎ ((log.segments (k - 1)).shut ≡ true)) (sym is.1) there.before;
-        placed = ap (λ k. all_placed (log.segments k).config) is.1 ∙ there.placed;
-        committed = ap (λ k. (log.segments k).config.committed) is.1 ∙ there.committed;
-      });
-  closing = λ is. inr (placed is);
-  entries = λ s upto. inl (record { still = λ _. refl; none = λ above. absurd (omega (arith, upto, above)) });
-}
+follow-phase {log} may placed = search arith
 
-follow-freed : (segs : List ℕ) (log : Log) → FollowLeads log (with_freed segs log)
-follow-freed [] log = follow-refl log
-follow-freed (seg ∷ segs) log =
+follow-freed : (segs : List ℕ) {log : Log} → FollowLeads log (with_freed segs log)
+follow-freed [] {log} = follow-refl log
+follow-freed (seg ∷ segs) {log} =
     let next : Log = with_segment seg (record (log.segments seg) { freed = true }) log in
-    follow-both log next (with_freed segs next) (follow-put log seg (record (log.segments seg) { freed = true }) refl refl (λ e. e))
-    (follow-freed segs next)
+    follow-both log next (with_freed segs next) (follow-put seg (record (log.segments seg) { freed = true }) refl refl (λ e. e))
+    (follow-freed segs)
 
-follow-opens : (log : Log) (digest : List ℕ) (ids : List ServerId) → FollowLeads log (opens_head log digest ids)
-follow-opens log digest ids = record {
-  own = refl;
-  head = omega arith;
-  configs = λ s upto. ap (λ (one : Segment). one.config) (below-head log digest ids s upto);
-  shut = λ s upto is. ap (λ (one : Segment). one.shut) (below-head log digest ids s upto) ∙ is;
-  final = λ s below. ap (λ (one : Segment). one.entries) (below-head log digest ids s (omega (arith, below)));
-  writing = λ s is. true_false (sym is.0);
-  closing = λ is. true_false (sym is);
-  entries = λ s upto. inl (opened-entries log digest ids s upto);
-}
+follow-opens : {log : Log} (digest : List ℕ) (ids : List ServerId) → FollowLeads log (opens_head log digest ids)
+follow-opens {log} digest ids = search (arith, below-head, true_false, opened-entries)
 
 follow-appends : (entry : Entry) (client : Bool) (log : Log) → is_writing log.phase ≡ true → FollowLeads log (appends entry client log)
-follow-appends entry client log writing = record {
-  own = refl;
-  head = omega arith;
-  configs = λ s upto. put_each (λ k (one : Segment). one.config ≡ (log.segments k).config) log.segments log.head
-      (with_entry entry client (head_of log)) refl (λ k. refl) s;
-  shut = λ s upto. put_each (λ k (one : Segment). (log.segments k).shut ≡ true → one.shut ≡ true) log.segments log.head
-      (with_entry entry client (head_of log)) (λ e. e) (λ k e. e) s;
-  final = λ s below. ap (λ (one : Segment). one.entries) (beside-head log entry client s (λ same. absurd (omega (arith, below, same))));
-  writing = λ s is. inl is;
-  closing = λ is. inl (is, refl);
-  entries = λ s upto. by s upto (same_or s log.head);
-}
-  where
-    by : (s : ℕ) → s ≤ log.head → (s ≡ log.head) ⊎ (s ≡ log.head → ⊥) →
-        HasItsEntries log (appends entry client log) s ⊎ (IsWritingIn log s ⊎ MayTakeData (appends entry client log) s)
-    by s upto (inl is) = inr (inl (writing, is))
-    by s upto (inr isn't) = inl (record {
-      still = λ _. ap (λ (one : Segment). one.entries) (beside-head log entry client s isn't);
-      none = λ above. absurd (omega (arith, upto, above));
-    })
+follow-appends entry client log writing = search (arith, put_each, beside-head, same_or)
 
 -- where the first head starts, and the next one writes on
 ready-parts : (segment : Segment) → is_ready segment ≡ true →
     (segment.config.committed ≡ true) × (all_placed segment.config ≡ true)
 ready-parts segment e = and_parts segment.config.committed (all_placed segment.config) e
 
-pub start-may : (log : Log) → may_start log ≡ true → MayTakeData log log.head
-start-may log may =
-    let first = and_parts (nat_eq log.head 1) (is_ready (head_of log))
-    (and_parts (is_opening log.phase) (nat_eq log.head 1 && is_ready (head_of log)) may).1 in
-    let ready = ready-parts (head_of log) first.1 in
-    record { before = inl (eqb-true log.head 1 first.0); placed = ready.1; committed = ready.0 }
+pub start-may : {log : Log} → may_start log ≡ true → MayTakeData log log.head
+start-may {log} may = search (arith, and_parts, nat_eq, ready-parts, eqb-true)
 
-pub write-may : (log : Log) → may_write log ≡ true → MayTakeData log log.head
-write-may log may =
-    let tests = and_parts (old_head_of log).shut (is_ready (head_of log))
-    (and_parts (has_old_head log) ((old_head_of log).shut && is_ready (head_of log))
-    (and_parts (is_closing log.phase) (has_old_head log && ((old_head_of log).shut && is_ready (head_of log))) may).1).1 in
-    let ready = ready-parts (head_of log) tests.1 in
-    record { before = inr tests.0; placed = ready.1; committed = ready.0 }
+pub write-may : {log : Log} → may_write log ≡ true → MayTakeData log log.head
+write-may {log} may = search (arith, and_parts, ready-parts)
 
 pub close-may : (log : Log) → may_close log ≡ true → all_placed (head_of log).config ≡ true
 close-may log may = (and_parts (has_old_head log) (all_placed (head_of log).config)
@@ -417,13 +259,13 @@ close-may log may = (and_parts (has_old_head log) (all_placed (head_of log).conf
 
 pub followed : LogFollowed FollowLeads
 followed = record {
-  marks = λ log is. follow-put log (log.head - 1) (record (old_head_of log) { shut = true }) refl refl (λ _. refl);
-  starts = λ log may. follow-phase log Writing (λ _. start-may log may) (λ is. true_false (sym is));
-  places = λ log may. follow-phase log Closing (λ is. true_false (sym is)) (λ _. close-may log may);
-  closes = λ log due. follow-put log (log.head - 1) (with_closes_sent (old_head_of log)) refl refl (λ e. e);
+  marks = λ log is. follow-put (log.head - 1) (record (old_head_of log) { shut = true }) refl refl (λ _. refl);
+  starts = λ log may. follow-phase (λ _. start-may may) (λ is. true_false (sym is));
+  places = λ log may. follow-phase (λ is. true_false (sym is)) (λ _. close-may log may);
+  closes = λ log due. follow-put (log.head - 1) (with_closes_sent (old_head_of log)) refl refl (λ e. e);
   shuts = λ log may. follow-both log (starts log) (writes_on log)
-      (follow-phase log Writing (λ _. write-may log may) (λ is. true_false (sym is))) (follow-freed (left_out log) (starts log));
-  commits = λ log seg. follow-put log seg (record (log.segments seg) { commit_sent = true }) refl refl (λ e. e);
+      (follow-phase (λ _. write-may may) (λ is. true_false (sym is))) (follow-freed (left_out log));
+  commits = λ log seg. follow-put seg (record (log.segments seg) { commit_sent = true }) refl refl (λ e. e);
   counts = λ log more. record {
     own = refl;
     head = omega arith;
@@ -437,10 +279,7 @@ followed = record {
 }
 
 pub follow-written : LogWritten FollowLeads
-follow-written = record {
-  rolls = λ servers log digest ids writing room chosen. follow-opens log digest ids;
-  writes = λ log entry client writing room. follow-appends entry client log writing;
-}
+follow-written = search (arith, follow-opens, follow-appends)
 
 pub follow-joined : LogJoined FollowLeads
 follow-joined = follows
@@ -456,22 +295,22 @@ pub record StepLeads (old new : Log) : Type 0 where
   pub writing : WritesWhereItMay old new
   pub entries : AppendsWhereItWrites old new
 
-pub step-leads : (a b c : Log) → InputLeads a b → FollowLeads b c → StepLeads a c
-step-leads a b c p q = record { writing = λ s is. wrote s (q.writing s is); entries = λ s upto. by s (q.entries s upto) }
+pub step-leads : {a b c : Log} → InputLeads a b → FollowLeads b c → StepLeads a c
+step-leads {a} {b} {c} p q = record { writing = λ s is. wrote s (q.writing s is); entries = λ s upto. by s (q.entries s upto) }
   where
     wrote : (s : ℕ) → IsWritingIn b s ⊎ MayTakeData c s → IsWritingIn a s ⊎ MayTakeData c s
-    wrote s (inl is) = inl (writing-was a b p s is)
+    wrote s (inl is) = inl (writing-was p is)
     wrote s (inr may) = inr may
 
     known : (s : ℕ) → HasItsEntries b c s → HasItsEntries a b s ⊎ IsWritingIn a s →
         HasItsEntries a c s ⊎ (IsWritingIn a s ⊎ MayTakeData c s)
-    known s has (inl had) = inl (has-both a b c s p.head had has)
+    known s has (inl had) = inl (has-both p.head had has)
     known s has (inr was) = inr (inl was)
 
     by : (s : ℕ) → HasItsEntries b c s ⊎ (IsWritingIn b s ⊎ MayTakeData c s) →
         HasItsEntries a c s ⊎ (IsWritingIn a s ⊎ MayTakeData c s)
     by s (inr other) = inr (wrote s other)
-    by s (inl has) = which (upto_or s b.head)
+    by s (inl has) = which upto_or
       where
         which : (s ≤ b.head) ⊎ (b.head < s) → HasItsEntries a c s ⊎ (IsWritingIn a s ⊎ MayTakeData c s)
         which (inl upto) = known s has (p.entries s upto)
@@ -480,5 +319,5 @@ step-leads a b c p q = record { writing = λ s is. wrote s (q.writing s is); ent
           none = λ above. has.none over;
         })
 
-pub step-same : (log : Log) → StepLeads log log
-step-same log = record { writing = λ s is. inl is; entries = λ s upto. inl (has-refl log s upto) }
+pub step-same : {log : Log} → StepLeads log log
+step-same = record { writing = λ s is. inl is; entries = λ s upto. inl (has-refl upto) }

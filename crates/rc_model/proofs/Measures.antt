@@ -1,7 +1,7 @@
 -- Each follow-up lowers the measure, and none applies afterwards.
 use Rattle.std.proofs.Common.{◌≡◌, ◌≢◌, ℕ, zero, suc, ◌+◌, ◌-◌, ◌≤◌, ◌<◌, Bool, true, false, cond, not}
 use Rattle.std.proofs.Common.{◌&&◌, ◌||◌, nat_eq, nat_lt, List}
-use Rattle.std.proofs.Common.{[], ◌∷◌, ◌++◌, length, map, filter, find, take, Option, Some, None, option_map, Err, refl, sym}
+use Rattle.std.proofs.Common.{[], ◌∷◌, length, filter, find, Option, Some, None, option_map, Err, refl, sym}
 use Rattle.std.proofs.Common.{ap, ◌∙◌}
 use Rattle.std.proofs.Common.{subst, arith, option_and_then}
 use Rattle.std.proofs.lemmas.List.{length-append, length-take-le, append-nil}
@@ -12,13 +12,12 @@ use Rattle.std.proofs.Math.Numerals.{add-one}
 use Rattle.std.proofs.Math.Path.{fun_ext}
 use Rattle.std.specs.List.{list_any}
 use Rattle.std.specs.Option.{option_or}
-use Rattle.std.specs.Prelude.{drop}
 use Rattle.rc_model.specs.Heads.{opened_on}
 use Rattle.rc_model.specs.Model.{ServerId, Entry, Member, Phase, Opening, Closing, Writing, Message, Ready, LogFull, ServerList}
-use Rattle.rc_model.specs.Model.{to_coordinator, LAST_SEGMENT, same_id, has_id, put, Config, new_config, all_placed, choose, candidates}
-use Rattle.rc_model.specs.Model.{Segment, new_segment, with_entry, is_ready, has_unclosed, with_closes_sent, Log, head_of, with_segment}
-use Rattle.rc_model.specs.Model.{old_head_of, has_old_head, places_to, places_in, places_of, numbers_to, durable_now, is_opening}
-use Rattle.rc_model.specs.Model.{is_closing, is_writing, opens_head, next_digest, begin_roll, is_full, appends, shuts, with_shut}
+use Rattle.rc_model.specs.Model.{to_coordinator, LAST_SEGMENT, same_id, has_id, put, new_config, all_placed, choose}
+use Rattle.rc_model.specs.Model.{Segment, new_segment, is_ready, has_unclosed, with_closes_sent, Log, head_of, with_segment}
+use Rattle.rc_model.specs.Model.{old_head_of, has_old_head, places_to, places_of, numbers_to, durable_now, is_opening}
+use Rattle.rc_model.specs.Model.{is_closing, is_writing, opens_head, next_digest, begin_roll, is_full, shuts, with_shut}
 use Rattle.rc_model.specs.Model.{may_start, may_close, may_write, left_out, starts, closes_old, writes_on, PartState, after_replay}
 use Rattle.rc_model.specs.Model.{is_to_answer, is_complete, answered_in, Master, ids_of, with_log, durable_replayed, dead_segments}
 use Rattle.rc_model.specs.Model.{appends_entry, when, follow_up, follows_start, follows_placed, close_is_due, close_marked}
@@ -48,9 +47,9 @@ lower-or : (old : Master) (one other : Option (Master × List Message)) → AllL
 lower-or old (Some done) other p q = p
 lower-or old None other p q = q
 
-lower-when : (old : Master) (b : Bool) (done : Master × List Message) → (b ≡ true → Lowers old done.0) → AllLower old (when b done)
-lower-when old true done p = p refl
-lower-when old false done p = tt
+lower-when : {old : Master} (b : Bool) (done : Master × List Message) → (b ≡ true → Lowers old done.0) → AllLower old (when b done)
+lower-when true done p = p refl
+lower-when false done p = tt
 
 -- Ranks
 
@@ -85,21 +84,16 @@ unsent segments seg = not (segments seg).config.committed && not (segments seg).
 abbrev pub unclosed : ℕ → Segment → ℕ
 unclosed head segment = one_if (nat_lt 1 head && has_unclosed segment)
 
-places-same : (old new : ℕ → Segment) (n : ℕ) → AllSameParts old new → length (places_to new n) ≡ length (places_to old n)
-places-same old new n same = ap length (places_to-agrees old new n (λ k _. (same k).entries))
+places-same : {old new : ℕ → Segment} (n : ℕ) → AllSameParts old new → length (places_to new n) ≡ length (places_to old n)
+places-same {old} {new} n same = ap length (places_to-agrees old new n (λ k _. (same k).entries))
 
-commits-same : (old new : ℕ → Segment) (n : ℕ) → AllSameParts old new →
+commits-same : {old new : ℕ → Segment} (n : ℕ) → AllSameParts old new →
     length (filter (unsent new) (numbers_to n)) ≡ length (filter (unsent old) (numbers_to n))
-commits-same old new n same =
-    ap length (filter-agrees (unsent new) (unsent old) n (λ k _ _.
-    ap (λ b. not b && not (new k).commit_sent) (ap (λ (c : Config). c.committed) (same k).config)
-    ∙ ap (λ b. not (old k).config.committed && not b) (same k).commit_sent))
+commits-same {old} {new} n same = search (arith, filter-agrees)
 
 closes-same : (head : ℕ) (old new : Segment) → new.config ≡ old.config → new.closes_sent ≡ old.closes_sent →
     unclosed head new ≡ unclosed head old
-closes-same head old new config sent =
-    ap (λ (c : Config). one_if (nat_lt 1 head && list_any (λ (member : Member). not (has_id member.id new.closes_sent)) c.members)) config
-    ∙ ap (λ ids. one_if (nat_lt 1 head && list_any (λ (member : Member). not (has_id member.id ids)) old.config.members)) sent
+closes-same head old new config sent = search (arith, nat_lt)
 
 -- none is left once Close was sent to all
 all-in : (members others : List Member) → ((id : ServerId) → has_id id (ids_of members) ≡ true → has_id id (ids_of others) ≡ true) →
@@ -118,33 +112,15 @@ closes-none : (segment : Segment) → has_unclosed (with_closes_sent segment) �
 closes-none segment = all-in segment.config.members segment.config.members (λ id e. e)
 
 unclosed-most : (head : ℕ) (segment : Segment) → unclosed head segment ≤ 1
-unclosed-most head segment = one_if-most (nat_lt 1 head && has_unclosed segment)
-  where
-    one_if-most : (b : Bool) → one_if b ≤ 1
-    one_if-most true = omega arith
-    one_if-most false = omega arith
+unclosed-most head segment = search (arith, nat_lt)
 
 -- The rules, one by one
 
-lowers-start : (master : Master) → may_start master.log ≡ true → Lowers master (with_log master (starts master.log))
-lowers-start master may =
-    let log : Log = master.log in
-    let parts : (is_opening master.log.phase ≡ true) × (nat_eq master.log.head 1 && is_ready (head_of master.log) ≡ true) =
-    and_parts (is_opening master.log.phase) (nat_eq master.log.head 1 && is_ready (head_of master.log)) may in
-    let ready : is_ready (head_of master.log) ≡ true = (and_parts (nat_eq master.log.head 1) (is_ready (head_of master.log)) parts.1).1 in
-    let placed : all_placed (head_of master.log).config ≡ true =
-    (and_parts (head_of master.log).config.committed (all_placed (head_of master.log).config) ready).1 in
-    let before : rank master.log master.log.phase ≡ 3 = rank-opening master.log master.log.phase parts.0 placed in
-    record { lower = omega arith; factor = refl }
+lowers-start : {master : Master} → may_start master.log ≡ true → Lowers master (with_log master (starts master.log))
+lowers-start {master} may = search (arith, nat_eq, and_parts, rank-opening)
 
-lowers-placed : (master : Master) → may_close master.log ≡ true → Lowers master (with_log master (closes_old master.log))
-lowers-placed master may =
-    let parts : (is_opening master.log.phase ≡ true) × (has_old_head master.log && all_placed (head_of master.log).config ≡ true) =
-    and_parts (is_opening master.log.phase) (has_old_head master.log && all_placed (head_of master.log).config) may in
-    let placed : all_placed (head_of master.log).config ≡ true =
-    (and_parts (has_old_head master.log) (all_placed (head_of master.log).config) parts.1).1 in
-    let before : rank master.log master.log.phase ≡ 3 = rank-opening master.log master.log.phase parts.0 placed in
-    record { lower = omega arith; factor = refl }
+lowers-placed : {master : Master} → may_close master.log ≡ true → Lowers master (with_log master (closes_old master.log))
+lowers-placed {master} may = search (arith, and_parts, rank-opening)
 
 lowers-closing : (master : Master) → close_is_due master.log ≡ true → Lowers master (with_log master (close_marked master.log))
 lowers-closing master due =
@@ -155,8 +131,7 @@ lowers-closing master due =
     let parts : (is_closing master.log.phase ≡ true) ×
     (has_old_head master.log && ((old_head_of master.log).config.committed && has_unclosed (old_head_of master.log))
     ≡ true) =
-    and_parts (is_closing master.log.phase)
-    (has_old_head master.log &&
+    and_parts (is_closing master.log.phase) (has_old_head master.log &&
     ((old_head_of master.log).config.committed && has_unclosed (old_head_of master.log))) due in
     let tests : (has_old_head master.log ≡ true) ×
     ((old_head_of master.log).config.committed && has_unclosed (old_head_of master.log) ≡ true) =
@@ -164,28 +139,26 @@ lowers-closing master due =
     let unsent_yet : has_unclosed (old_head_of master.log) ≡ true =
     (and_parts (old_head_of master.log).config.committed (has_unclosed (old_head_of master.log)) tests.1).1 in
     let same : AllSameParts old new =
-    same_parts-put old (master.log.head - 1) told (record { entries = refl; config = refl; commit_sent = refl }) in
+    same_parts-put old (record { entries = refl; config = refl; commit_sent = refl }) in
     let places : length (places_to new master.log.head) ≡ length (places_to old master.log.head) =
-    places-same old new master.log.head same in
+    places-same master.log.head same in
     let commits : length (filter (unsent new) (numbers_to master.log.head)) ≡ length
-    (filter (unsent old) (numbers_to master.log.head)) = commits-same old new master.log.head same in
+    (filter (unsent old) (numbers_to master.log.head)) = commits-same master.log.head same in
     let before : rank master.log master.log.phase ≡ 2 = rank-closing master.log master.log.phase parts.0 in
     let after : rank (close_marked master.log) master.log.phase ≡ 2 = rank-closing (close_marked master.log) master.log.phase parts.0 in
     let one : unclosed master.log.head (old (master.log.head - 1)) ≡ 1 =
     ap (λ b. one_if (b && has_unclosed (old_head_of master.log))) tests.0 ∙ ap one_if unsent_yet in
     let none : unclosed master.log.head (new (master.log.head - 1)) ≡ 0 =
-    ap (λ s. unclosed master.log.head s) (put-same old (master.log.head - 1) told) ∙
+    ap (λ s. unclosed master.log.head s) (put-same old (master.log.head - 1)) ∙
     (ap (λ b. one_if (b && has_unclosed told)) tests.0 ∙ ap one_if (closes-none (old_head_of master.log))) in
     record { lower = omega arith; factor = refl }
 
 lowers-shut : (master : Master) → may_write master.log ≡ true → Lowers master (with_log master (writes_on master.log))
-lowers-shut master may =
-    subst (λ log. Lowers master (with_log master log))
+lowers-shut master may = subst (λ log. Lowers master (with_log master log))
     (sym (with_freed-marked (left_out master.log) (record master.log { phase = Writing })))
     (lower (left_out master.log))
   where
-    lower : (segs : List ℕ) →
-        Lowers master (with_log master
+    lower : (segs : List ℕ) → Lowers master (with_log master
         (record master.log { phase = Writing; segments = marked segs master.log.segments }))
     lower segs =
         let old : ℕ → Segment = master.log.segments in
@@ -193,15 +166,14 @@ lowers-shut master may =
         let alone : (k : ℕ) → MarkedAlone (old k) (new k) = marked-alone segs master.log.segments in
         let same : AllSameParts old new = λ k. (alone k).parts in
         let places : length (places_to new master.log.head) ≡ length (places_to old master.log.head) =
-        places-same old new master.log.head same in
+        places-same master.log.head same in
         let commits : length (filter (unsent new) (numbers_to master.log.head)) ≡ length
-        (filter (unsent old) (numbers_to master.log.head)) = commits-same old new master.log.head same in
+        (filter (unsent old) (numbers_to master.log.head)) = commits-same master.log.head same in
         let closes : unclosed master.log.head (new (master.log.head - 1)) ≡ unclosed master.log.head (old (master.log.head - 1)) =
         closes-same master.log.head (old (master.log.head - 1)) (new (master.log.head - 1))
         (same (master.log.head - 1)).config (alone (master.log.head - 1)).closes_sent in
         let before : rank master.log master.log.phase ≡ 2 =
-        rank-closing master.log master.log.phase
-        (and_parts (is_closing master.log.phase) (has_old_head master.log &&
+        rank-closing master.log master.log.phase (and_parts (is_closing master.log.phase) (has_old_head master.log &&
         ((old_head_of master.log).shut && is_ready (head_of master.log))) may).0 in
         record { lower = omega arith; factor = refl }
 
@@ -229,11 +201,11 @@ lowers-commit master seg found wants =
     let not_sent : not (old seg).commit_sent ≡ true = (and_parts (all_placed (old seg).config) (not (old seg).commit_sent) parts.1).1 in
     let was : unsent old seg ≡ true = ap (λ b. b && not (old seg).commit_sent) parts.0 ∙ not_sent in
     let isn't : unsent new seg ≡ false =
-    ap (λ (s : Segment). not s.config.committed && not s.commit_sent) (put-same old seg told) ∙
+    ap (λ (s : Segment). not s.config.committed && not s.commit_sent) (put-same old seg) ∙
     and_false (not (old seg).config.committed) in
     let commits_lower : length (filter (unsent new) (numbers_to master.log.head)) < length
     (filter (unsent old) (numbers_to master.log.head)) =
-    filter-lower (λ k. not (old k).shut) (unsent old) (unsent new) (numbers_to master.log.head) seg narrower was isn't found in
+    filter-lower (λ k. not (old k).shut) (numbers_to master.log.head) narrower was isn't found in
     let places : length (places_to new master.log.head) ≡ length (places_to old master.log.head) =
     ap length (places_to-agrees old new master.log.head (λ k _. entries k)) in
     let closes : unclosed master.log.head (new (master.log.head - 1)) ≡ unclosed master.log.head (old (master.log.head - 1)) =
@@ -246,23 +218,15 @@ lowers-open : (master : Master) (open_one : Option ℕ) → first_open master.lo
     (option_and_then (λ one. when (wants_commit (master.log.segments one)) (commits master one)) open_one)
 lowers-open master None found = tt
 lowers-open master (Some seg) found =
-    lower-when master (wants_commit (master.log.segments seg)) (commits master seg) (lowers-commit master seg found)
+    lower-when (wants_commit (master.log.segments seg)) (commits master seg) (lowers-commit master seg found)
 
-lowers-stored : (master : Master) → nat_lt master.log.durable (durable_now master.log) ≡ true →
+lowers-stored : {master : Master} → nat_lt master.log.durable (durable_now master.log) ≡ true →
     Lowers master (with_log master (record master.log { durable = durable_now master.log }))
-lowers-stored master more =
-    let above : master.log.durable < durable_now master.log = ltb-true master.log.durable (durable_now master.log) more in
-    let within : durable_now master.log ≤ total (map master.log.segments (numbers_to master.log.head)) =
-    durable-within (map master.log.segments (numbers_to master.log.head)) in
-    let all : total (map master.log.segments (numbers_to master.log.head)) ≡ length (places_of master.log) =
-    total-places master.log.segments master.log.head in
-    let ranks : rank (record master.log { durable = durable_now master.log }) master.log.phase ≡ rank master.log master.log.phase =
-    rank-same master.log (record master.log { durable = durable_now master.log }) master.log.phase refl in
-    record { lower = omega arith; factor = refl }
+lowers-stored {master} more = search (arith, ltb-true, total, durable-within, total-places, rank-same)
 
 -- a number up to the head isn't the next one
-apart : (head k : ℕ) → k ≤ head → nat_eq (head + 1) k ≡ false
-apart head k most = ne_eqb (head + 1) k (λ same. omega arith)
+apart : {head k : ℕ} → k ≤ head → nat_eq (head + 1) k ≡ false
+apart {head} {k} most = ne_eqb (head + 1) k (λ same. omega arith)
 
 -- a head on at least one member isn't placed yet
 fresh-unplaced : (seg : ℕ) (ids : List ServerId) → 0 < length ids → all_placed (new_config seg ids) ≡ false
@@ -274,47 +238,22 @@ fresh-commits : (old : ℕ → Segment) (head : ℕ) (digest : List ℕ) (ids : 
     length (filter (unsent (put old (head + 1) (new_segment (head + 1) digest ids))) (numbers_to (head + 1))) ≡ length
     (filter (unsent old) (numbers_to head))
 fresh-commits old head digest ids =
-    let fresh : Segment = new_segment (head + 1) digest ids in
-    let new : ℕ → Segment = put old (head + 1) fresh in
-    let numbers : numbers_to (head + 1) ≡ numbers_to head ++ suc head ∷ [] = ap numbers_to (add-one head) in
-    let last : unsent new (suc head) ≡ false = ap (λ k. unsent new k) (sym (add-one head)) ∙
-    ap (λ (s : Segment). not s.config.committed && not s.commit_sent) (put-same old (head + 1) fresh) in
-    let below : filter (unsent new) (numbers_to head) ≡ filter (unsent old) (numbers_to head) =
-    filter-agrees (unsent new) (unsent old) head
-    (λ k _ most. ap (λ (s : Segment). not s.config.committed && not s.commit_sent)
-    (put-other old (head + 1) fresh k (apart head k most))) in
-    let parted : filter (unsent new) (numbers_to head ++ suc head ∷ []) ≡ filter (unsent new) (numbers_to head) ++
-    cond (unsent new (suc head)) (suc head ∷ []) [] =
-    filter-append (unsent new) (numbers_to head) (suc head ∷ []) in
-    let gone : filter (unsent new) (numbers_to head) ++ cond (unsent new (suc head)) (suc head ∷ []) [] ≡ filter
-    (unsent new) (numbers_to head) ++ [] =
-    ap (λ b. filter (unsent new) (numbers_to head) ++ cond b (suc head ∷ []) []) last in
-    ap (λ ns. length (filter (unsent new) ns)) numbers ∙
-    (ap length parted ∙ (ap length gone ∙ (ap length (append-nil (filter (unsent new) (numbers_to head))) ∙
-    ap length below)))
+    search (arith, suc, add-one, put-same, filter-agrees, put-other, apart, filter-append, append-nil)
 
 -- and the places are those before
 fresh-places : (old : ℕ → Segment) (head : ℕ) (digest : List ℕ) (ids : List ServerId) →
     length (places_to (put old (head + 1) (new_segment (head + 1) digest ids)) (head + 1)) ≡ length (places_to old head)
 fresh-places old head digest ids =
-    let fresh : Segment = new_segment (head + 1) digest ids in
-    let new : ℕ → Segment = put old (head + 1) fresh in
-    let below : places_to new head ≡ places_to old head =
-    places_to-agrees old new head (λ k most. ap (λ (s : Segment). s.entries) (put-other old (head + 1) fresh k (apart head k most))) in
-    let last : (new (suc head)).entries ≡ [] = ap (λ k. (new k).entries) (sym (add-one head)) ∙
-    ap (λ (s : Segment). s.entries) (put-same old (head + 1) fresh) in
-    ap (λ n. length (places_to new n)) (add-one head)
-    ∙ (ap (λ entries. length (places_to new head ++ places_in (suc head) 0 entries)) last
-    ∙ (ap length (append-nil (places_to new head)) ∙ ap length below))
+    search (arith, places_to-agrees, put-other, apart, suc, add-one, put-same, append-nil)
 
 -- a roll of a log whose segments have replicas
-lowers-opened : (master : Master) (digest : List ℕ) (ids : List ServerId) → 0 < length ids → is_writing master.log.phase ≡ true →
+lowers-opened : {master : Master} (digest : List ℕ) (ids : List ServerId) → 0 < length ids → is_writing master.log.phase ≡ true →
     Lowers master (with_log master (opens_head master.log digest ids))
-lowers-opened master digest ids some writes =
+lowers-opened {master} digest ids some writes =
     let log : Log = opens_head master.log digest ids in
     let fresh : Segment = new_segment (master.log.head + 1) digest ids in
     let before : rank master.log master.log.phase ≡ 1 = rank-writing master.log master.log.phase writes in
-    let head_is : head_of log ≡ fresh = put-same master.log.segments (master.log.head + 1) fresh in
+    let head_is : head_of log ≡ fresh = put-same master.log.segments (master.log.head + 1) in
     let after : rank log Opening ≡ 0 =
     ap (λ (s : Segment). cond (all_placed s.config) 3 0) head_is ∙ ap (λ b. cond b 3 0) (fresh-unplaced (master.log.head + 1) ids some) in
     let places : length (places_of log) ≡ length (places_of master.log) = fresh-places master.log.segments master.log.head digest ids in
@@ -327,31 +266,21 @@ lowers-chosen : (master : Master) (chosen : Option (List ServerId)) → is_writi
     AllLower master (rolls_for_replay master (opened_on master.log (next_digest master.log (dead_segments master)) chosen))
 lowers-chosen master None writes some = tt
 lowers-chosen master (Some ids) writes some =
-    lowers-opened master (next_digest master.log (dead_segments master)) ids (some ids refl) writes
+    lowers-opened (next_digest master.log (dead_segments master)) ids (some ids refl) writes
 
 -- as many members are chosen as a segment has replicas
-pub choose-length : (seg : ℕ) (own : ServerId) (factor : ℕ) (servers : ServerList) (ids : List ServerId) →
+pub choose-length : (seg : ℕ) (own : ServerId) {factor : ℕ} (servers : ServerList) {ids : List ServerId} →
     choose seg own factor servers ≡ Some ids → length ids ≡ factor
-choose-length seg own factor servers ids e = by (nat_lt (length (candidates seg own servers)) factor) refl e
-  where
-    by : (b : Bool) → nat_lt (length (candidates seg own servers)) factor ≡ b →
-        cond b None (Some (take factor (candidates seg own servers))) ≡ Some ids → length ids ≡ factor
-    by true few e = cc
-    by false enough e =
-        let same : take factor (candidates seg own servers) ≡ ids = cc in
-        let most : factor ≤ length (candidates seg own servers) = grind (arith, nat_tests) in
-        ap length (sym same) ∙ length-take-le factor (candidates seg own servers) most
+choose-length seg own {factor} servers {ids} e = search (arith, nat_lt, nat_tests, length-take-le)
 
 lowers-roll : (master : Master) → master.log.factor ≢ 0 → is_writing master.log.phase ≡ true →
     AllLower master (rolls_for_replay master (begin_roll master.known (dead_segments master) master.log))
 lowers-roll master factor writes =
     either (λ answer. AllLower master (rolls_for_replay master answer)) (nat_lt master.log.head LAST_SEGMENT)
     (opened_on master.log (next_digest master.log (dead_segments master))
-    (choose (master.log.head + 1) master.log.own master.log.factor master.known))
-    (master.log, Err LogFull)
+    (choose (master.log.head + 1) master.log.own master.log.factor master.known)) (master.log, Err LogFull)
     (λ _. lowers-chosen master (choose (master.log.head + 1) master.log.own master.log.factor master.known) writes
-    (λ ids e. let n : length ids ≡ master.log.factor = choose-length (master.log.head + 1) master.log.own
-    master.log.factor master.known ids e in omega arith))
+    (λ ids e. let n : length ids ≡ master.log.factor = choose-length (master.log.head + 1) master.log.own master.known e in omega arith))
     (λ _. tt)
 
 -- an entry more at the end of the head
@@ -359,55 +288,13 @@ one-more : (old : ℕ → Segment) (head : ℕ) (segment : Segment) → length s
     length (places_to (put old head segment) head) ≤ length (places_to old head) + 1
 one-more old zero segment more = omega arith
 one-more old (suc n) segment more =
-    let new : ℕ → Segment = put old (suc n) segment in
-    let below : places_to new n ≡ places_to old n =
-    places_to-agrees old new n
-    (λ k most. ap (λ (s : Segment). s.entries)
-    (put-other old (suc n) segment k (ne_eqb (suc n) k (λ same. omega arith)))) in
-    let here : new (suc n) ≡ segment = put-same old (suc n) segment in
-    let after : length (places_to new n ++ places_in (suc n) 0 (new (suc n)).entries) ≡ length
-    (places_to new n) + length (places_in (suc n) 0 (new (suc n)).entries) =
-    length-append (places_to new n) (places_in (suc n) 0 (new (suc n)).entries) in
-    let before : length (places_to old n ++ places_in (suc n) 0 (old (suc n)).entries) ≡ length
-    (places_to old n) + length (places_in (suc n) 0 (old (suc n)).entries) =
-    length-append (places_to old n) (places_in (suc n) 0 (old (suc n)).entries) in
-    let m : length (places_in (suc n) 0 (new (suc n)).entries) ≡ length (new (suc n)).entries =
-    length-places_in (suc n) 0 (new (suc n)).entries in
-    let l : length (places_in (suc n) 0 (old (suc n)).entries) ≡ length (old (suc n)).entries =
-    length-places_in (suc n) 0 (old (suc n)).entries in
-    let same : length (new (suc n)).entries ≡ length segment.entries = ap (λ (s : Segment). length s.entries) here in
-    let fronts : length (places_to new n) ≡ length (places_to old n) = ap length below in
-    omega arith
+    search (arith, places_to-agrees, put-other, ne_eqb, put-same, length-append, length-places_in)
 
 lowers-append : (master : Master) (entry : Entry) (entries : List Entry) → master.ownership.replay ≡ entry ∷ entries →
     is_writing master.log.phase ≡ true →
     Lowers master (appends_entry (record master { ownership = after_replay master.ownership }) entry false).0
 lowers-append master entry entries waits writes =
-    let old : ℕ → Segment = master.log.segments in
-    let grown : Segment = with_entry entry false (head_of master.log) in
-    let new : ℕ → Segment = put old master.log.head grown in
-    let log : Log = appends entry false master.log in
-    let before : rank master.log master.log.phase ≡ 1 = rank-writing master.log master.log.phase writes in
-    let after : rank log master.log.phase ≡ 1 = rank-writing log master.log.phase writes in
-    let config : (k : ℕ) → (new k).config ≡ (old k).config =
-    put_each (λ k (s : Segment). s.config ≡ (old k).config) old master.log.head grown refl (λ k. refl) in
-    let commit_sent : (k : ℕ) → (new k).commit_sent ≡ (old k).commit_sent =
-    put_each (λ k (s : Segment). s.commit_sent ≡ (old k).commit_sent) old master.log.head grown refl (λ k. refl) in
-    let closes_sent : (new (master.log.head - 1)).closes_sent ≡ (old (master.log.head - 1)).closes_sent =
-    put_each (λ k (s : Segment). s.closes_sent ≡ (old k).closes_sent) old master.log.head grown refl (λ k. refl) (master.log.head - 1) in
-    let commits : length (filter (unsent new) (numbers_to master.log.head)) ≡ length (filter (unsent old) (numbers_to master.log.head)) =
-    ap length (filter-agrees (unsent new) (unsent old) master.log.head (λ k _ _.
-    ap (λ b. not b && not (new k).commit_sent) (ap (λ (c : Config). c.committed) (config k))
-    ∙ ap (λ b. not (old k).config.committed && not b) (commit_sent k))) in
-    let closes : unclosed master.log.head (new (master.log.head - 1)) ≡ unclosed master.log.head (old (master.log.head - 1)) =
-    closes-same master.log.head (old (master.log.head - 1)) (new (master.log.head - 1)) (config (master.log.head - 1)) closes_sent in
-    let more : length grown.entries ≡ length (old master.log.head).entries + 1 =
-    length-append (old master.log.head).entries ((entry, false) ∷ []) in
-    let places : length (places_to new master.log.head) ≤ length (places_to old master.log.head) + 1 =
-    one-more old master.log.head grown (omega arith) in
-    let all : length master.ownership.replay ≡ length entries + 1 = ap length waits ∙ omega arith in
-    let rest : length (after_replay master.ownership).replay ≡ length entries = ap (λ replay. length (drop 1 replay)) waits in
-    record { lower = omega arith; factor = refl }
+    search (arith, rank-writing, put_each, filter-agrees, closes-same, length-append, one-more)
 
 lowers-replay : (master : Master) (replay : List Entry) → master.ownership.replay ≡ replay → master.log.factor ≢ 0 →
     is_writing master.log.phase ≡ true →
@@ -419,15 +306,13 @@ lowers-replay master (entry ∷ entries) waits factor writes =
     (λ _. lowers-roll master factor writes) (λ _. lowers-append master entry entries waits writes)
 
 lowers-data : (master : Master) → master.log.factor ≢ 0 → AllLower master (follows_data master)
-lowers-data master factor =
-    either (AllLower master) (is_writing master.log.phase) (replays master master.ownership.replay) None
-    (λ writes. lowers-replay master master.ownership.replay refl factor writes) (λ _. tt)
+lowers-data master factor = search (arith, either, lowers-replay)
 
 -- one part fewer waits for its answer
-answered-lower : (durable : List Entry) (states : List PartState) (state : PartState) → find (is_to_answer durable) states ≡ Some state →
+answered-lower : (durable : List Entry) (states : List PartState) {state : PartState} → find (is_to_answer durable) states ≡ Some state →
     parts_unanswered (answered_in durable states) < parts_unanswered states
-answered-lower durable [] state e = cc
-answered-lower durable (one ∷ others) state e = by (is_to_answer durable one) refl one.answered refl (answered-lower durable others state) e
+answered-lower durable [] e = cc
+answered-lower durable (one ∷ others) {state} e = by (is_to_answer durable one) refl one.answered refl (answered-lower durable others) e
   where
     by : (b : Bool) → is_to_answer durable one ≡ b → (a : Bool) → one.answered ≡ a →
         (find (is_to_answer durable) others ≡ Some state → parts_unanswered (answered_in durable others) < parts_unanswered others) →
@@ -437,46 +322,31 @@ answered-lower durable (one ∷ others) state e = by (is_to_answer durable one) 
         (filter (λ (s : PartState). not s.answered) others))
     by true is true told rec e = true_false (sym (and_parts (is_complete durable one) (not one.answered) is).1 ∙ ap not told)
     by true is false told rec e = omega arith
-    by false isn't true told rec e =
-        let rest : parts_unanswered (answered_in durable others) < parts_unanswered others = rec e in
-        let here : parts_unanswered (one ∷ answered_in durable others) ≡ parts_unanswered (answered_in durable others) =
-        ap (λ b. length (cond (not b) (one ∷ filter (λ (s : PartState). not s.answered) (answered_in durable others))
-        (filter (λ (s : PartState). not s.answered) (answered_in durable others)))) told in
-        omega arith
-    by false isn't false told rec e =
-        let rest : parts_unanswered (answered_in durable others) < parts_unanswered others = rec e in
-        let here : parts_unanswered (one ∷ answered_in durable others) ≡ parts_unanswered (answered_in durable others) + 1 =
-        ap (λ b. length (cond (not b) (one ∷ filter (λ (s : PartState). not s.answered) (answered_in durable others))
-        (filter (λ (s : PartState). not s.answered) (answered_in durable others)))) told
-        ∙ omega arith in
-        omega arith
+    by false isn't true told rec e = search arith
+    by false isn't false told rec e = search arith
 
 lowers-answer : (master : Master) (found : Option PartState) →
     find (is_to_answer (durable_replayed master)) master.ownership.parts ≡ found →
     AllLower master (answers_part master (option_map (λ state. state.part.term) found))
 lowers-answer master None found = tt
-lowers-answer master (Some state) found =
-    let less : parts_unanswered (answered_in (durable_replayed master) master.ownership.parts) < parts_unanswered master.ownership.parts =
-    answered-lower (durable_replayed master) master.ownership.parts state found in
-    record { lower = omega arith; factor = refl }
+lowers-answer master (Some state) found = search (arith, answered-lower)
 
 -- Every rule that applies lowers the measure.
 pub lowers : (master : Master) → master.log.factor ≢ 0 → AllLower master (follow_up master)
 lowers master factor =
     let start : AllLower master (follows_start master) =
-    lower-when master (may_start master.log) (
+    lower-when (may_start master.log) (
       with_log master (starts master.log),
-      to_coordinator master.log.own
-          Ready ∷ [],
-    ) (lowers-start master) in
+      to_coordinator master.log.own Ready ∷ [],
+    ) lowers-start in
     let placed : AllLower master (follows_placed master) =
-    lower-when master (may_close master.log) (with_log master (closes_old master.log), []) (lowers-placed master) in
+    lower-when (may_close master.log) (with_log master (closes_old master.log), []) lowers-placed in
     let closing : AllLower master (follows_closing master) =
-    lower-when master (close_is_due master.log) (_, _) (lowers-closing master) in
-    let shut : AllLower master (follows_shut master) = lower-when master (may_write master.log) (_, _) (lowers-shut master) in
+    lower-when (close_is_due master.log) (_, _) (lowers-closing master) in
+    let shut : AllLower master (follows_shut master) = lower-when (may_write master.log) (_, _) (lowers-shut master) in
     let change : AllLower master (follows_change master) = lowers-open master (first_open master.log) refl in
     let stored : AllLower master (follows_stored master) =
-    lower-when master (nat_lt master.log.durable (durable_now master.log)) (_, _) (lowers-stored master) in
+    lower-when (nat_lt master.log.durable (durable_now master.log)) (_, _) lowers-stored in
     let data_ : AllLower master (follows_data master) = lowers-data master factor in
     let replay : AllLower master (follows_replay master) =
     lowers-answer master (find (is_to_answer (durable_replayed master)) master.ownership.parts) refl in
@@ -491,29 +361,11 @@ shut_marked log = with_segment (log.head - 1) (record (old_head_of log) { shut =
 
 measure-shut_marked : (master : Master) → measure (with_log master (shut_marked master.log)) ≡ measure master
 measure-shut_marked master =
-    let old : ℕ → Segment = master.log.segments in
-    let shut : Segment = record (old_head_of master.log) { shut = true } in
-    let new : ℕ → Segment = put old (master.log.head - 1) shut in
-    let same : AllSameParts old new =
-    same_parts-put old (master.log.head - 1) shut (record { entries = refl; config = refl; commit_sent = refl }) in
-    let closes_sent : (new (master.log.head - 1)).closes_sent ≡ (old (master.log.head - 1)).closes_sent =
-    put_each (λ k (s : Segment). s.closes_sent ≡ (old k).closes_sent) old (master.log.head - 1) shut refl (λ k. refl)
-    (master.log.head - 1) in
-    let places : length (places_to new master.log.head) ≡ length (places_to old master.log.head) =
-    places-same old new master.log.head same in
-    let commits : length (filter (unsent new) (numbers_to master.log.head)) ≡ length
-    (filter (unsent old) (numbers_to master.log.head)) = commits-same old new master.log.head same in
-    let closes : unclosed master.log.head (new (master.log.head - 1)) ≡ unclosed master.log.head (old (master.log.head - 1)) =
-    closes-same master.log.head (old (master.log.head - 1)) (new (master.log.head - 1)) (same (master.log.head - 1)).config closes_sent in
-    let ranks : rank (shut_marked master.log) master.log.phase ≡ rank master.log master.log.phase =
-    rank-same master.log (shut_marked master.log) master.log.phase (same master.log.head).config in
-    omega arith
+    search (arith, same_parts-put, put_each, places-same, commits-same, closes-same, rank-same)
 
 -- marking changes neither the measure nor how many replicas there are
 pub measure-marks_shut : (master : Master) → measure (marks_shut master) ≡ measure master
-measure-marks_shut master =
-    either (λ log. measure (with_log master log) ≡ measure master) (shuts master.log) (shut_marked master.log) master.log
-    (λ _. measure-shut_marked master) (λ _. refl)
+measure-marks_shut master = search (arith, either, measure-shut_marked)
 
 factor-marks_shut : (master : Master) → (marks_shut master).log.factor ≡ master.log.factor
 factor-marks_shut master =
@@ -521,25 +373,10 @@ factor-marks_shut master =
 
 -- what is marked once stays marked
 shut_marked-twice : (log : Log) → shut_marked (shut_marked log) ≡ shut_marked log
-shut_marked-twice log = ap (λ (segments : ℕ → Segment). record log { segments = segments }) (fun_ext at)
-  where
-    -- put again where it stands already
-    again : (b : Bool) (one two other : Segment) → two ≡ one → cond b two (cond b one other) ≡ cond b one other
-    again true one two other same = same
-    again false one two other same = refl
-
-    at : (k : ℕ) → (shut_marked (shut_marked log)).segments k ≡ (shut_marked log).segments k
-    at k =
-        again (nat_eq (log.head - 1) k) (record (old_head_of log) { shut = true })
-        (record (old_head_of (shut_marked log)) { shut = true }) (log.segments k)
-        (ap (λ (s : Segment). record s { shut = true }) (put-same log.segments (log.head - 1) (record (old_head_of log) { shut = true })))
+shut_marked-twice log = search (arith, fun_ext, nat_eq, put-same)
 
 pub with_shut-twice : (log : Log) → with_shut (with_shut log) ≡ with_shut log
-with_shut-twice log =
-    either (λ after. with_shut after ≡ after) (shuts log) (shut_marked log) log
-    (λ _. either (λ after. after ≡ shut_marked log) (shuts (shut_marked log)) (shut_marked (shut_marked log)) (shut_marked log)
-    (λ _. shut_marked-twice log) (λ _. refl))
-    (λ isn't. ap (λ b. cond b (shut_marked log) log) isn't)
+with_shut-twice log = search (arith, either, shut_marked-twice)
 
 -- How often is enough
 
@@ -567,16 +404,7 @@ one_if-most true = omega arith
 one_if-most false = omega arith
 
 pub measure-enough : (master : Master) → measure master ≤ enough master
-measure-enough master =
-    let ranks : rank master.log master.log.phase ≤ 3 = rank-most master.log master.log.phase in
-    let closes : closes_unsent master.log ≤ 1 = one_if-most (has_old_head master.log && has_unclosed (old_head_of master.log)) in
-    let numbers : length (numbers_to master.log.head) ≡ master.log.head = numbers-long master.log.head in
-    let commits : commits_unsent master.log ≤ length (numbers_to master.log.head) =
-    filter-short (λ seg. not (master.log.segments seg).config.committed && not (master.log.segments seg).commit_sent)
-    (numbers_to master.log.head) in
-    let parts : parts_unanswered master.ownership.parts ≤ length master.ownership.parts =
-    filter-short (λ state. not state.answered) master.ownership.parts in
-    omega arith
+measure-enough master = search (arith, rank-most, one_if-most, numbers-long, filter-short)
 
 -- Following up to the end
 
@@ -596,9 +424,7 @@ settles (suc times) master factor most =
         ((next : Master) → next.log.factor ≢ 0 → measure next ≤ times → follow_up (followed times next).0 ≡ None) →
         follow_up (further done (marks_shut master) (λ next. followed times next)).0 ≡ None
     by None e less rec = e
-    by (Some done) e less rec =
-        let same : measure (marks_shut master) ≡ measure master = measure-marks_shut master in
-        rec done.0 (λ z. factor (sym (factor-marks_shut master) ∙ (sym less.factor ∙ z))) (omega (arith, less.lower))
+    by (Some done) e less rec = search (arith, measure-marks_shut, factor-marks_shut)
 
 -- and what is shut is marked then
 pub ends-marked : (times : ℕ) (master : Master) → marks_shut (followed times master).0 ≡ (followed times master).0
@@ -618,11 +444,8 @@ goes_on-up master up = ap (λ b. cond b (master, []) (followed (enough master) m
 
 -- and none applies afterwards
 pub goes_on-settles : (master : Master) → master.log.factor ≢ 0 → master.deposed ≡ false → follow_up (goes_on master).0 ≡ None
-goes_on-settles master factor up =
-    ap (λ (after : Master × List Message). follow_up after.0) (goes_on-up master up)
+goes_on-settles master factor up = ap (λ (after : Master × List Message). follow_up after.0) (goes_on-up master up)
     ∙ settles (enough master) master factor (measure-enough master)
 
 pub goes_on-marked : (master : Master) → master.deposed ≡ false → marks_shut (goes_on master).0 ≡ (goes_on master).0
-goes_on-marked master up =
-    subst (λ (after : Master × List Message). marks_shut after.0 ≡ after.0) (sym (goes_on-up master up))
-    (ends-marked (enough master) master)
+goes_on-marked master up = search (arith, goes_on-up, ends-marked)

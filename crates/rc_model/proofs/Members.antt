@@ -100,28 +100,22 @@ map-In f x (z ∷ xs) (inr rest) = inr (map-In f x xs rest)
 
 pub held-reaches : (rows : List PlanRow) (row : PlanRow) (s o : ℕ) → In row rows → row.seg ≡ s → o < row.len → o < reach rows s
 held-reaches [] row s o at seg below = absurd at
-held-reaches (first ∷ rows) row s o (inl e) seg below =
-    let len : row.len ≡ first.len = ap (λ (r : PlanRow). r.len) e in let same : first.seg ≡ s = sym (ap (λ (r : PlanRow). r.seg) e) ∙ seg in
-    either (λ n. o < n) (nat_eq first.seg s) (max first.len (reach rows s)) (reach rows s)
-    (λ _. omega (arith, below, len)) (λ no. let is : nat_eq first.seg s ≡ true = eq-eqb first.seg s same in cc)
+held-reaches (first ∷ rows) row s o (inl e) seg below = search (arith, either, nat_eq, eq-eqb)
 held-reaches (first ∷ rows) row s o (inr rest) seg below =
     let later : o < reach rows s = held-reaches rows row s o rest seg below in
     either (λ n. o < n) (nat_eq first.seg s) (max first.len (reach rows s)) (reach rows s) (λ _. omega (arith, later)) (λ _. later)
 
-held-more : (first : PlanRow) (rows : List PlanRow) (s o : ℕ) → IsHeld rows s o → IsHeld (first ∷ rows) s o
-held-more first rows s o p = record { row = p.row; among = inr p.among; seg = p.seg; below = p.below }
+held-more : {first : PlanRow} {rows : List PlanRow} {s o : ℕ} → IsHeld rows s o → IsHeld (first ∷ rows) s o
+held-more p = record { row = p.row; among = inr p.among; seg = p.seg; below = p.below }
 
-pub held-from_reach : (rows : List PlanRow) (s o : ℕ) → o < reach rows s → IsHeld rows s o
-held-from_reach [] s o below = absurd (none below)
-  where
-    none : o < 0 → ⊥
-    none h = omega (arith, h)
-held-from_reach (first ∷ rows) s o below = by (nat_eq first.seg s) refl (held-from_reach rows s o) below
+pub held-from_reach : (rows : List PlanRow) {s o : ℕ} → o < reach rows s → IsHeld rows s o
+held-from_reach [] {o} below = search arith
+held-from_reach (first ∷ rows) {s} {o} below = by (nat_eq first.seg s) refl (held-from_reach rows) below
   where
     which : nat_eq first.seg s ≡ true → (o < reach rows s → IsHeld rows s o) → (o < first.len) ⊎ (o < reach rows s) →
         IsHeld (first ∷ rows) s o
     which same later (inl here) = record { row = first; among = inl refl; seg = eqb-true first.seg s same; below = here }
-    which same later (inr there) = held-more first rows s o (later there)
+    which same later (inr there) = held-more (later there)
 
     of_max : (a b : ℕ) → o < max a b → (o < a) ⊎ (o < b)
     of_max a b h = grind arith
@@ -129,13 +123,13 @@ held-from_reach (first ∷ rows) s o below = by (nat_eq first.seg s) refl (held-
     by : (b : Bool) → nat_eq first.seg s ≡ b → (o < reach rows s → IsHeld rows s o) →
         o < cond b (max first.len (reach rows s)) (reach rows s) → IsHeld (first ∷ rows) s o
     by true same later h = which same later (of_max first.len (reach rows s) h)
-    by false same later h = held-more first rows s o (later h)
+    by false same later h = held-more (later h)
 
-pub is_recovered-held : (rows : List PlanRow) (s o : ℕ) → is_recovered rows s o ≡ true → IsHeld rows s o
-is_recovered-held rows s o e = held-from_reach rows s o (ltb-true o (reach rows s) e)
+pub is_recovered-held : {rows : List PlanRow} {s o : ℕ} → is_recovered rows s o ≡ true → IsHeld rows s o
+is_recovered-held {rows} {s} {o} e = held-from_reach rows (ltb-true o (reach rows s) e)
 
-pub held-is_recovered : (rows : List PlanRow) (s o : ℕ) → IsHeld rows s o → is_recovered rows s o ≡ true
-held-is_recovered rows s o p = lt-ltb o (reach rows s) (held-reaches rows p.row s o p.among p.seg p.below)
+pub held-is_recovered : {rows : List PlanRow} {s o : ℕ} → IsHeld rows s o → is_recovered rows s o ≡ true
+held-is_recovered {rows} {s} {o} p = lt-ltb o (reach rows s) (held-reaches rows p.row s o p.among p.seg p.below)
 
 -- the segment of a place that is held is one of the rows'
 pub held-segment : (rows : List PlanRow) (row : PlanRow) → In row rows → In row.seg (segments_of rows)

@@ -1,28 +1,22 @@
 -- How writes are numbered and appended.
-use Rattle.std.proofs.Common.{◌≡◌, ℕ, zero, suc, ◌+◌, ◌<◌, ◌≤◌, Bool, true, false, cond, not, max, List, [], ◌∷◌, ◌++◌}
-use Rattle.std.proofs.Common.{length, Option, Some, slice_get, sym, ap, ◌∙◌, arith}
+use Rattle.std.proofs.Common.{◌≡◌, ℕ, zero, suc, ◌+◌, ◌<◌, ◌≤◌, Bool, true, false, max, List, [], ◌∷◌, ◌++◌}
+use Rattle.std.proofs.Common.{length, Option, Some, slice_get, ap, ◌∙◌, arith}
 use Rattle.std.proofs.lemmas.Bool.{ne_eqb}
 use Rattle.std.proofs.lemmas.List.{append_assoc}
-use Rattle.rc_model.specs.Model.{Entry, Message, Rolling, ValueTooLong, put, Segment, with_entry, LogPlace, places_in, places_to}
-use Rattle.rc_model.specs.Model.{places_of, entries_of, is_writing, is_full, begin_roll, term_of, is_of, greatest_version, Master}
-use Rattle.rc_model.specs.Model.{dead_segments, appends_entry, is_too_long, written, writes, rolls_for_write, refused, if_owned}
-use Rattle.rc_model.specs.Model.{writes_under, NotOwner}
+use Rattle.rc_model.specs.Model.{Entry, put, Segment, with_entry, LogPlace, places_in, places_to}
+use Rattle.rc_model.specs.Model.{places_of, entries_of, is_writing, is_full, term_of, is_of, greatest_version, Master}
+use Rattle.rc_model.specs.Model.{appends_entry, is_too_long, written, writes}
 use Rattle.rc_model.proofs.Tests.{either}
 use Rattle.rc_model.proofs.Tables.{put-same, put-other}
 use Rattle.rc_model.proofs.LogParts.{places_to-agrees}
-use Rattle.std.specs.Option.{option_map_or}
 
 -- no version of the key under the term is above the greatest
-pub greatest-above : (term table key : ℕ) (entries : List Entry) (k : ℕ) (entry : Entry) → slice_get entries k ≡ Some entry →
+pub greatest-above : (term table key : ℕ) (entries : List Entry) (k : ℕ) {entry : Entry} → slice_get entries k ≡ Some entry →
     is_of term table key entry ≡ true → entry.version ≤ greatest_version term table key entries
-greatest-above term table key [] k entry found is = cc
-greatest-above term table key (one ∷ others) zero entry found is =
-    let same : one ≡ entry = cc in
-    let here : is_of term table key one ≡ true = ap (is_of term table key) same ∙ is in
-    let version : one.version ≡ entry.version = ap (λ (e : Entry). e.version) same in
-    rw here (omega arith)
-greatest-above term table key (one ∷ others) (suc k) entry found is =
-    let rest : entry.version ≤ greatest_version term table key others = greatest-above term table key others k entry found is in
+greatest-above term table key [] k found is = cc
+greatest-above term table key (one ∷ others) zero {entry} found is = search arith
+greatest-above term table key (one ∷ others) (suc k) {entry} found is =
+    let rest : entry.version ≤ greatest_version term table key others = greatest-above term table key others k found is in
     either (λ n. entry.version ≤ n) (is_of term table key one)
     (max one.version (greatest_version term table key others)) (greatest_version term table key others)
     (λ _. omega arith) (λ _. rest)
@@ -31,10 +25,7 @@ greatest-above term table key (one ∷ others) (suc k) entry found is =
 pub written-above : (master : Master) (term table key : ℕ) (value : Option (List ℕ)) (k : ℕ) (entry : Entry) →
     slice_get (entries_of master.log) k ≡ Some entry → is_of term table key entry ≡ true →
     entry.version < (written master term table key value).version
-written-above master term table key value k entry found is =
-    let most : entry.version ≤ greatest_version term table key (entries_of master.log) =
-    greatest-above term table key (entries_of master.log) k entry found is in
-    omega arith
+written-above master term table key value k entry found is = search (arith, greatest-above)
 
 -- the place of one more entry
 places_in-push : (seg offset : ℕ) (entries : List (Entry × Bool)) (entry : Entry) (client : Bool) →
@@ -55,36 +46,17 @@ pub places-push : (segments : ℕ → Segment) (head : ℕ) (entry : Entry) (cli
     ≡ places_to segments head ++ record { seg = head; offset = length (segments head).entries; entry = entry; client = client } ∷ []
 places-push segments zero entry client some = absurd (omega arith)
 places-push segments (suc n) entry client some =
-    let grown : Segment = with_entry entry client (segments (suc n)) in
-    let new : ℕ → Segment = put segments (suc n) grown in
-    let place : ℕ → LogPlace = λ o. record { seg = suc n; offset = o; entry = entry; client = client } in
-    let below : places_to new n ≡ places_to segments n =
-    places_to-agrees segments new n
-    (λ k most. ap (λ (s : Segment). s.entries)
-    (put-other segments (suc n) grown k (ne_eqb (suc n) k (λ same. omega arith)))) in
-    let sum : 0 + length (segments (suc n)).entries ≡ length (segments (suc n)).entries = omega arith in
-    ap (λ front. front ++ places_in (suc n) 0 (new (suc n)).entries) below
-    ∙ (ap (λ (s : Segment). places_to segments n ++ places_in (suc n) 0 s.entries) (put-same segments (suc n) grown)
-    ∙ (ap (λ end. places_to segments n ++ end) (places_in-push (suc n) 0 (segments (suc n)).entries entry client)
-    ∙ (ap (λ (o : ℕ). places_to segments n ++ (places_in (suc n) 0 (segments (suc n)).entries ++ place o ∷ [])) sum
-    ∙ sym (append_assoc (places_to segments n) (places_in (suc n) 0 (segments (suc n)).entries)
-    (place (length (segments (suc n)).entries) ∷ [])))))
+    search (arith, places_to-agrees, put-other, ne_eqb, put-same, places_in-push, append_assoc)
 
 -- a write that is refused nothing is appended
-pub writes-appended : (master : Master) (term table key : ℕ) (value : Option (List ℕ)) → is_too_long value ≡ false →
+pub writes-appended : (master : Master) {term : ℕ} (table key : ℕ) (value : Option (List ℕ)) → is_too_long value ≡ false →
     term_of master.ownership table key ≡ Some term → is_writing master.log.phase ≡ true → is_full master.log ≡ false →
     writes master table key value ≡ appends_entry master (written master term table key value) true
-writes-appended master term table key value short owned writing room =
-    ap (λ b. cond b (refused master ValueTooLong) (if_owned master table key (λ one. writes_under master one table key value))) short
-    ∙ (ap (λ found. option_map_or (λ one. writes_under master one table key value) found (refused master NotOwner)) owned
-    ∙ (ap (λ b. cond (not b) (refused master Rolling)
-    (cond (is_full master.log) (rolls_for_write master (begin_roll master.known (dead_segments master) master.log))
-    (appends_entry master (written master term table key value) true))) writing
-    ∙ ap (λ b. cond b (rolls_for_write master (begin_roll master.known (dead_segments master) master.log))
-    (appends_entry master (written master term table key value) true)) room))
+writes-appended master {term} table key value short owned writing room = search arith
 
 -- so what was asked stands at the log's end
-pub writes-places : (master : Master) (term table key : ℕ) (value : Option (List ℕ)) → 0 < master.log.head → is_too_long value ≡ false →
+pub writes-places : (master : Master) {term : ℕ} (table key : ℕ) (value : Option (List ℕ)) →
+    0 < master.log.head → is_too_long value ≡ false →
     term_of master.ownership table key ≡ Some term → is_writing master.log.phase ≡ true → is_full master.log ≡ false →
     places_of (writes master table key value).0.log ≡ places_of master.log ++ record {
       seg = master.log.head;
@@ -92,6 +64,5 @@ pub writes-places : (master : Master) (term table key : ℕ) (value : Option (Li
       entry = written master term table key value;
       client = true;
     } ∷ []
-writes-places master term table key value some short owned writing room =
-    ap (λ (after : Master × List Message). places_of after.0.log) (writes-appended master term table key value short owned writing room)
-    ∙ places-push master.log.segments master.log.head (written master term table key value) true some
+writes-places master {term} table key value some short owned writing room =
+    search (arith, writes-appended, places-push)

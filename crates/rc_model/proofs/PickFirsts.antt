@@ -37,17 +37,18 @@ module _ (before : HeldRow → HeldRow → Bool) (ComesBefore : HeldRow → Held
     Decides (before a b) (ComesBefore a b))
     (apart : (a b : HeldRow) → ComesBefore a b → ComesBefore b a → ⊥) (split : (a b c : HeldRow) → ComesBefore a c →
     ComesBefore a b ⊎ ComesBefore b c) where
-  not_before : (a b : HeldRow) → before a b ≡ false → ComesBefore a b → ⊥
-  not_before a b no_ p = false≢true (sym no_ ∙ (tells a b).1 p)
+  not_before : {a b : HeldRow} → before a b ≡ false → ComesBefore a b → ⊥
+  not_before {a} {b} no_ p = false≢true (sym no_ ∙ (tells a b).1 p)
 
   -- a comes before b, and c does not
-  passes : (a b c : HeldRow) → ComesBefore a b → (ComesBefore c b → ⊥) → ComesBefore a c
-  passes a b c p no_ = ⊎_elim {C = ComesBefore a c} (λ (q : ComesBefore a c). q) (λ (q : ComesBefore c b). absurd (no_ q)) (split a c b p)
+  passes : {a b c : HeldRow} → ComesBefore a b → (ComesBefore c b → ⊥) → ComesBefore a c
+  passes {a} {b} {c} p no_ =
+      ⊎_elim {C = ComesBefore a c} (λ (q : ComesBefore a c). q) (λ (q : ComesBefore c b). absurd (no_ q)) (split a c b p)
 
   -- x comes before the best so far, and so all goes on from x
-  replaced : (best x : HeldRow) (xs : List HeldRow) (first : HeldRow) → ComesBefore x best →
+  replaced : {best x : HeldRow} {xs : List HeldRow} {first : HeldRow} → ComesBefore x best →
       IsFirst ComesBefore (x ∷ xs) first → IsFirst ComesBefore (best ∷ x ∷ xs) first
-  replaced best x xs first earlier_ is =
+  replaced {best} {x} {xs} {first} earlier_ is =
       let not_x : ComesBefore x first → ⊥ = All-head (λ row. ¬ ComesBefore row first) x xs is.least in
       let beaten : ComesBefore first best = ⊎_elim {C = ComesBefore first best} (λ (q : ComesBefore x first).
       absurd (not_x q)) (λ (q : ComesBefore first best). q) (split x first best earlier_) in
@@ -60,9 +61,9 @@ module _ (before : HeldRow → HeldRow → Bool) (ComesBefore : HeldRow → Held
       }
 
   -- x does not come before the best so far, and so is passed by
-  kept : (best x : HeldRow) (xs : List HeldRow) (first : HeldRow) → (ComesBefore x best → ⊥) →
+  kept : {best x : HeldRow} {xs : List HeldRow} {first : HeldRow} → (ComesBefore x best → ⊥) →
       IsFirst ComesBefore (best ∷ xs) first → IsFirst ComesBefore (best ∷ x ∷ xs) first
-  kept best x xs first stays is = at is.earlier is.place is.before_earlier
+  kept {best} {x} {xs} {first} stays is = at is.earlier is.place is.before_earlier
     where
       at : (earlier : List HeldRow) → best ∷ xs ≡ earlier ++ first ∷ is.later →
           All (λ row. ComesBefore first row) earlier → IsFirst ComesBefore (best ∷ x ∷ xs) first
@@ -83,7 +84,7 @@ module _ (before : HeldRow → HeldRow → Bool) (ComesBefore : HeldRow → Held
           let rest : xs ≡ es ++ first ∷ is.later = cc in
           let beaten : ComesBefore first best =
           subst (λ row. ComesBefore first row) (sym same) (All-head (λ row. ComesBefore first row) e es all) in
-          let over : ComesBefore first x = passes first best x beaten stays in
+          let over : ComesBefore first x = passes beaten stays in
           record {
             earlier = best ∷ x ∷ es;
             later = is.later;
@@ -95,53 +96,52 @@ module _ (before : HeldRow → HeldRow → Bool) (ComesBefore : HeldRow → Held
                 (All-cons (λ row. ComesBefore first row) x es over (All-tail (λ row. ComesBefore first row) e es all));
           }
 
-  fold_better_first : (best : HeldRow) (rows : List HeldRow) → IsFirst ComesBefore (best ∷ rows) (fold (better before) best rows)
-  fold_better_first best [] = record {
+  fold_better_first : {best : HeldRow} (rows : List HeldRow) → IsFirst ComesBefore (best ∷ rows) (fold (better before) best rows)
+  fold_better_first {best} [] = record {
     earlier = [];
     later = [];
     place = refl;
     least = All-cons (λ row. ¬ ComesBefore row best) best [] (λ q. apart best best q q) (All-nil (λ row. ¬ ComesBefore row best));
     before_earlier = All-nil (λ row. ComesBefore best row);
   }
-  fold_better_first best (x ∷ xs) = at (before x best) refl (λ b. fold_better_first b xs)
+  fold_better_first {best} (x ∷ xs) = at (before x best) refl (λ b. fold_better_first xs)
     where
       at : (b : Bool) → before x best ≡ b →
           ((from : HeldRow) → IsFirst ComesBefore (from ∷ xs) (fold (better before) from xs)) →
           IsFirst ComesBefore (best ∷ x ∷ xs) (fold (better before) (cond b x best) xs)
-      at true is rest = replaced best x xs (fold (better before) x xs) ((tells x best).0 is) (rest x)
-      at false is rest = kept best x xs (fold (better before) best xs) (not_before x best is) (rest best)
+      at true is rest = replaced ((tells x best).0 is) (rest x)
+      at false is rest = kept (not_before is) (rest best)
 
   -- there is one first row
-  same_first : (e : List HeldRow) (a : HeldRow) (l : List HeldRow) (f : List HeldRow) (b : HeldRow) (m : List HeldRow) →
+  same_first : (e : List HeldRow) {a : HeldRow} (l : List HeldRow) (f : List HeldRow) {b : HeldRow} (m : List HeldRow) →
       e ++ a ∷ l ≡ f ++ b ∷ m → (ComesBefore a b → ⊥) → (ComesBefore b a → ⊥) → All (λ row. ComesBefore a row) e →
       All (λ row. ComesBefore b row) f → a ≡ b
-  same_first [] a l [] b m same not_a not_b all_e all_f = cc
-  same_first [] a l (y ∷ f) b m same not_a not_b all_e all_f = let is : a ≡ y =
+  same_first [] l [] m same not_a not_b all_e all_f = cc
+  same_first [] {a} l (y ∷ f) {b} m same not_a not_b all_e all_f = let is : a ≡ y =
       cc in absurd (not_b (subst (λ row. ComesBefore b row) (sym is) (All-head (λ row. ComesBefore b row) y f all_f)))
-  same_first (x ∷ e) a l [] b m same not_a not_b all_e all_f = let is : x ≡ b =
+  same_first (x ∷ e) {a} l [] {b} m same not_a not_b all_e all_f = let is : x ≡ b =
       cc in absurd (not_a (subst (λ row. ComesBefore a row) is (All-head (λ row. ComesBefore a row) x e all_e)))
-  same_first (x ∷ e) a l (y ∷ f) b m same not_a not_b all_e all_f =
-      let tails : e ++ a ∷ l ≡ f ++ b ∷ m = cc in same_first e a l f b m tails not_a not_b
+  same_first (x ∷ e) {a} l (y ∷ f) {b} m same not_a not_b all_e all_f =
+      let tails : e ++ a ∷ l ≡ f ++ b ∷ m = cc in same_first e l f m tails not_a not_b
       (All-tail (λ row. ComesBefore a row) x e all_e) (All-tail (λ row. ComesBefore b row) y f all_f)
 
-  one_first : (rows : List HeldRow) (a b : HeldRow) → IsFirst ComesBefore rows a → IsFirst ComesBefore rows b → a ≡ b
-  one_first rows a b is_a is_b =
-      same_first is_a.earlier a is_a.later is_b.earlier b is_b.later (sym is_a.place ∙ is_b.place)
+  one_first : {rows : List HeldRow} {a b : HeldRow} → IsFirst ComesBefore rows a → IsFirst ComesBefore rows b → a ≡ b
+  one_first {a} {b} is_a is_b =
+      same_first is_a.earlier is_a.later is_b.earlier is_b.later (sym is_a.place ∙ is_b.place)
       (All-middle (λ row. ¬ ComesBefore row b) is_a.earlier a is_a.later (subst (All (λ row. ¬ ComesBefore row b)) is_a.place is_b.least))
       (All-middle (λ row. ¬ ComesBefore row a) is_b.earlier b is_b.later (subst (All (λ row. ¬ ComesBefore row a)) is_b.place is_a.least))
       is_a.before_earlier is_b.before_earlier
 
-  pub first_by_first : (rows : List HeldRow) (first : HeldRow) → first_by before rows ≡ Some first → IsFirst ComesBefore rows first
-  first_by_first [] first is = absurd cc
-  first_by_first (row ∷ rows) first is = let same : fold (better before) row rows ≡ first =
-      cc in subst (IsFirst ComesBefore (row ∷ rows)) same (fold_better_first row rows)
+  pub first_by_first : (rows : List HeldRow) {first : HeldRow} → first_by before rows ≡ Some first → IsFirst ComesBefore rows first
+  first_by_first [] is = absurd cc
+  first_by_first (row ∷ rows) {first} is = let same : fold (better before) row rows ≡ first =
+      cc in subst (IsFirst ComesBefore (row ∷ rows)) same (fold_better_first rows)
 
-  pub fold_better_IsFirst : (rows : List HeldRow) (first : HeldRow) → IsFirst ComesBefore rows first →
+  pub fold_better_IsFirst : (rows : List HeldRow) {first : HeldRow} → IsFirst ComesBefore rows first →
       first_by before rows ≡ Some first
-  fold_better_IsFirst [] first is = at is.earlier is.place
+  fold_better_IsFirst [] {first} is = at is.earlier is.place
     where
       at : (earlier : List HeldRow) → [] ≡ earlier ++ first ∷ is.later → None ≡ Some first
       at [] place = cc
       at (e ∷ es) place = cc
-  fold_better_IsFirst (row ∷ rows) first is =
-      ap Some (one_first (row ∷ rows) (fold (better before) row rows) first (fold_better_first row rows) is)
+  fold_better_IsFirst (row ∷ rows) is = ap Some (one_first (fold_better_first rows) is)

@@ -1,5 +1,5 @@
 -- A plan is pickable exactly where it is picked.
-use Rattle.std.proofs.Common.{◌≡◌, ℕ, List, [], ◌∷◌, Option, Some, None, Result, Ok, Err, refl, sym, ap, ◌∙◌}
+use Rattle.std.proofs.Common.{◌≡◌, ℕ, List, [], ◌∷◌, Option, Some, None, Result, Ok, Err, refl, sym, ap, ◌∙◌, arith}
 use Rattle.rc_model.specs.Model.{ServerId, Pair, Row, PlanRow, Fault, HeadMissing, SegmentMissing, HeldRow, head_row, taken_row}
 use Rattle.rc_model.specs.Model.{taken_rows, plan_row, plan_of, ascending, pick, AreTaken, IsPickable}
 use Rattle.rc_types.specs.declared.rows.Plan.{Plan}
@@ -10,9 +10,9 @@ module _ (min : Pair) (replies : List (ServerId × List Row)) where
   pub pick_none : head_row min replies ≡ None → pick min replies ≡ Err HeadMissing
   pick_none none = rw none refl
 
-  pub pick_some : (head : HeldRow) → head_row min replies ≡ Some head →
+  pub pick_some : {head : HeldRow} → head_row min replies ≡ Some head →
       pick min replies ≡ plan_of head.row.seg (taken_rows min replies head (ascending head.row.digest))
-  pick_some head is = rw is refl
+  pick_some is = rw is refl
 
   module _ (head : HeldRow) where
     taken_rows-from_taken : (segs : List ℕ) (rows : List PlanRow) → AreTaken min replies head segs rows →
@@ -21,7 +21,7 @@ module _ (min : Pair) (replies : List (ServerId × List Row)) where
     taken_rows-from_taken [] (row ∷ rows) taken = absurd taken
     taken_rows-from_taken (seg ∷ segs) [] taken = absurd taken
     taken_rows-from_taken (seg ∷ segs) (row ∷ rows) taken =
-        taken_rows_some min replies head seg segs taken.0.0 rows taken.0.1 (taken_rows-from_taken segs rows taken.1) ∙
+        taken_rows_some min replies head seg segs taken.0.1 (taken_rows-from_taken segs rows taken.1) ∙
         ap (λ first. Ok (first ∷ rows)) (sym taken.0.2)
 
     AreTaken-from_rows : (segs : List ℕ) (rows : List PlanRow) → taken_rows min replies head segs ≡ Ok rows →
@@ -37,27 +37,18 @@ module _ (min : Pair) (replies : List (ServerId × List Row)) where
             → ((others : List PlanRow) → taken_rows min replies head segs ≡ Ok others →
             AreTaken min replies head segs others) → AreTaken min replies head (seg ∷ segs) rows
         at None here r rest rows is further = let none : taken_rows min replies head (seg ∷ segs) ≡ Err
-            (SegmentMissing seg) = taken_rows_none min replies head seg segs here in absurd cc
+            (SegmentMissing seg) = taken_rows_none min replies head segs here in absurd cc
         at (Some held) here (Err fault) rest rows is further = let none : taken_rows min replies head (seg ∷ segs) ≡ Err
-            fault = taken_rows_err min replies head seg segs held fault here rest in absurd cc
+            fault = taken_rows_err min replies head seg segs here rest in absurd cc
         at (Some held) here (Ok others) rest [] is further = let all : taken_rows min replies head (seg ∷ segs) ≡ Ok
-            (plan_row held ∷ others) = taken_rows_some min replies head seg segs held others here rest in absurd cc
-        at (Some held) here (Ok others) rest (row ∷ rows) is further =
-            let all : taken_rows min replies head (seg ∷ segs) ≡ Ok (plan_row held ∷ others) =
-            taken_rows_some min replies head seg segs held others here rest in
-            let first : row ≡ plan_row held = cc in
-            let same : taken_rows min replies head segs ≡ Ok rows = cc in
-            ((held, here, first), further rows same)
+            (plan_row held ∷ others) = taken_rows_some min replies head seg segs here rest in absurd cc
+        at (Some held) here (Ok others) rest (row ∷ rows) is further = search (arith, taken_rows_some)
 
-  pub picked-from_pickable : (plan : Plan) → IsPickable min replies plan → pick min replies ≡ Ok plan
-  picked-from_pickable plan is =
-      let rows : taken_rows min replies is.head (ascending is.head.row.digest) ≡ Ok plan.rows =
-      taken_rows-from_taken is.head (ascending is.head.row.digest) plan.rows is.taken in
-      pick_some is.head is.head_is ∙ ap (plan_of is.head.row.seg) rows ∙
-      ap (λ seg. Ok (record { head = seg; rows = plan.rows })) (sym is.segment)
+  pub picked-from_pickable : {plan : Plan} → IsPickable min replies plan → pick min replies ≡ Ok plan
+  picked-from_pickable {plan} is = search (arith, taken_rows-from_taken, pick_some)
 
-  pub pickable-from_picked : (plan : Plan) → pick min replies ≡ Ok plan → IsPickable min replies plan
-  pickable-from_picked plan is = at (head_row min replies) refl
+  pub pickable-from_picked : {plan : Plan} → pick min replies ≡ Ok plan → IsPickable min replies plan
+  pickable-from_picked {plan} is = at (head_row min replies) refl
     where
       at : (o : Option HeldRow) → head_row min replies ≡ o → IsPickable min replies plan
       at None none = let err : pick min replies ≡ Err HeadMissing = pick_none none in absurd cc
@@ -66,10 +57,10 @@ module _ (min : Pair) (replies : List (ServerId × List Row)) where
           rows : (r : Result (List PlanRow) Fault) → taken_rows min replies head (ascending head.row.digest) ≡ r →
               IsPickable min replies plan
           rows (Err fault) rest = let err : pick min replies ≡ Err fault =
-              pick_some head head_is ∙ ap (plan_of head.row.seg) rest in absurd cc
+              pick_some head_is ∙ ap (plan_of head.row.seg) rest in absurd cc
           rows (Ok taken) rest =
               let ok : pick min replies ≡ Ok (record { head = head.row.seg; rows = taken }) =
-              pick_some head head_is ∙ ap (plan_of head.row.seg) rest in
+              pick_some head_is ∙ ap (plan_of head.row.seg) rest in
               let same : ◌≡◌ {A = Plan} (record { head = head.row.seg; rows = taken }) plan = cc in
               let segment : plan.head ≡ head.row.seg = sym (ap (λ (p : Plan). p.head) same) in
               let taken_is : taken_rows min replies head (ascending head.row.digest) ≡ Ok plan.rows =
@@ -78,6 +69,5 @@ module _ (min : Pair) (replies : List (ServerId × List Row)) where
                 head = head;
                 head_is = head_is;
                 segment = segment;
-                taken = AreTaken-from_rows head
-                    (ascending head.row.digest) plan.rows taken_is;
+                taken = AreTaken-from_rows head (ascending head.row.digest) plan.rows taken_is;
               }

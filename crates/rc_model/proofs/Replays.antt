@@ -3,8 +3,8 @@ use Rattle.std.proofs.Common.{◌≡◌, ℕ, ◌≤◌, Bool, true, false, cond
 use Rattle.std.proofs.Common.{refl, sym, ap, ◌∙◌, arith}
 use Rattle.std.proofs.lemmas.Bool.{eqb-true, and_parts}
 use Rattle.std.proofs.lemmas.List.{append-nil}
-use Rattle.rc_model.specs.Model.{Event, Message, is_server, backup_takes, Master, master_takes, NodeWork, Deliver, HostNode}
-use Rattle.rc_model.specs.Model.{host_step, coordinator_step, is_for_backup, with_backup, with_master, server_takes, server_of}
+use Rattle.rc_model.specs.Model.{Event, Message, Master, NodeWork, Deliver, HostNode}
+use Rattle.rc_model.specs.Model.{host_step, coordinator_step, server_takes}
 use Rattle.rc_model.specs.Model.{takes_if_running, ticks_if_running, World, NodeName, TheOutside, TheCoordinator, TheHost, Job, same_node}
 use Rattle.rc_model.specs.Model.{step, is_possible, is_possible_job, runs_as_named, node_done, job_done, replay_from}
 use Rattle.rc_model.specs.Model.{job_of, work_if_for, work_in, works_of, host_after, coordinator_after}
@@ -77,12 +77,7 @@ host_of_node : (world : World) (event : Event) (index : ℕ) (node : NodeName) (
     (node_done world event node work).hosts index ≡ host_after (world.hosts index) (cond (same_node node (TheHost index)) (work ∷ []) [])
 host_of_node world event index TheOutside work = refl
 host_of_node world event index TheCoordinator work = refl
-host_of_node world event index (TheHost other) work = by (nat_eq other index) refl
-  where
-    by : (b : Bool) → nat_eq other index ≡ b →
-        cond b (host_step (world.hosts other) work).0 (world.hosts index) ≡ host_after (world.hosts index) (cond b (work ∷ []) [])
-    by true e = ap (λ (i : ℕ). (host_step (world.hosts i) work).0) (eqb-true other index e)
-    by false e = refl
+host_of_node world event index (TheHost other) work = search (arith, nat_eq, eqb-true)
 
 host_of_job : (world : World) (event : Event) (index : ℕ) (job : Option Job) →
     (job_done world event job).hosts index ≡ host_after (world.hosts index) (work_if_for (TheHost index) job)
@@ -155,19 +150,12 @@ coordinator-follows world (event ∷ events) =
 
 server_takes-generation : (host : HostNode) (master : Master) (message : Message) →
     (server_takes host master message).0.generation ≡ host.generation
-server_takes-generation host master message =
-    either (λ after. after.0.generation ≡ host.generation) (is_for_backup message.body)
-    (with_backup host (backup_takes host.backup message.from message.body))
-    (with_master host (master_takes master message.from message.body))
-    (λ _. refl) (λ _. refl)
+server_takes-generation host master message = search (arith, either)
 
 takes-generation : (host : HostNode) (running : Option Master) (message : Message) →
     (takes_if_running host running message).0.generation ≡ host.generation
 takes-generation host None message = refl
-takes-generation host (Some master) message =
-    either (λ after. after.0.generation ≡ host.generation) (is_server (server_of host) message.to)
-    (server_takes host master message) (host, [])
-    (λ _. server_takes-generation host master message) (λ _. refl)
+takes-generation host (Some master) message = search (arith, either, server_takes-generation)
 
 ticks-generation : (host : HostNode) (running : Option Master) → (ticks_if_running host running).0.generation ≡ host.generation
 ticks-generation host None = refl
@@ -192,10 +180,4 @@ generation-after host (work ∷ works) =
 -- nor does an event
 pub generations-step : (world : World) (event : Event) (index : ℕ) →
     (world.hosts index).generation ≤ ((step world event).hosts index).generation
-generations-step world event index =
-    let own : ((step world event).hosts index).generation ≡ (host_after (world.hosts index)
-    (work_in (TheHost index) world event)).generation =
-    ap (λ (host : HostNode). host.generation) (host_step-own world event index) in
-    let after : (world.hosts index).generation ≤ (host_after (world.hosts index) (work_in (TheHost index) world event)).generation =
-    generation-after (world.hosts index) (work_in (TheHost index) world event) in
-    omega arith
+generations-step world event index = search (arith, host_step-own, generation-after)

@@ -13,7 +13,7 @@ pub done-or : (P : Master × List Message → Type 0) (one other : Option (Maste
 done-or P (Some done) other p q = p
 done-or P None other p q = q
 
-pub done-when : (P : Master × List Message → Type 0) (b : Bool) (done : Master × List Message) → (b ≡ true → P done) →
+pub done-when : (P : Master × List Message → Type 0) (b : Bool) {done : Master × List Message} → (b ≡ true → P done) →
     AllDone P (when b done)
-done-when P true done p = p refl
-done-when P false done p = tt
+done-when P true p = p refl
+done-when P false p = tt

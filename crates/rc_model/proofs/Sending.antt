@@ -1,13 +1,13 @@
 -- What holds of each message that a master says again holds of all that it says.
 use Rattle.std.proofs.Common.{◌≡◌, ◌⊎◌, ℕ, ◌+◌, Bool, true, false, cond, not, nat_lt, nat_eq, ◌&&◌, List, [], ◌∷◌, ◌++◌, map}
-use Rattle.std.proofs.Common.{filter, drop, length, Option, Some, None, is_some, refl, sym, subst, inl, inr}
+use Rattle.std.proofs.Common.{filter, drop, length, Option, Some, None, is_some, refl, sym, subst, inl, inr, arith}
 use Rattle.std.specs.List.{All}
 use Rattle.std.proofs.lemmas.Bool.{and_parts, eqb-true}
 use Rattle.std.proofs.lemmas.List.Elements.{All-nil, All-cons}
 use Rattle.rc_model.specs.Model.{ServerId, PlanRow, Member, Told, Message, Body, Append, Close, Commit, Free, Ready, Recovered, WriteOk}
-use Rattle.rc_model.specs.Model.{between, to_coordinator, to_outside, Log, LogPlace, numbers_to, is_closing, is_writing, PartState}
+use Rattle.rc_model.specs.Model.{between, to_coordinator, to_outside, Log, LogPlace, numbers_to, PartState}
 use Rattle.rc_model.specs.Model.{Master, Task, to_ids, to_unlost, place_of, frees_segments, write_oks, attempt_of, standing, to_remind}
-use Rattle.rc_model.specs.Model.{is_closing_old, lacking, reminds_member, reminds_members, reminds_open, reminds_shut_members}
+use Rattle.rc_model.specs.Model.{lacking, reminds_member, reminds_members, reminds_open, reminds_shut_members}
 use Rattle.rc_model.specs.Model.{reminds_shut, awaits_commit, commits_again, has_not_come, fetch_of, fetches_again, awaits_grant}
 use Rattle.rc_model.specs.Model.{recovered_again, ready_again, reminds, In}
 use Rattle.rc_model.proofs.Tests.{either}
@@ -20,13 +20,13 @@ Each {X} P xs = (x : X) → In x xs → P x
 pub each-none : {X : Type 0} (P : X → Type 0) → Each P []
 each-none P x at = absurd at
 
-pub each-one : {X : Type 0} (P : X → Type 0) (one : X) → P one → Each P (one ∷ [])
-each-one P one p x (inl same) = subst P (sym same) p
-each-one P one p x (inr none) = absurd none
+pub each-one : {X : Type 0} (P : X → Type 0) {one : X} → P one → Each P (one ∷ [])
+each-one P p x (inl same) = subst P (sym same) p
+each-one P p x (inr none) = absurd none
 
-pub each-more : {X : Type 0} (P : X → Type 0) (one : X) (more : List X) → P one → Each P more → Each P (one ∷ more)
-each-more P one more p q x (inl same) = subst P (sym same) p
-each-more P one more p q x (inr rest) = q x rest
+pub each-more : {X : Type 0} (P : X → Type 0) {one : X} (more : List X) → P one → Each P more → Each P (one ∷ more)
+each-more P more p q x (inl same) = subst P (sym same) p
+each-more P more p q x (inr rest) = q x rest
 
 pub each-both : {X : Type 0} (P : X → Type 0) (xs ys : List X) → Each P xs → Each P ys → Each P (xs ++ ys)
 each-both P xs ys p q x at = by (In-append x xs ys at)
@@ -38,8 +38,8 @@ each-both P xs ys p q x at = by (In-append x xs ys at)
 pub each-map : {X Y : Type 0} (P : Y → Type 0) (f : X → Y) (xs : List X) → Each (λ x. P (f x)) xs → Each P (map f xs)
 each-map P f xs p y at = let found = In-map f y xs at in subst P (sym found.2) (p found.0 found.1)
 
-pub each-if : {X : Type 0} (P : X → Type 0) (b : Bool) (xs : List X) → (b ≡ true → Each P xs) → Each P (cond b xs [])
-each-if P b xs p = either (Each P) b xs [] p (λ _. each-none P)
+pub each-if : {X : Type 0} (P : X → Type 0) {b : Bool} (xs : List X) → (b ≡ true → Each P xs) → Each P (cond b xs [])
+each-if P {b} xs p = either (Each P) b xs [] p (λ _. each-none P)
 
 -- as the library says it
 pub each-all : {X : Type 0} (P : X → Type 0) (xs : List X) → Each P xs → All P xs
@@ -47,27 +47,27 @@ each-all P [] p = All-nil P
 each-all P (x ∷ xs) p = All-cons P x xs (p x (inl refl)) (each-all P xs (λ y at. p y (inr at)))
 
 -- to several the same
-pub each-to_ids : (P : Message → Type 0) (own : ServerId) (ids : List ServerId) (body : Body) →
+pub each-to_ids : (P : Message → Type 0) {own : ServerId} (ids : List ServerId) {body : Body} →
     ((id : ServerId) → In id ids → P (between own id body)) → Each P (to_ids own ids body)
-each-to_ids P own ids body p = each-map P (λ id. between own id body) ids p
+each-to_ids P {own} ids {body} p = each-map P (λ id. between own id body) ids p
 
 pub each-frees : (P : Message → Type 0) (log : Log) (segs : List ℕ) →
     ((seg : ℕ) (id : ServerId) → In seg segs → P (between log.own id (Free seg))) → Each P (frees_segments log segs)
 each-frees P log [] p = each-none P
 each-frees P log (seg ∷ segs) p = each-both P (to_unlost log seg (Free seg)) (frees_segments log segs)
-    (each-to_ids P log.own _ (Free seg) (λ id _. p seg id (inl refl))) (each-frees P log segs (λ other id at. p other id (inr at)))
+    (each-to_ids P _ (λ id _. p seg id (inl refl))) (each-frees P log segs (λ other id at. p other id (inr at)))
 
-pub each-write_oks : (P : Message → Type 0) (own : ServerId) (places : List LogPlace) →
+pub each-write_oks : (P : Message → Type 0) {own : ServerId} (places : List LogPlace) →
     ((place : LogPlace) → In place places → place.client ≡ true → P (to_outside own
     (WriteOk place.seg place.offset place.entry.term place.entry.table place.entry.key place.entry.version))) →
     Each P (write_oks own places)
-each-write_oks P own [] p = each-none P
-each-write_oks P own (place ∷ places) p =
-    let rest : Each P (write_oks own places) = each-write_oks P own places (λ other at. p other (inr at)) in
+each-write_oks P [] p = each-none P
+each-write_oks P {own} (place ∷ places) p =
+    let rest : Each P (write_oks own places) = each-write_oks P places (λ other at. p other (inr at)) in
     either (Each P) place.client
     (to_outside own (WriteOk place.seg place.offset place.entry.term place.entry.table place.entry.key place.entry.version)
     ∷ write_oks own places) (write_oks own places)
-    (λ client. each-more P _ (write_oks own places) (p place (inl refl) client) rest) (λ _. rest)
+    (λ client. each-more P (write_oks own places) (p place (inl refl) client) rest) (λ _. rest)
 
 -- What a master says again, kind by kind
 
@@ -90,21 +90,9 @@ pub record Asked (P : Message → Type 0) (master : Master) : Type 0 where
 module _ (P : Message → Type 0) (log : Log) (says : Copied P log) where
   each-lacking : (seg : ℕ) (member : Member) (told : Option Told) → In seg (numbers_to log.head) → (log.segments seg).shut ≡ false →
       In member (log.segments seg).config.members → Each P (map (λ body. between log.own member.id body) (lacking log seg told))
-  each-lacking seg member None at isn't among = each-one P _ (says.place member seg false at isn't among)
+  each-lacking seg member None at isn't among = each-one P (says.place member seg false at isn't among)
   each-lacking seg member (Some told) at isn't among =
-      either (λ bodies. Each P (map (λ body. between log.own member.id body) bodies)) (nat_lt told.len (length (log.segments seg).entries))
-      (Append seg told.len (map (λ one. one.0) (drop told.len (log.segments seg).entries)) ∷ [])
-      (cond (is_closing_old log seg && not told.closed) (Close seg (length (log.segments seg).entries) ∷ []) [])
-      (λ _. each-one P _ (says.append member seg told.len at))
-      (λ _. either (λ bodies. Each P (map (λ body. between log.own member.id body) bodies)) (is_closing_old log seg && not told.closed)
-      (Close seg (length (log.segments seg).entries) ∷ []) []
-      (λ e. each-one P _ (says.close member seg at (old_head e))) (λ _. each-none P))
-    where
-      old_head : (is_closing_old log seg && not told.closed) ≡ true → seg + 1 ≡ log.head
-      old_head e =
-          let first = and_parts (is_closing_old log seg) (not told.closed) e in
-          let second = and_parts (is_closing log.phase) (nat_eq (seg + 1) log.head && (log.segments seg).config.committed) first.0 in
-          eqb-true (seg + 1) log.head (and_parts (nat_eq (seg + 1) log.head) (log.segments seg).config.committed second.1).0
+      search (arith, either, nat_lt, each-one, each-none, and_parts, nat_eq, eqb-true)
 
   each-members : (seg : ℕ) (members : List Member) → In seg (numbers_to log.head) → (log.segments seg).shut ≡ false →
       ((member : Member) → In member members → In member (log.segments seg).config.members) → Each P (reminds_members log seg members)
@@ -127,11 +115,9 @@ module _ (P : Message → Type 0) (log : Log) (says : Copied P log) where
   each-shut : (before : Log) (segs : List ℕ) → ((seg : ℕ) → In seg segs → In seg (numbers_to log.head)) →
       Each P (reminds_shut before log segs)
   each-shut before [] are = each-none P
-  each-shut before (seg ∷ segs) are =
-      each-both P
+  each-shut before (seg ∷ segs) are = each-both P
       (cond ((log.segments seg).shut && not (log.segments seg).freed) (reminds_shut_members log seg (standing before log seg)) [])
-      (reminds_shut before log segs)
-      (each-if P ((log.segments seg).shut && not (log.segments seg).freed) (reminds_shut_members log seg (standing before log seg))
+      (reminds_shut before log segs) (each-if P (reminds_shut_members log seg (standing before log seg))
       (λ e. each-map P (λ (member : Member). between log.own member.id (place_of log seg true))
       (filter (λ (member : Member). not (is_some member.told)) (standing before log seg))
       (λ member among. says.place member seg true (are seg (inl refl))
@@ -142,9 +128,7 @@ module _ (P : Message → Type 0) (log : Log) (says : Copied P log) where
 
   pub each-copies : (before : Log) →
       Each P (reminds_open before log (numbers_to log.head) ++ reminds_shut before log (numbers_to log.head))
-  each-copies before =
-      each-both P (reminds_open before log (numbers_to log.head)) (reminds_shut before log (numbers_to log.head))
-      (each-open before (numbers_to log.head) (λ seg at. at)) (each-shut before (numbers_to log.head) (λ seg at. at))
+  each-copies before = search (arith, each-both, each-open, each-shut)
 
 pub each-commits : (P : Message → Type 0) (log : Log) →
     ((seg : ℕ) → awaits_commit (log.segments seg) ≡ true → P (to_coordinator log.own (Commit seg (log.segments seg).config.epoch))) →
@@ -172,15 +156,14 @@ module _ (P : Message → Type 0) (master : Master) (says : Asked P master) wher
       (λ state at. (let found = In-filter (awaits_grant master) state master.ownership.parts at in says.recovered state found.0 found.1))
 
   pub each-ready : Each P (ready_again master)
-  each-ready = each-if P (is_writing master.log.phase && nat_eq (length master.ownership.grants) 0)
-      (to_coordinator master.log.own Ready ∷ []) (λ _. each-one P (to_coordinator master.log.own Ready) says.ready)
+  each-ready = each-if P (to_coordinator master.log.own Ready ∷ []) (λ _. each-one P says.ready)
 
 -- all of it
-pub each-reminds : (P : Message → Type 0) (before : Log) (master : Master) → Copied P master.log →
+pub each-reminds : (P : Message → Type 0) (before : Log) {master : Master} → Copied P master.log →
     ((seg : ℕ) → awaits_commit (master.log.segments seg) ≡ true →
     P (to_coordinator master.log.own (Commit seg (master.log.segments seg).config.epoch))) →
     Asked P master → Each P (reminds before master).1
-each-reminds P before master copied commit asked =
+each-reminds P before {master} copied commit asked =
     each-both P _ (ready_again master) (each-both P _ (recovered_again master) (each-both P _ (fetches_again master master.tasks)
     (each-both P _ (commits_again master.log) (each-copies P master.log copied before) (each-commits P master.log commit))
     (each-fetches_again P master asked)) (each-recovered P master asked)) (each-ready P master asked)

@@ -1,12 +1,12 @@
 -- Replicas and backups.
 use Rattle.std.proofs.Common.{◌≡◌, ℕ, ◌-◌, Bool, true, false, cond, not, nat_eq, nat_lt, nat_le, ◌&&◌, ◌||◌, List, []}
-use Rattle.std.proofs.Common.{◌∷◌, ◌++◌, length, drop, filter, Option, Some, None, refl, sym, ap, ◌∙◌, subst}
+use Rattle.std.proofs.Common.{◌∷◌, ◌++◌, length, drop, filter, Option, Some, None, refl, sym, ap, ◌∙◌, subst, arith}
 use Rattle.std.specs.List.{list_any}
 use Rattle.std.proofs.lemmas.Bool.{and_parts, eqb-true, eq-eqb, or_left}
 use Rattle.std.proofs.lemmas.List.{append-nil}
 use Rattle.rc_model.specs.Model.{ServerId, Addr, Server, Outside, Entry, Body, Place, Append, Close, Free, Gather, Replica, grown}
-use Rattle.rc_model.specs.Model.{placed, placed_open, appended, closes, closed_at, Backup, Held, with_held, put_replica, without_replica}
-use Rattle.rc_model.specs.Model.{insert_once, is_freed, replica_of, replica_after, is_refused, keeps, stores, frees, backup_takes}
+use Rattle.rc_model.specs.Model.{placed, placed_open, appended, closes, closed_at, Backup, Held, with_held, without_replica}
+use Rattle.rc_model.specs.Model.{insert_once, is_freed, replica_of, replica_after, keeps, stores, frees, backup_takes}
 use Rattle.rc_model.specs.Model.{stays, closing_length, is_closed_replica, is_storing}
 use Rattle.rc_types.specs.declared.ids.Addr.TheVariants.{Coordinator}
 use Rattle.rc_model.proofs.Tests.{either, true_false}
@@ -34,28 +34,27 @@ appended-grows old offset sent =
     (λ _. (drop (length old.entries - offset) sent, refl)) (λ _. grows_same old old refl)
 
 closed_at-grows : (old : Replica) (len : ℕ) → GrowsTo old (closed_at old len)
-closed_at-grows old len =
-    either (GrowsTo old) (closes old len) (record old { closed = true }) old
+closed_at-grows old len = either (GrowsTo old) (closes old len) (record old { closed = true }) old
     (λ _. grows_same old (record old { closed = true }) refl) (λ _. grows_same old old refl)
 
 -- what a message makes of a replica has this property, where each way of changing it gives it
-pub of_each_way : (P : Replica → Type 0) (old new : Replica) (body : Body) → replica_after (Some old) body ≡ Some new →
+pub of_each_way : (P : Replica → Type 0) (old : Replica) {new : Replica} (body : Body) → replica_after (Some old) body ≡ Some new →
     ((seg epoch : ℕ) (digest : List ℕ) (sent : List Entry) (closed : Bool) → body ≡ Place seg epoch digest sent closed →
     P (placed old epoch sent closed)) →
     ((seg offset : ℕ) (sent : List Entry) → body ≡ Append seg offset sent → P (appended old offset sent)) →
     ((seg len : ℕ) → body ≡ Close seg len → P (closed_at old len)) → P new
-of_each_way P old new (Place seg epoch digest sent closed) e place append close =
+of_each_way P old {new} (Place seg epoch digest sent closed) e place append close =
     let same : placed old epoch sent closed ≡ new = cc in subst P same (place seg epoch digest sent closed refl)
-of_each_way P old new (Append seg offset sent) e place append close =
+of_each_way P old {new} (Append seg offset sent) e place append close =
     let same : appended old offset sent ≡ new = cc in subst P same (append seg offset sent refl)
-of_each_way P old new (Close seg len) e place append close =
+of_each_way P old {new} (Close seg len) e place append close =
     let same : closed_at old len ≡ new = cc in subst P same (close seg len refl)
-of_each_way P old new _ e place append close = cc
+of_each_way P old _ e place append close = cc
 
 -- entries only grow
 pub replicas-grow : (old new : Replica) (body : Body) → replica_after (Some old) body ≡ Some new → GrowsTo old new
 replicas-grow old new body e =
-    of_each_way (GrowsTo old) old new body e (λ seg epoch digest sent closed _. placed-grows old epoch sent closed)
+    of_each_way (GrowsTo old) old body e (λ seg epoch digest sent closed _. placed-grows old epoch sent closed)
     (λ seg offset sent _. appended-grows old offset sent) (λ seg len _. closed_at-grows old len)
 
 -- the second is closed too, with the same entries and digest
@@ -64,18 +63,10 @@ StaysClosed old new = (new.closed ≡ true) × (new.entries ≡ old.entries) × 
 
 placed-stays : (old : Replica) (epoch : ℕ) (sent : List Entry) (closed : Bool) → old.closed ≡ true →
     StaysClosed old (placed old epoch sent closed)
-placed-stays old epoch sent closed is =
-    either (StaysClosed old) (nat_lt epoch old.epoch) old
-    (cond old.closed (record old { epoch = epoch }) (placed_open old epoch sent closed))
-    (λ _. (is, refl, refl))
-    (λ _. either (StaysClosed old) old.closed (record old { epoch = epoch }) (placed_open old epoch sent closed)
-    (λ _. (is, refl, refl)) (λ isn't. true_false (sym is ∙ isn't)))
+placed-stays old epoch sent closed is = search (arith, either, nat_lt, true_false)
 
 appended-stays : (old : Replica) (offset : ℕ) (sent : List Entry) → old.closed ≡ true → StaysClosed old (appended old offset sent)
-appended-stays old offset sent is =
-    either (StaysClosed old) (not old.closed && nat_le offset (length old.entries))
-    (record old { entries = grown old.entries offset sent }) old
-    (λ both. true_false (sym (and_parts (not old.closed) (nat_le offset (length old.entries)) both).0 ∙ ap not is)) (λ _. (is, refl, refl))
+appended-stays old offset sent is = search (arith, either, nat_le, true_false, and_parts)
 
 closed_at-stays : (old : Replica) (len : ℕ) → old.closed ≡ true → StaysClosed old (closed_at old len)
 closed_at-stays old len is =
@@ -83,9 +74,7 @@ closed_at-stays old len is =
 
 -- a closed replica stays closed, with the same entries
 pub closed-stays : (old new : Replica) (body : Body) → old.closed ≡ true → replica_after (Some old) body ≡ Some new → StaysClosed old new
-closed-stays old new body is e =
-    of_each_way (StaysClosed old) old new body e (λ seg epoch digest sent closed _. placed-stays old epoch sent closed is)
-    (λ seg offset sent _. appended-stays old offset sent is) (λ seg len _. closed_at-stays old len is)
+closed-stays old new body is e = search (arith, of_each_way, placed-stays, appended-stays, closed_at-stays)
 
 -- where it is closed it has the length at which the message closes
 abbrev ClosedWhole : Body → Replica → Type 0
@@ -98,63 +87,41 @@ placed_open-whole old seg epoch digest sent false is = cc
 
 placed-whole : (old : Replica) (seg epoch : ℕ) (digest : List ℕ) (sent : List Entry) (closed : Bool) → old.closed ≡ false →
     ClosedWhole (Place seg epoch digest sent closed) (placed old epoch sent closed)
-placed-whole old seg epoch digest sent closed isn't =
-    either (ClosedWhole (Place seg epoch digest sent closed)) (nat_lt epoch old.epoch) old
-    (cond old.closed (record old { epoch = epoch }) (placed_open old epoch sent closed))
-    (λ _ is. true_false (sym is ∙ isn't))
-    (λ _. either (ClosedWhole (Place seg epoch digest sent closed)) old.closed (record old { epoch = epoch })
-    (placed_open old epoch sent closed)
-    (λ is _. true_false (sym is ∙ isn't)) (λ _. placed_open-whole old seg epoch digest sent closed))
+placed-whole old seg epoch digest sent closed isn't = search (arith, either, nat_lt, true_false, placed_open-whole)
 
 appended-whole : (old : Replica) (seg offset : ℕ) (sent : List Entry) → old.closed ≡ false →
     ClosedWhole (Append seg offset sent) (appended old offset sent)
-appended-whole old seg offset sent isn't =
-    either (ClosedWhole (Append seg offset sent)) (not old.closed && nat_le offset (length old.entries))
-    (record old { entries = grown old.entries offset sent }) old (λ _ is. true_false (sym is ∙ isn't)) (λ _ is. true_false (sym is ∙ isn't))
+appended-whole old seg offset sent isn't = search (arith, either, nat_le, true_false)
 
-closed_at-whole : (old : Replica) (seg len : ℕ) → old.closed ≡ false → ClosedWhole (Close seg len) (closed_at old len)
-closed_at-whole old seg len isn't =
-    either (ClosedWhole (Close seg len)) (closes old len) (record old { closed = true }) old
-    (λ may _. ap Some (sym (eqb-true (length old.entries) len (and_parts (not old.closed) (nat_eq (length old.entries) len) may).1)))
-    (λ _ is. true_false (sym is ∙ isn't))
+closed_at-whole : (old : Replica) (seg : ℕ) {len : ℕ} → old.closed ≡ false → ClosedWhole (Close seg len) (closed_at old len)
+closed_at-whole old seg {len} isn't = search (arith, either, eqb-true, and_parts, nat_eq, true_false)
 
 -- a replica closes only at the stated length
 pub closes-whole : (before : Option Replica) (new : Replica) (body : Body) → is_closed_replica before ≡ false →
     replica_after before body ≡ Some new → ClosedWhole body new
-closes-whole None new (Place seg epoch digest sent true) isn't e is =
-    let same : record { epoch = epoch; closed = true; digest = digest; entries = sent } ≡ new = cc in
-    ap (λ (one : Replica). Some (length one.entries)) same
-closes-whole None new (Place seg epoch digest sent false) isn't e is =
-    let same : record { epoch = epoch; closed = false; digest = digest; entries = sent } ≡ new = cc in
-    true_false (sym is ∙ sym (ap (λ (one : Replica). one.closed) same))
+closes-whole None new (Place seg epoch digest sent true) isn't e is = search arith
+closes-whole None new (Place seg epoch digest sent false) isn't e is = search (arith, true_false)
 closes-whole None new _ isn't e is = cc
 closes-whole (Some old) new body isn't e is =
-    of_each_way (ClosedWhole body) old new body e
-    (λ seg epoch digest sent closed b. subst (λ x. ClosedWhole x (placed old epoch sent closed)) (sym b)
-    (placed-whole old seg epoch digest sent closed isn't))
-    (λ seg offset sent b. subst (λ x. ClosedWhole x (appended old offset sent)) (sym b) (appended-whole old seg offset sent isn't))
-    (λ seg len b. subst (λ x. ClosedWhole x (closed_at old len)) (sym b) (closed_at-whole old seg len isn't)) is
+    search (arith, of_each_way, placed-whole, appended-whole, closed_at-whole)
 
 -- A backup
 
-refused-nothing : (backup : Backup) (master : ServerId) (seg : ℕ) (body : Body) → (backup.held master).fenced ≡ true →
+refused-nothing : {backup : Backup} (master : ServerId) (seg : ℕ) (body : Body) → (backup.held master).fenced ≡ true →
     stores backup master seg body ≡ (backup, [])
-refused-nothing backup master seg body fenced =
-    either (λ after. after ≡ (backup, [])) (is_refused seg (backup.held master)) (backup, [])
-    (keeps backup master seg (replica_after (replica_of seg (backup.held master).replicas) body))
-    (λ _. refl) (λ not_refused. true_false (sym (or_left (backup.held master).fenced _ fenced) ∙ not_refused))
+refused-nothing {backup} master seg body fenced = search (arith, either, true_false, or_left)
 
-frees-nothing : (backup : Backup) (master : ServerId) (seg : ℕ) → (backup.held master).fenced ≡ true → frees backup master seg ≡ backup
-frees-nothing backup master seg fenced = rw fenced refl
+frees-nothing : {backup : Backup} (master : ServerId) (seg : ℕ) → (backup.held master).fenced ≡ true → frees backup master seg ≡ backup
+frees-nothing master seg fenced = rw fenced refl
 
 -- a fenced master stores nothing and frees nothing
 pub fenced-nothing : (backup : Backup) (master : ServerId) (body : Body) → (backup.held master).fenced ≡ true → is_storing body ≡ true →
     backup_takes backup (Server master) body ≡ (backup, [])
 fenced-nothing backup master (Place seg epoch digest entries closed) fenced is =
-    refused-nothing backup master seg (Place seg epoch digest entries closed) fenced
-fenced-nothing backup master (Append seg offset entries) fenced is = refused-nothing backup master seg (Append seg offset entries) fenced
-fenced-nothing backup master (Close seg len) fenced is = refused-nothing backup master seg (Close seg len) fenced
-fenced-nothing backup master (Free seg) fenced is = ap (λ b. (b, [])) (frees-nothing backup master seg fenced)
+    refused-nothing master seg (Place seg epoch digest entries closed) fenced
+fenced-nothing backup master (Append seg offset entries) fenced is = refused-nothing master seg (Append seg offset entries) fenced
+fenced-nothing backup master (Close seg len) fenced is = refused-nothing master seg (Close seg len) fenced
+fenced-nothing backup master (Free seg) fenced is = ap (λ b. (b, [])) (frees-nothing master seg fenced)
 fenced-nothing backup master _ fenced is = cc
 
 -- a fenced master's replicas stay, and it stays fenced
@@ -167,10 +134,10 @@ AllFencedStay old new = (master : ServerId) → FencedStays (old.held master) (n
 fenced_stay-same : (backup : Backup) → AllFencedStay backup backup
 fenced_stay-same backup master fenced = (fenced, refl)
 
-fenced_stay-held : (backup : Backup) (master : ServerId) (held : Held) → FencedStays (backup.held master) held →
+fenced_stay-held : (backup : Backup) {master : ServerId} (held : Held) → FencedStays (backup.held master) held →
     AllFencedStay backup (with_held master held backup)
-fenced_stay-held backup master held new =
-    put_id_each (λ other one. FencedStays (backup.held other) one) backup.held master held new (λ _ fenced. (fenced, refl))
+fenced_stay-held backup held new =
+    put_id_each (λ other one. FencedStays (backup.held other) one) new (λ _ fenced. (fenced, refl))
 
 -- who isn't fenced is no fenced one
 not_fenced : {P : Type 0} (held : Held) → held.fenced ≡ false → held.fenced ≡ true → P
@@ -180,30 +147,16 @@ or_left-false : (a b : Bool) → a || b ≡ false → a ≡ false
 or_left-false true b e = e
 or_left-false false b e = refl
 
-fenced_stay-keeps : (backup : Backup) (master : ServerId) (seg : ℕ) (after : Option Replica) → (backup.held master).fenced ≡ false →
+fenced_stay-keeps : (backup : Backup) {master : ServerId} (seg : ℕ) (after : Option Replica) → (backup.held master).fenced ≡ false →
     AllFencedStay backup (keeps backup master seg after).0
-fenced_stay-keeps backup master seg None isn't = fenced_stay-same backup
-fenced_stay-keeps backup master seg (Some replica) isn't =
-    fenced_stay-held backup master (record (backup.held master) { replicas = put_replica seg replica (backup.held master).replicas })
-    (not_fenced (backup.held master) isn't)
+fenced_stay-keeps backup seg None isn't = fenced_stay-same backup
+fenced_stay-keeps backup {master} seg (Some replica) isn't = search (arith, fenced_stay-held, not_fenced)
 
 fenced_stay-stores : (backup : Backup) (master : ServerId) (seg : ℕ) (body : Body) → AllFencedStay backup (stores backup master seg body).0
-fenced_stay-stores backup master seg body =
-    either (λ after. AllFencedStay backup after.0) (is_refused seg (backup.held master)) (backup, [])
-    (keeps backup master seg (replica_after (replica_of seg (backup.held master).replicas) body))
-    (λ _. fenced_stay-same backup)
-    (λ isn't. fenced_stay-keeps backup master seg (replica_after (replica_of seg (backup.held master).replicas) body)
-    (or_left-false (backup.held master).fenced (is_freed seg (backup.held master)) isn't))
+fenced_stay-stores backup master seg body = search (arith, either, fenced_stay-same, fenced_stay-keeps, or_left-false)
 
 fenced_stay-frees : (backup : Backup) (master : ServerId) (seg : ℕ) → AllFencedStay backup (frees backup master seg)
-fenced_stay-frees backup master seg =
-    let freed : Held = record {
-      fenced = false;
-      replicas = without_replica seg (backup.held master).replicas;
-      freed = insert_once seg (backup.held master).freed;
-    } in
-    either (AllFencedStay backup) (backup.held master).fenced backup (with_held master freed backup)
-    (λ _. fenced_stay-same backup) (λ isn't. fenced_stay-held backup master freed (not_fenced (backup.held master) isn't))
+fenced_stay-frees backup master seg = search (arith, either, fenced_stay-same, fenced_stay-held, not_fenced)
 
 -- whatever a backup takes, a fenced master's replicas stay
 pub fenced-stay : (backup : Backup) (from : Addr) (body : Body) → AllFencedStay backup (backup_takes backup from body).0
@@ -213,18 +166,15 @@ fenced-stay backup (Server master) (Append seg offset entries) = fenced_stay-sto
 fenced-stay backup (Server master) (Close seg len) = fenced_stay-stores backup master seg (Close seg len)
 fenced-stay backup (Server master) (Free seg) = fenced_stay-frees backup master seg
 fenced-stay backup from (Gather attempt master) =
-    fenced_stay-held backup master (record (backup.held master) { fenced = true }) (λ _. (refl, refl))
+    fenced_stay-held backup (record (backup.held master) { fenced = true }) (λ _. (refl, refl))
 fenced-stay backup _ _ = fenced_stay-same backup
 
 -- a Gather fences
 pub gather-fences : (backup : Backup) (from : Addr) (attempt : ℕ) (master : ServerId) →
     ((backup_takes backup from (Gather attempt master)).0.held master).fenced ≡ true
-gather-fences backup Coordinator attempt master =
-    ap (λ (held : Held). held.fenced) (put_id-same backup.held master (record (backup.held master) { fenced = true }))
-gather-fences backup Outside attempt master =
-    ap (λ (held : Held). held.fenced) (put_id-same backup.held master (record (backup.held master) { fenced = true }))
-gather-fences backup (Server from) attempt master =
-    ap (λ (held : Held). held.fenced) (put_id-same backup.held master (record (backup.held master) { fenced = true }))
+gather-fences backup Coordinator attempt master = ap (λ (held : Held). held.fenced) (put_id-same backup.held master)
+gather-fences backup Outside attempt master = ap (λ (held : Held). held.fenced) (put_id-same backup.held master)
+gather-fences backup (Server from) attempt master = ap (λ (held : Held). held.fenced) (put_id-same backup.held master)
 
 -- Freed segments
 
@@ -252,65 +202,46 @@ taken_out seg (one ∷ others) = by (nat_eq seg one.0) refl (taken_out seg other
 -- a freed segment is marked, and its replica is gone
 pub freed-marked : (backup : Backup) (master : ServerId) (seg : ℕ) → (backup.held master).fenced ≡ false →
     (is_freed seg ((frees backup master seg).held master) ≡ true) × (replica_of seg ((frees backup master seg).held master).replicas ≡ None)
-freed-marked backup master seg isn't =
-    let after : Held = record {
-      fenced = false;
-      replicas = without_replica seg (backup.held master).replicas;
-      freed = insert_once seg (backup.held master).freed;
-    } in
-    let stands : (frees backup master seg).held master ≡ after =
-    ap (λ b. (cond b backup (with_held master after backup)).held master) isn't ∙ put_id-same backup.held master after in (
-      ap (is_freed seg) stands ∙ inserted seg (backup.held master).freed,
-      ap (λ (held : Held). replica_of seg held.replicas) stands ∙ taken_out seg (backup.held master).replicas,
-    )
+freed-marked backup master seg isn't = search (arith, put_id-same, inserted, taken_out)
 
 -- nothing of a marked one is stored
 pub freed-nothing : (backup : Backup) (master : ServerId) (seg : ℕ) (body : Body) →
     is_freed seg (backup.held master) ≡ true → stores backup master seg body ≡ (backup, [])
-freed-nothing backup master seg body freed =
-    either (λ after. after ≡ (backup, [])) (is_refused seg (backup.held master)) (backup, [])
-    (keeps backup master seg (replica_after (replica_of seg (backup.held master).replicas) body))
-    (λ _. refl) (λ isn't. true_false (sym freed ∙ or_right-false (backup.held master).fenced (is_freed seg (backup.held master)) isn't))
-  where
-    or_right-false : (a b : Bool) → a || b ≡ false → b ≡ false
-    or_right-false true b e = cc
-    or_right-false false b e = e
+freed-nothing backup master seg body freed = search (arith, either, true_false)
 
 -- Restart
 
 -- a pair by its parts
-name_pair : (one : ℕ × Replica) (seg : ℕ) (replica : Replica) → seg ≡ one.0 → one.1 ≡ replica → one ≡ (seg, replica)
-name_pair one seg replica p q j = (sym p j, q j)
+name_pair : {one : ℕ × Replica} {seg : ℕ} {replica : Replica} → seg ≡ one.0 → one.1 ≡ replica → one ≡ (seg, replica)
+name_pair p q j = (sym p j, q j)
 
 -- what is found and stays is found among those that stay
-pub stay-found : (test : ℕ × Replica → Bool) (replicas : List (ℕ × Replica)) (seg : ℕ) (replica : Replica) →
+pub stay-found : (test : ℕ × Replica → Bool) (replicas : List (ℕ × Replica)) {seg : ℕ} {replica : Replica} →
     replica_of seg replicas ≡ Some replica → test (seg, replica) ≡ true → replica_of seg (filter test replicas) ≡ Some replica
-stay-found test [] seg replica e stays = cc
-stay-found test (one ∷ others) seg replica e stays =
-    by (nat_eq seg one.0) refl (test one) refl (λ found. stay-found test others seg replica found stays) e
+stay-found test [] e stays = cc
+stay-found test (one ∷ others) {seg} {replica} e stays =
+    by (nat_eq seg one.0) refl (test one) refl (λ found. stay-found test others found stays) e
   where
     by : (b : Bool) → nat_eq seg one.0 ≡ b → (t : Bool) → test one ≡ t →
         (replica_of seg others ≡ Some replica → replica_of seg (filter test others) ≡ Some replica) →
         cond b (Some one.1) (replica_of seg others) ≡ Some replica →
         replica_of seg (cond t (one ∷ filter test others) (filter test others)) ≡ Some replica
     by true same true is rec here = rw same here
-    by true same false isn't rec here =
-        let second : one.1 ≡ replica = cc in
-        true_false (sym stays ∙ (sym (ap test (name_pair one seg replica (eqb-true seg one.0 same) second)) ∙ isn't))
+    by true same false isn't rec here = search (arith, true_false, name_pair, eqb-true)
     by false other true is rec rest = rw other (rec rest)
     by false other false isn't rec rest = rec rest
 
 -- what is found among those that pass a test passes it
-pub found-stays : (test : ℕ × Replica → Bool) (replicas : List (ℕ × Replica)) (seg : ℕ) (replica : Replica) →
+pub found-stays : (test : ℕ × Replica → Bool) (replicas : List (ℕ × Replica)) {seg : ℕ} {replica : Replica} →
     replica_of seg (filter test replicas) ≡ Some replica → test (seg, replica) ≡ true
-found-stays test [] seg replica e = cc
-found-stays test (one ∷ others) seg replica e = by (test one) refl (found-stays test others seg replica) e
+found-stays test [] e = cc
+found-stays test (one ∷ others) {seg} {replica} e = by (test one) refl (found-stays test others) e
   where
     here : (b : Bool) → nat_eq seg one.0 ≡ b → test one ≡ true →
         (replica_of seg (filter test others) ≡ Some replica → test (seg, replica) ≡ true) →
         cond b (Some one.1) (replica_of seg (filter test others)) ≡ Some replica → test (seg, replica) ≡ true
     here true same is rec found =
-        let second : one.1 ≡ replica = cc in sym (ap test (name_pair one seg replica (eqb-true seg one.0 same) second)) ∙ is
+        let second : one.1 ≡ replica = cc in sym (ap test (name_pair (eqb-true seg one.0 same) second)) ∙ is
     here false other is rec rest = rec rest
 
     by : (t : Bool) → test one ≡ t → (replica_of seg (filter test others) ≡ Some replica → test (seg, replica) ≡ true) →

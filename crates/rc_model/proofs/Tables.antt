@@ -12,25 +12,25 @@ put_each P table key value new old other =
     either (P other) (nat_eq key other) value (table other) (λ e. subst (λ k. P k value) (eqb-true key other e) new) (λ _. old other)
 
 -- the new value is found at its number
-pub put-same : {V : Type 0} (table : ℕ → V) (key : ℕ) (value : V) → put table key value key ≡ value
-put-same table key value = ap (λ b. cond b value (table key)) (eq-eqb key key refl)
+pub put-same : {V : Type 0} (table : ℕ → V) (key : ℕ) {value : V} → put table key value key ≡ value
+put-same table key {value} = ap (λ b. cond b value (table key)) (eq-eqb key key refl)
 
 -- and the old one at each other number
-pub put-other : {V : Type 0} (table : ℕ → V) (key : ℕ) (value : V) (other : ℕ) → nat_eq key other ≡ false →
+pub put-other : {V : Type 0} (table : ℕ → V) (key : ℕ) (value : V) {other : ℕ} → nat_eq key other ≡ false →
     put table key value other ≡ table other
-put-other table key value other e = ap (λ b. cond b value (table other)) e
+put-other table key value {other} e = ap (λ b. cond b value (table other)) e
 
 -- the same for a table of ids
-pub put_id_each : {V : Type 0} (P : ServerId → V → Type 0) (table : ServerId → V) (key : ServerId) (value : V) →
+pub put_id_each : {V : Type 0} (P : ServerId → V → Type 0) {table : ServerId → V} {key : ServerId} {value : V} →
     P key value → ((other : ServerId) → P other (table other)) → (other : ServerId) → P other (put_id table key value other)
-put_id_each P table key value new old other =
-    either (P other) (same_id key other) value (table other) (λ e. subst (λ k. P k value) (same_id-true key other e) new) (λ _. old other)
+put_id_each P {table} {key} {value} new old other =
+    either (P other) (same_id key other) value (table other) (λ e. subst (λ k. P k value) (same_id-true e) new) (λ _. old other)
 
 -- the new value is found at its id
-pub put_id-same : {V : Type 0} (table : ServerId → V) (key : ServerId) (value : V) → put_id table key value key ≡ value
-put_id-same table key value = ap (λ b. cond b value (table key)) (same_id-refl key)
+pub put_id-same : {V : Type 0} (table : ServerId → V) (key : ServerId) {value : V} → put_id table key value key ≡ value
+put_id-same table key {value} = ap (λ b. cond b value (table key)) (same_id-refl key)
 
 -- and the old one at each other id
-pub put_id-other : {V : Type 0} (table : ServerId → V) (key : ServerId) (value : V) (other : ServerId) →
+pub put_id-other : {V : Type 0} (table : ServerId → V) (key : ServerId) (value : V) {other : ServerId} →
     same_id key other ≡ false → put_id table key value other ≡ table other
-put_id-other table key value other e = ap (λ b. cond b value (table other)) e
+put_id-other table key value {other} e = ap (λ b. cond b value (table other)) e

@@ -1,14 +1,14 @@
 -- One walk over the rules of a master: a relation that each single rule keeps is kept by its whole steps.
-use Rattle.std.proofs.Common.{◌≡◌, ℕ, zero, suc, ◌+◌, ◌-◌, ◌<◌, not, Bool, true, false, cond, nat_lt, nat_eq, ◌&&◌, List, [], ◌∷◌}
-use Rattle.std.proofs.Common.{◌++◌, map, filter, length, Option, Some, None, Result, Ok, Err, refl, inl, inr, option_and_then}
+use Rattle.std.proofs.Common.{◌≡◌, ℕ, zero, suc, ◌+◌, ◌-◌, ◌<◌, not, Bool, true, false, cond, nat_lt, nat_eq, List, [], ◌∷◌}
+use Rattle.std.proofs.Common.{◌++◌, map, filter, length, Option, Some, None, Result, Ok, Err, refl, inl, inr, option_and_then, arith}
 use Rattle.std.proofs.lemmas.Bool.{and_parts, eqb-true, ltb-true}
 use Rattle.rc_model.specs.Heads.{opened_on}
-use Rattle.rc_model.specs.Model.{ServerId, Addr, Server, Entry, Part, PlanRow, Fault, NotOwner, Rolling, ValueTooLong, Deposed, LogFull}
-use Rattle.rc_model.specs.Model.{NoBackups, Message, Body, Write, Read, Stored, CommitOk, Refused, Data, Own, Close, Ready, Enlist}
+use Rattle.rc_model.specs.Model.{ServerId, Addr, Server, Entry, Part, PlanRow, Fault, NotOwner, Rolling, ValueTooLong, Deposed}
+use Rattle.rc_model.specs.Model.{Message, Body, Write, Read, Stored, CommitOk, Refused, Data, Own, Close, Ready, Enlist}
 use Rattle.rc_model.specs.Model.{KeyRange, Recovered, LAST_SEGMENT, to_coordinator, ServerList, newer_than, is_up, from_rows, choose}
 use Rattle.rc_model.specs.Model.{is_unclosed}
 use Rattle.rc_model.specs.Model.{Log, with_segment, old_head_of, numbers_to, is_writing, durable_now, opens_head}
-use Rattle.rc_model.specs.Model.{open_first, is_full, appends, next_digest, begin_roll, stored, commit_noted, loses, shuts}
+use Rattle.rc_model.specs.Model.{is_full, appends, next_digest, begin_roll, stored, commit_noted, loses, shuts}
 use Rattle.rc_model.specs.Model.{may_start, may_close, may_write, left_out, starts, closes_old, writes_on, knows_term, term_of}
 use Rattle.rc_model.specs.Model.{begin_part, put_data, grant, after_replay, to_answer, after_answer, Master, Task, with_log}
 use Rattle.rc_model.specs.Model.{durable_replayed, to_ids, ids_of, place_of, places_head, appends_entry, dead_segments, refused}
@@ -16,7 +16,7 @@ use Rattle.rc_model.specs.Model.{is_too_long, written, rolls_for_write, writes_u
 use Rattle.rc_model.specs.Model.{places_segment, replaces_lost, replaces_lost_of, opens_first, tries_first, obeys_list, takes_list}
 use Rattle.rc_model.specs.Model.{close_is_due, close_marked, frees_segments, first_open, wants_commit, commits, write_oks}
 use Rattle.rc_model.specs.Model.{new_durable, rolls_for_replay, replays, attempt_of, answers_part, follow_up, marks_shut, further}
-use Rattle.rc_model.specs.Model.{followed, enough, goes_on, fetch_of, reminds, ticks, begins_task, task_of, takes_plan, says_deposed}
+use Rattle.rc_model.specs.Model.{followed, enough, goes_on, fetch_of, reminds, ticks, task_of, takes_plan}
 use Rattle.rc_model.specs.Model.{master_takes_first, deposed_takes, master_takes, master_ticks, In, reads_under, if_owned, when}
 use Rattle.rc_types.specs.declared.ids.Addr.TheVariants.{Coordinator}
 use Rattle.rc_types.specs.declared.messages.Body.TheVariants.{Plan, List as ServersOf}
@@ -79,13 +79,12 @@ pub record Taken (R : Master → Master × List Message → Type 0) (master : Ma
   pub comes : (holder : ServerId) (attempt seg term : ℕ) (entries : List Entry) → from ≡ Server holder →
       body ≡ Data attempt seg term entries →
       R master (record master { ownership = put_data term seg holder entries master.ownership }, [])
-  pub owns : (range : KeyRange) (term previous attempt : ℕ) → body ≡ Own range term previous attempt →
-      R master (
-        record master {
-          ownership = grant (record { range = range; term = term }) master.ownership;
-        },
-        [],
-      )
+  pub owns : (range : KeyRange) (term previous attempt : ℕ) → body ≡ Own range term previous attempt → R master (
+    record master {
+      ownership = grant (record { range = range; term = term }) master.ownership;
+    },
+    [],
+  )
 
 -- of what a timer does
 pub record Ticked (R : Master → Master × List Message → Type 0) : Type 0 where
@@ -94,12 +93,11 @@ pub record Ticked (R : Master → Master × List Message → Type 0) : Type 0 wh
 
 -- of the rules that follow up
 pub record Followed (R : Master → Master × List Message → Type 0) : Type 0 where
-  pub marks : (master : Master) → shuts master.log ≡ true →
-      R master (
-        with_log master (with_segment (master.log.head - 1)
-            (record (old_head_of master.log) { shut = true }) master.log),
-        [],
-      )
+  pub marks : (master : Master) → shuts master.log ≡ true → R master (
+    with_log master (with_segment (master.log.head - 1)
+        (record (old_head_of master.log) { shut = true }) master.log),
+    [],
+  )
   pub starts : (master : Master) → may_start master.log ≡ true →
       R master (with_log master (starts master.log), to_coordinator master.log.own Ready ∷ [])
   pub places : (master : Master) → may_close master.log ≡ true → R master (with_log master (closes_old master.log), [])
@@ -126,10 +124,10 @@ pub record Followed (R : Master → Master × List Message → Type 0) : Type 0 
   )
 
 -- a deposed master stays as it is
-pub same-deposed : (master : Master) (body : Body) → (deposed_takes master body).0 ≡ master
-same-deposed master (Write table key value) = refl
-same-deposed master (Read table key) = refl
-same-deposed master _ = refl
+pub same-deposed : {master : Master} (body : Body) → (deposed_takes master body).0 ≡ master
+same-deposed (Write table key value) = refl
+same-deposed (Read table key) = refl
+same-deposed _ = refl
 
 -- a full head: a roll, or nothing
 roll-cases : (master : Master) (P : Log × Result Bool Fault → Type 0) → ((fault : Fault) → P (master.log, Err fault)) →
@@ -137,18 +135,7 @@ roll-cases : (master : Master) (P : Log × Result Bool Fault → Type 0) → ((f
     choose (master.log.head + 1) master.log.own master.log.factor master.known ≡ Some ids →
     P (opens_head master.log (next_digest master.log (dead_segments master)) ids, Ok true)) →
     P (begin_roll master.known (dead_segments master) master.log)
-roll-cases master P none opened =
-    either P (nat_lt master.log.head LAST_SEGMENT)
-    (opened_on master.log (next_digest master.log (dead_segments master))
-    (choose (master.log.head + 1) master.log.own master.log.factor master.known))
-    (master.log, Err LogFull)
-    (λ room. by (choose (master.log.head + 1) master.log.own master.log.factor master.known) refl
-    (ltb-true master.log.head LAST_SEGMENT room)) (λ _. none LogFull)
-  where
-    by : (chosen : Option (List ServerId)) → choose (master.log.head + 1) master.log.own master.log.factor master.known ≡ chosen →
-        master.log.head < LAST_SEGMENT → P (opened_on master.log (next_digest master.log (dead_segments master)) chosen)
-    by None e room = none NoBackups
-    by (Some ids) e room = opened ids room e
+roll-cases master P none opened = search (arith, either, nat_lt, ltb-true)
 
 -- The rules that follow up, one by one
 
@@ -157,13 +144,12 @@ module _ (R : Master → Master × List Message → Type 0) (f : Followed R) whe
       (option_and_then (λ one. when (wants_commit (master.log.segments one)) (commits master one)) seg)
   kept-commits master None e = tt
   kept-commits master (Some seg) e =
-      done-when (R master) (wants_commit (master.log.segments seg)) (commits master seg) (λ wants. f.commits master seg e wants)
+      done-when (R master) (wants_commit (master.log.segments seg)) (λ wants. f.commits master seg e wants)
 
   kept-replays : (master : Master) (entries : List Entry) → master.ownership.replay ≡ entries →
       is_writing master.log.phase ≡ true → AllDone (R master) (replays master entries)
   kept-replays master [] e writing = tt
-  kept-replays master (entry ∷ entries) e writing =
-      either (AllDone (R master)) (is_full master.log)
+  kept-replays master (entry ∷ entries) e writing = either (AllDone (R master)) (is_full master.log)
       (rolls_for_replay master (begin_roll master.known (dead_segments master) master.log))
       (Some (appends_entry (record master { ownership = after_replay master.ownership }) entry false))
       (λ _. roll-cases master (λ done. AllDone (R master) (rolls_for_replay master done)) (λ fault. tt)
@@ -176,43 +162,30 @@ module _ (R : Master → Master × List Message → Type 0) (f : Followed R) whe
   kept-answers master (Some term) e = f.answers master term e
 
   pub kept-follow_up : (master : Master) → AllDone (R master) (follow_up master)
-  kept-follow_up master =
-      done-or (R master) _ _ (done-when (R master) (may_start master.log) (_, _) (f.starts master))
-      (done-or (R master) _ _ (done-when (R master) (may_close master.log) (_, _) (f.places master))
-      (done-or (R master) _ _ (done-when (R master) (close_is_due master.log) (_, _) (f.closes master))
-      (done-or (R master) _ _ (done-when (R master) (may_write master.log) (_, _) (f.shuts master))
-      (done-or (R master) _ _ (kept-commits master (first_open master.log) refl)
-      (done-or (R master) _ _ (done-when (R master) (nat_lt master.log.durable (durable_now master.log)) (_, _) (f.counts master))
-      (done-or (R master) _ _
-      (either (AllDone (R master)) (is_writing master.log.phase) (replays master master.ownership.replay) None
-      (λ writing. kept-replays master master.ownership.replay refl writing) (λ _. tt))
-      (kept-answers master (to_answer (durable_replayed master) master.ownership) refl)))))))
+  kept-follow_up master = search (arith, done-or, done-when, kept-commits, nat_lt, either, kept-replays, kept-answers)
 
 module _ (R : Master → Master × List Message → Type 0) (joined : Joined R) where
-  pub kept-then : (master : Master) (first : Master × List Message) (rule : Master → Master × List Message) →
+  pub kept-then : {master : Master} {first : Master × List Message} {rule : Master → Master × List Message} →
       R master first → ((after : Master) → R after (rule after)) → R master (then_does first rule)
-  kept-then master first rule p q = joined.both master first.0 first.1 (rule first.0) p (q first.0)
+  kept-then {master} {first} {rule} p q = joined.both master first.0 first.1 (rule first.0) p (q first.0)
 
   -- All that follow up
 
-  kept-marks : Followed R → (master : Master) → R master (marks_shut master, [])
-  kept-marks f master =
-      either (λ (log : Log). R master (with_log master log, [])) (shuts master.log)
+  kept-marks : Followed R → {master : Master} → R master (marks_shut master, [])
+  kept-marks f {master} = either (λ (log : Log). R master (with_log master log, [])) (shuts master.log)
       (with_segment (master.log.head - 1) (record (old_head_of master.log) { shut = true }) master.log) master.log
       (f.marks master) (λ _. joined.still master)
 
-  kept-further : (found : Option (Master × List Message)) (master : Master) (others : Master → Master × List Message) →
+  kept-further : (found : Option (Master × List Message)) {master : Master} {others : Master → Master × List Message} →
       AllDone (R master) found → ((next : Master) → R next (others next)) → R master (further found master others)
-  kept-further None master others p q = joined.still master
-  kept-further (Some (next, messages)) master others p q = joined.both master next messages (others next) p (q next)
+  kept-further None {master} p q = joined.still master
+  kept-further (Some (next, messages)) {master} {others} p q = joined.both master next messages (others next) p (q next)
 
   kept-followed : Followed R → (times : ℕ) (master : Master) → R master (followed times master)
-  kept-followed f zero master = kept-marks f master
-  kept-followed f (suc times) master =
-      joined.both master (marks_shut master) []
-      (further (follow_up (marks_shut master)) (marks_shut master) (followed times)) (kept-marks f master)
-      (kept-further (follow_up (marks_shut master)) (marks_shut master) (followed times)
-      (kept-follow_up R f (marks_shut master)) (kept-followed f times))
+  kept-followed f zero master = kept-marks f
+  kept-followed f (suc times) master = joined.both master (marks_shut master) []
+      (further (follow_up (marks_shut master)) (marks_shut master) (followed times)) (kept-marks f)
+      (kept-further (follow_up (marks_shut master)) (kept-follow_up R f (marks_shut master)) (kept-followed f times))
 
   pub kept-goes_on : Followed R → (master : Master) → R master (goes_on master)
   kept-goes_on f master = either (R master) master.deposed (master, []) (followed (enough master) master)
@@ -220,137 +193,122 @@ module _ (R : Master → Master × List Message → Type 0) (joined : Joined R) 
 
   -- The list rules
 
-  kept-segment : (seg : ℕ) (master : Master) (done : Log × Result (List ServerId) Fault) →
+  kept-segment : {seg : ℕ} {master : Master} (done : Log × Result (List ServerId) Fault) →
       ((ids : List ServerId) → R master
       (with_log master done.0, to_ids done.0.own ids (place_of done.0 seg (done.0.segments seg).shut))) →
       R master (places_segment seg master done)
-  kept-segment seg master (log, Ok ids) p = p ids
-  kept-segment seg master (log, Err fault) p = p []
+  kept-segment (log, Ok ids) p = p ids
+  kept-segment (log, Err fault) p = p []
 
-  kept-lost : Listed R → (master : Master) (seg : ℕ) → R master (replaces_lost master seg)
-  kept-lost l master seg =
+  kept-lost : Listed R → {master : Master} (seg : ℕ) → R master (replaces_lost master seg)
+  kept-lost l {master} seg =
       either (R master) (master.log.segments seg).freed (master, []) (places_segment seg master (loses master.known seg master.log))
       (λ _. joined.still master)
-      (λ isn't. kept-segment seg master (loses master.known seg master.log) (λ ids. l.replaces master seg ids isn't))
+      (λ isn't. kept-segment (loses master.known seg master.log) (λ ids. l.replaces master seg ids isn't))
 
   kept-lost_of : Listed R → (segs : List ℕ) (master : Master) → R master (replaces_lost_of segs master)
   kept-lost_of l [] master = joined.still master
-  kept-lost_of l (seg ∷ segs) master =
-      kept-then master (replaces_lost master seg) (replaces_lost_of segs) (kept-lost l master seg) (kept-lost_of l segs)
+  kept-lost_of l (seg ∷ segs) master = kept-then (kept-lost l seg) (kept-lost_of l segs)
 
-  kept-first : Listed R → (master : Master) (chosen : Option (List ServerId)) → master.log.head ≡ 0 →
+  kept-first : Listed R → {master : Master} (chosen : Option (List ServerId)) → master.log.head ≡ 0 →
       choose 1 master.log.own master.log.factor master.known ≡ chosen →
       R master (opens_first master (opened_on master.log (1 ∷ []) chosen))
-  kept-first l master None none e = joined.still master
-  kept-first l master (Some ids) none e = l.opens master ids none e
+  kept-first l {master} None none e = joined.still master
+  kept-first l {master} (Some ids) none e = l.opens master ids none e
 
   kept-tries : Listed R → (master : Master) → R master (tries_first master)
-  kept-tries l master =
-      either (R master) (nat_eq master.log.head 0 && is_up master.known master.log.own)
-      (opens_first master (open_first master.known master.log)) (master, [])
-      (λ e. kept-first l master (choose 1 master.log.own master.log.factor master.known)
-      (eqb-true master.log.head 0 (and_parts (nat_eq master.log.head 0) (is_up master.known master.log.own) e).0) refl)
-      (λ _. joined.still master)
+  kept-tries l master = search (arith, either, nat_eq, kept-first, eqb-true, and_parts)
 
   pub kept-obeys : Listed R → (master : Master) → R master (obeys_list master)
-  kept-obeys l master = kept-then master (replaces_lost_of (numbers_to master.log.head) master) tries_first
-      (kept-lost_of l (numbers_to master.log.head) master) (kept-tries l)
+  kept-obeys l master = kept-then (kept-lost_of l (numbers_to master.log.head) master) (kept-tries l)
 
-  pub kept-list : Listed R → (master : Master) (servers : ServerList) →
+  pub kept-list : Listed R → {master : Master} {servers : ServerList} →
       (newer_than servers master.known ≡ true → R master (record master { known = servers }, [])) →
       R master (takes_list master servers)
-  kept-list l master servers p =
+  kept-list l {master} {servers} p =
       either (R master) (newer_than servers master.known) (obeys_list (record master { known = servers })) (master, [])
       (λ newer. joined.both master (record master { known = servers }) [] (obeys_list (record master { known = servers }))
-      (p newer) (kept-obeys l (record master { known = servers })))
-      (λ _. joined.still master)
+      (p newer) (kept-obeys l (record master { known = servers }))) (λ _. joined.still master)
 
   -- Writes and reads
 
   module _ (refuses : (master : Master) (fault : Fault) → R master (refused master fault)) where
-    kept-rolls : (master : Master) → Rolls R master → is_writing master.log.phase ≡ true →
+    kept-rolls : {master : Master} → Rolls R master → is_writing master.log.phase ≡ true →
         R master (rolls_for_write master (begin_roll master.known (dead_segments master) master.log))
-    kept-rolls master rolls writing =
+    kept-rolls {master} rolls writing =
         roll-cases master (λ done. R master (rolls_for_write master done)) (λ fault. refuses master fault)
         (λ ids room chosen. (let log : Log = opens_head master.log (next_digest master.log (dead_segments master)) ids in
         joined.both master (with_log master log) (places_head log) (refused (with_log master log) Rolling)
         (rolls ids writing room chosen) (refuses (with_log master log) Rolling)))
 
-    kept-under : (master : Master) (term table key : ℕ) (value : Option (List ℕ)) → Rolls R master →
+    kept-under : {master : Master} (term table key : ℕ) (value : Option (List ℕ)) → Rolls R master →
         (is_writing master.log.phase ≡ true → is_full master.log ≡ false →
         R master (appends_entry master (written master term table key value) true)) →
         R master (writes_under master term table key value)
-    kept-under master term table key value rolls p = by (is_writing master.log.phase) refl
+    kept-under {master} term table key value rolls p = by (is_writing master.log.phase) refl
       where
         by : (b : Bool) → is_writing master.log.phase ≡ b → R master (cond (not b) (refused master Rolling)
             (cond (is_full master.log) (rolls_for_write master (begin_roll master.known (dead_segments master) master.log))
             (appends_entry master (written master term table key value) true)))
         by false e = refuses master Rolling
-        by true e = either (R master) (is_full master.log)
-            (rolls_for_write master (begin_roll master.known (dead_segments master) master.log))
-            (appends_entry master (written master term table key value) true)
-            (λ _. kept-rolls master rolls e) (λ room. p e room)
+        by true e = search (arith, either, kept-rolls)
 
-    kept-owned : (master : Master) (term : Option ℕ) (table key : ℕ) (value : Option (List ℕ)) → Rolls R master →
+    kept-owned : {master : Master} (term : Option ℕ) (table key : ℕ) (value : Option (List ℕ)) → Rolls R master →
         ((one : ℕ) → term ≡ Some one → is_writing master.log.phase ≡ true → is_full master.log ≡ false →
         R master (appends_entry master (written master one table key value) true)) →
         R master (option_map_or (λ one. writes_under master one table key value) term (refused master NotOwner))
-    kept-owned master None table key value rolls p = refuses master NotOwner
-    kept-owned master (Some term) table key value rolls p = kept-under master term table key value rolls (p term refl)
+    kept-owned {master} None table key value rolls p = refuses master NotOwner
+    kept-owned (Some term) table key value rolls p = kept-under term table key value rolls (p term refl)
 
-    pub kept-writes : (master : Master) (table key : ℕ) (value : Option (List ℕ)) → Rolls R master →
+    pub kept-writes : {master : Master} (table key : ℕ) (value : Option (List ℕ)) → Rolls R master →
         ((term : ℕ) → term_of master.ownership table key ≡ Some term → is_writing master.log.phase ≡ true →
         is_full master.log ≡ false → R master (appends_entry master (written master term table key value) true)) →
         R master (writes master table key value)
-    kept-writes master table key value rolls p =
-        either (R master) (is_too_long value) (refused master ValueTooLong)
+    kept-writes {master} table key value rolls p = either (R master) (is_too_long value) (refused master ValueTooLong)
         (if_owned master table key (λ one. writes_under master one table key value))
         (λ _. refuses master ValueTooLong)
-        (λ _. kept-owned master (term_of master.ownership table key) table key value rolls p)
+        (λ _. kept-owned (term_of master.ownership table key) table key value rolls p)
 
-    pub kept-reads : (master : Master) (term : Option ℕ) (table key : ℕ) →
+    pub kept-reads : {master : Master} (term : Option ℕ) {table key : ℕ} →
         ((one : ℕ) → term ≡ Some one → R master (reads_under master one table key)) →
         R master (option_map_or (λ one. reads_under master one table key) term (refused master NotOwner))
-    kept-reads master None table key p = refuses master NotOwner
-    kept-reads master (Some term) table key p = p term refl
+    kept-reads {master} None p = refuses master NotOwner
+    kept-reads (Some term) p = p term refl
 
-    pub kept-deposed : (master : Master) (body : Body) → R master (deposed_takes master body)
-    kept-deposed master (Write table key value) = refuses master Deposed
-    kept-deposed master (Read table key) = refuses master Deposed
-    kept-deposed master body = joined.still master
+    pub kept-deposed : {master : Master} (body : Body) → R master (deposed_takes master body)
+    kept-deposed {master} (Write table key value) = refuses master Deposed
+    kept-deposed {master} (Read table key) = refuses master Deposed
+    kept-deposed {master} body = joined.still master
 
   -- Plans
 
-  pub kept-plan : (attempt : ℕ) (crashed : ServerId) (rows : List PlanRow) (parts : List Part) →
+  pub kept-plan : {attempt : ℕ} {crashed : ServerId} {rows : List PlanRow} (parts : List Part) →
       ((master : Master) (part : Part) → In part parts → knows_term master.ownership part.term ≡ false →
       R master (begun (task_of attempt crashed rows part) master, map (fetch_of master.log.own (task_of attempt crashed rows part)) rows)) →
       (master : Master) → R master (takes_plan attempt crashed rows parts master)
-  kept-plan attempt crashed rows [] p master = joined.still master
-  kept-plan attempt crashed rows (part ∷ parts) p master =
-      kept-then master (begins_task (task_of attempt crashed rows part) master) (takes_plan attempt crashed rows parts)
+  kept-plan [] p master = joined.still master
+  kept-plan (part ∷ parts) p master = kept-then
       (either (R master) (knows_term master.ownership part.term) (master, []) (_, _)
       (λ _. joined.still master) (λ new. p master part (inl refl) new))
-      (kept-plan attempt crashed rows parts (λ one other at. p one other (inr at)))
+      (kept-plan parts (λ one other at. p one other (inr at)))
 
   -- Messages
 
-  pub kept-takes_first : Listed R → (master : Master) (from : Addr) (body : Body) → Taken R master from body →
+  pub kept-takes_first : Listed R → {master : Master} (from : Addr) (body : Body) → Taken R master from body →
       R master (master_takes_first master from body)
-  kept-takes_first l master from (Write table key value) t =
-      kept-writes t.refuses master table key value t.rolls (λ term. t.writes term table key value refl)
-  kept-takes_first l master from (Read table key) t =
-      kept-reads t.refuses master (term_of master.ownership table key) table key (λ term. t.reads term table key refl)
-  kept-takes_first l master from (ServersOf version rows) t = kept-list l master (from_rows version rows) (t.lists version rows refl)
-  kept-takes_first l master (Server teller) (Stored seg epoch len closed) t = t.stores teller seg epoch len closed refl refl
-  kept-takes_first l master from (CommitOk seg epoch) t = t.commits seg epoch refl
-  kept-takes_first l master Coordinator (Refused reason) t =
-      either (λ (after : Master). R master (after, [])) (says_deposed reason) (record master { deposed = true }) master
-      (λ _. t.deposes) (λ _. joined.still master)
-  kept-takes_first l master from (Plan head attempt crashed rows parts) t =
-      kept-plan attempt crashed rows parts (λ one part. t.begins one attempt crashed head rows parts part refl) master
-  kept-takes_first l master (Server holder) (Data attempt seg term entries) t = t.comes holder attempt seg term entries refl refl
-  kept-takes_first l master from (Own range term previous attempt) t = t.owns range term previous attempt refl
-  kept-takes_first l master from body t = joined.still master
+  kept-takes_first l from (Write table key value) t =
+      kept-writes t.refuses table key value t.rolls (λ term. t.writes term table key value refl)
+  kept-takes_first l {master} from (Read table key) t =
+      kept-reads t.refuses (term_of master.ownership table key) (λ term. t.reads term table key refl)
+  kept-takes_first l from (ServersOf version rows) t = kept-list l (t.lists version rows refl)
+  kept-takes_first l (Server teller) (Stored seg epoch len closed) t = t.stores teller seg epoch len closed refl refl
+  kept-takes_first l from (CommitOk seg epoch) t = t.commits seg epoch refl
+  kept-takes_first l {master} Coordinator (Refused reason) t = search (arith, either)
+  kept-takes_first l {master} from (Plan head attempt crashed rows parts) t =
+      kept-plan parts (λ one part. t.begins one attempt crashed head rows parts part refl) master
+  kept-takes_first l (Server holder) (Data attempt seg term entries) t = t.comes holder attempt seg term entries refl refl
+  kept-takes_first l from (Own range term previous attempt) t = t.owns range term previous attempt refl
+  kept-takes_first l {master} from body t = joined.still master
 
   -- The timer
 
@@ -358,22 +316,20 @@ module _ (R : Master → Master × List Message → Type 0) (joined : Joined R) 
   kept-ticks_first l t master =
       either (R master) (is_up master.known master.log.own) (then_does (obeys_list master) (reminds master.log))
       (master, to_coordinator master.log.own Enlist ∷ [])
-      (λ _. kept-then master (obeys_list master) (reminds master.log) (kept-obeys l master) (t.reminds master.log))
-      (λ _. t.enlists master)
+      (λ _. kept-then (kept-obeys l master) (t.reminds master.log)) (λ _. t.enlists master)
 
   -- Whole steps
 
-  pub kept-takes : Listed R → Followed R → (master : Master) (from : Addr) (body : Body) → Taken R master from body →
+  pub kept-takes : Listed R → Followed R → {master : Master} {from : Addr} {body : Body} → Taken R master from body →
       R master (master_takes master from body)
-  kept-takes l f master from body t =
+  kept-takes l f {master} {from} {body} t =
       either (R master) master.deposed (deposed_takes master body) (then_does (master_takes_first master from body) goes_on)
-      (λ _. kept-deposed t.refuses master body)
-      (λ _. kept-then master (master_takes_first master from body) goes_on (kept-takes_first l master from body t) (kept-goes_on f))
+      (λ _. kept-deposed t.refuses body) (λ _. kept-then (kept-takes_first l from body t) (kept-goes_on f))
 
   pub kept-ticks : Listed R → Followed R → Ticked R → (master : Master) → R master (master_ticks master)
   kept-ticks l f t master =
       either (R master) master.deposed (master, []) (then_does (ticks master) goes_on) (λ _. joined.still master)
-      (λ _. kept-then master (ticks master) goes_on (kept-ticks_first l t master) (kept-goes_on f))
+      (λ _. kept-then (kept-ticks_first l t master) (kept-goes_on f))
 
 -- Relations of the log alone
 
@@ -411,50 +367,21 @@ pub record LogFollowed (L : Log → Log → Type 0) : Type 0 where
 
 module _ (L : Log → Log → Type 0) (joined : LogJoined L) where
   pub of_log-joined : Joined (OfLog L)
-  of_log-joined = record {
-    still = λ master. joined.still master.log;
-    both = λ one two first after p q. joined.both one.log two.log after.0.log p q;
-  }
+  of_log-joined = search arith
 
   pub of_log-listed : LogListed L → Listed (OfLog L)
-  of_log-listed l = record {
-    replaces = λ master seg ids isn't. l.replaces master.known seg master.log;
-    opens = λ master. l.opens master.known master.log;
-  }
+  of_log-listed l = search arith
 
   -- but for what is told as stored, and as committed
-  pub of_log-taken : LogWritten L → (master : Master) (from : Addr) (body : Body) →
+  pub of_log-taken : LogWritten L → {master : Master} {from : Addr} {body : Body} →
       ((teller : ServerId) (seg epoch len : ℕ) (closed : Bool) → from ≡ Server teller → body ≡ Stored seg epoch len closed →
       L master.log (stored seg teller epoch len closed master.log)) →
       ((seg epoch : ℕ) → body ≡ CommitOk seg epoch → L master.log (commit_noted seg epoch master.log)) →
       Taken (OfLog L) master from body
-  of_log-taken w master from body stores commits = record {
-    refuses = λ one fault. joined.still one.log;
-    rolls = w.rolls master.known master.log (next_digest master.log (dead_segments master));
-    writes = λ term table key value is owned. w.writes master.log (written master term table key value) true;
-    reads = λ term table key is owned. joined.still master.log;
-    lists = λ version rows is newer. joined.still master.log;
-    stores = stores;
-    commits = commits;
-    deposes = joined.still master.log;
-    begins = λ one attempt crashed head rows parts part is at new. joined.still one.log;
-    comes = λ holder attempt seg term entries is says. joined.still master.log;
-    owns = λ range term previous attempt is. joined.still master.log;
-  }
+  of_log-taken w {master} stores commits = search arith
 
   pub of_log-ticked : Ticked (OfLog L)
   of_log-ticked = record { enlists = λ master. joined.still master.log; reminds = λ before master. joined.still master.log }
 
   pub of_log-followed : LogWritten L → LogFollowed L → Followed (OfLog L)
-  of_log-followed w f = record {
-    marks = λ master. f.marks master.log;
-    starts = λ master. f.starts master.log;
-    places = λ master. f.places master.log;
-    closes = λ master. f.closes master.log;
-    shuts = λ master. f.shuts master.log;
-    commits = λ master seg open_one wants. f.commits master.log seg;
-    counts = λ master. f.counts master.log;
-    rolls = λ master. w.rolls master.known master.log (next_digest master.log (dead_segments master));
-    replays = λ master entry entries is. w.writes master.log entry false;
-    answers = λ master term is. joined.still master.log;
-  }
+  of_log-followed w f = search arith

@@ -75,7 +75,7 @@ module _ (n : ℕ) where
   held-within : (backup : Backup) (master : ServerId) (held : Held) → BackupWithin n backup →
       ReplicasWithin held.replicas → BackupWithin n (with_held master held backup)
   held-within backup master held h all =
-      put_id_each (λ (id : ServerId) (one : Held). ReplicasWithin one.replicas) backup.held master held all h
+      put_id_each (λ (id : ServerId) (one : Held). ReplicasWithin one.replicas) all h
 
   -- Storing
 

@@ -39,7 +39,7 @@ record Before (n : ℕ) (after : Coordinator × List Message) : Type 0 where
 
 each-within : (n : ℕ) (ids : List ServerId) (body : Body) → body_within n body → MessagesWithin n (to_each ids body)
 each-within n ids body p = each-all (λ (message : Message). body_within n message.body) (to_each ids body)
-    (each-to (λ (message : Message). body_within n message.body) body (λ id. p) ids)
+    (each-to (λ (message : Message). body_within n message.body) (λ id. p) ids)
 
 -- a crash raises the version by one at most
 version-crashed : (id : ServerId) (servers : ServerList) → (crashed id servers).version ≤ servers.version + 1
@@ -69,7 +69,7 @@ plans-within : (n number : ℕ) (master : ServerId) (decision : Decision) (ids :
     MessagesWithin n (plan_messages number master decision ids)
 plans-within n number master decision ids =
     each-all (λ (message : Message). body_within n message.body) (plan_messages number master decision ids)
-    (each-plans (λ (message : Message). body_within n message.body) number master decision (λ id part parts e. tt) ids)
+    (each-plans (λ (message : Message). body_within n message.body) decision (λ id part parts e. tt) ids)
 
 ticks-within : (n : ℕ) (c : Coordinator) → MessagesWithin n (coordinator_ticks c)
 ticks-within n c = each-all (λ (message : Message). body_within n message.body) (coordinator_ticks c)

@@ -105,7 +105,7 @@ module _ (n : ℕ) where
     enlists = λ master h. says h tt;
     reminds = λ before master h. record {
       master = h;
-      messages = each-all is_within _ (each-reminds is_within before master (record {
+      messages = each-all is_within _ (each-reminds is_within before {master = master} (record {
         place = λ member seg closed at shut among. h.log seg;
         append = λ member seg len at. versions-drop len (master.log.segments seg).entries (h.log seg);
         close = λ member seg at old. tt;
@@ -136,7 +136,7 @@ module _ (n : ℕ) where
     commits = λ master seg open_one wants h. says (put seg (record (master.log.segments seg) { commit_sent = true }) refl h) tt;
     counts = λ master more h. record {
       master = logged h h.log;
-      messages = each-all is_within _ (each-write_oks is_within master.log.own (new_durable master.log) (λ place at client. tt));
+      messages = each-all is_within _ (each-write_oks is_within (new_durable master.log) (λ place at client. tt));
     };
     rolls = rolls;
     replays = λ master entry entries is writing room h. entry-done (record master { ownership = after_replay master.ownership }) entry false
@@ -176,5 +176,5 @@ written-within {master} h term table key value =
 pub takes-done : {n : ℕ} {master : Master} (from : Addr) (body : Body) → MasterWithin n master →
     body_within (n + 1) body → Done (n + 1) (master_takes master from body)
 takes-done {n} {master} from body h p =
-    kept-takes (Within (n + 1)) (joined (n + 1)) (listed (n + 1)) (followed (n + 1)) master from body
+    kept-takes (Within (n + 1)) (joined (n + 1)) (listed (n + 1)) (followed (n + 1))
     (taken (n + 1) p (written-within h)) (master-more (omega arith) h)

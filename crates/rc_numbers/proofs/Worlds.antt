@@ -100,7 +100,7 @@ starts-within {n} {host} kept h = record {
   host = record {
     generation = omega (arith, h.generation);
     backup = restart-within (n + 1) (next_server host) kept host.backup (backup-more (omega arith) host.backup h.backup);
-    master = λ other e. subst (MasterWithin (n + 1)) (some-same e) (new-master);
+    master = λ other e. subst (MasterWithin (n + 1)) (some-same e) new-master;
   };
   messages = one-within (n + 1) (to_coordinator (next_server host) Enlist) tt;
 }
@@ -209,4 +209,4 @@ within-opening = record {
 
 -- all numbers of a world are within the number of its events
 pub within-replay : NumbersGrowSlowly
-within-replay setup events = world-more (omega arith) (within-from 0 events (within-opening))
+within-replay setup events = world-more (omega arith) (within-from 0 events within-opening)

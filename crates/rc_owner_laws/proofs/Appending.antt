@@ -166,7 +166,7 @@ good-client {sent} {m} {v} place is_client good owns numbered = record {
     above entry at a b c =
         let found = place_of (logged v.places) entry at in
         let most : entry.version ≤ greatest_version place.entry.term place.entry.table place.entry.key (logged v.places) =
-        greatest-above place.entry.term place.entry.table place.entry.key (logged v.places) found.0 entry found.1
+        greatest-above place.entry.term place.entry.table place.entry.key (logged v.places) found.0 found.1
         (is-of-true entry a b c) in
         omega arith
 

@@ -76,7 +76,7 @@ of_owner owner (first ∷ tablets) tablet at = by (same_id owner first.owner) re
     by : (b : Bool) → same_id owner first.owner ≡ b → (In tablet (tablets_of owner tablets) → In tablet tablets × (tablet.owner ≡ owner)) →
         In tablet (cond b (first ∷ tablets_of owner tablets) (tablets_of owner tablets)) →
         ((tablet ≡ first) ⊎ In tablet tablets) × (tablet.owner ≡ owner)
-    by true e rec (inl same) = (inl same, ap (λ (one : Tablet). one.owner) same ∙ sym (same_id-true owner first.owner e))
+    by true e rec (inl same) = (inl same, ap (λ (one : Tablet). one.owner) same ∙ sym (same_id-true e))
     by true e rec (inr rest) = further (rec rest)
     by false e rec rest = further (rec rest)
 

@@ -32,7 +32,7 @@ all-logged term d {own} xs waiting is long =
     let logged_first : Begins (under term xs) own = (waiting, is) in
     let shorter : length (under term xs) ≤ length own = begins-length _ _ logged_first in
     let same : under term xs ≡ own = begins-whole logged_first (omega arith) in
-    subst (λ (ys : List Entry). Begins ys (under term xs)) same (begins-refl)
+    subst (λ (ys : List Entry). Begins ys (under term xs)) same begins-refl
 
 -- the entries of the first places are the first entries
 logged-take : (d : ℕ) (places : List LogPlace) → logged (take d places) ≡ take d (logged places)

@@ -78,8 +78,7 @@ module _ (world : World) (one : Event) (i : ℕ) (good : GoodWorld world) where
     takes = λ master e from says at moved. fine-master master (master_takes master from says) moved;
     ticks = λ master e moved. fine-master master (master_ticks master) moved;
     stops = fine-none world;
-    starts = λ kept. each-one (λ (message : Message). data_fine world.sent world.masters message.from message.to message.body)
-        (to_coordinator (next_server (world.hosts i)) body.Enlist) tt;
+    starts = λ kept. each-one (λ (message : Message). data_fine world.sent world.masters message.from message.to message.body) tt;
   }) work given
 
 -- Events

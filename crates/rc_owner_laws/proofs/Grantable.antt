@@ -59,8 +59,7 @@ from-host world one i good work given = said-host world one i good FromServers (
   none = λ message at. absurd at;
   backs = λ after moved message at. (server_of (world.hosts i), moved.from message at);
   moves = λ master after moved message at. (server_of (world.hosts i), (moved.says message at).from);
-  starts = each-one (λ (message : Message). (id : ServerId) × (message.from ≡ Server id))
-      (to_coordinator (next_server (world.hosts i)) Enlist) (next_server (world.hosts i), refl);
+  starts = each-one (λ (message : Message). (id : ServerId) × (message.from ≡ Server id)) (next_server (world.hosts i), refl);
 }) work given
 
 tablets-node : {world : World} (one : Event) (node : NodeName) (work : NodeWork) → GoodWorld world → OfWorld world →
@@ -124,7 +123,7 @@ module _ (setup : Setup) (events : List Event) (id : ServerId) (number : ℕ) (m
   of = grants.kept.known (from_coordinator id (PlanBody planned.head number master planned.rows planned.parts)) planned.planned
 
   given : In (gives id part) of.decision.parts
-  given = subst (λ (m : ServerId). In (gives m part) of.decision.parts) (server-same of.id id (sym of.to_is)) (of.given part planned.among)
+  given = subst (λ (m : ServerId). In (gives m part) of.decision.parts) (server-same (sym of.to_is)) (of.given part planned.among)
 
   -- what was granted was sent
   owned : IsGiven (replay setup events).coordinator.grants (gives id part) → IsOwned (replay setup events).sent id part
@@ -161,7 +160,7 @@ module _ (setup : Setup) (events : List Event) (id : ServerId) (number : ℕ) (m
   granted-before up {grant} is = record {
     grant = grant;
     term_is = eqb-true grant.term part.term tests.0;
-    owner = same_id-true grant.owner id tests.1;
+    owner = same_id-true tests.1;
     answer = answer-is up ∙ ap
         (λ (found : Option Grant). (by_grant (replay setup events).coordinator id number part.term found).1)
         is;

@@ -194,7 +194,7 @@ marked-other : (id m : ServerId) (rows : List (ServerId × Bool)) → same_id id
     marked_up (id_crashed id rows) m ≡ true
 marked-other id m [] differs e = true_false (sym e)
 marked-other id m (row ∷ rows) differs e =
-    by (same_id m row.0) (same_id id row.0) (λ here. ap (same_id id) (sym (same_id-true m row.0 here)) ∙ differs)
+    by (same_id m row.0) (same_id id row.0) (λ here. ap (same_id id) (sym (same_id-true here)) ∙ differs)
     (marked-other id m rows differs) e
   where
     by : (here struck : Bool) → (here ≡ true → struck ≡ false) →
@@ -214,7 +214,7 @@ marked-elsewhere : (index : ℕ) (m : ServerId) (rows more : List (ServerId × B
     marked_up rows m ≡ true → marked_up (index_crashed index rows ++ more) m ≡ true
 marked-elsewhere index m [] more differs e = true_false (sym e)
 marked-elsewhere index m (row ∷ rows) more differs e = by (same_id m row.0) (nat_eq row.0.index index)
-    (λ here. ap (λ (x : ServerId). nat_eq x.index index) (sym (same_id-true m row.0 here)) ∙ differs)
+    (λ here. ap (λ (x : ServerId). nat_eq x.index index) (sym (same_id-true here)) ∙ differs)
     (marked-elsewhere index m rows more differs) e
   where
     by : (here struck : Bool) → (here ≡ true → struck ≡ false) →
@@ -236,7 +236,7 @@ In-up m (row ∷ rows) e = by (same_id m row.0) row.1 refl (In-up m rows) e
   where
     by : (here mark : Bool) → same_id m row.0 ≡ here → (marked_up rows m ≡ true → In m (up_rows rows)) →
         cond here mark (marked_up rows m) ≡ true → In m (cond mark (row.0 ∷ up_rows rows) (up_rows rows))
-    by true true is rec e = inl (same_id-true m row.0 is)
+    by true true is rec e = inl (same_id-true is)
     by true false is rec e = true_false (sym e)
     by false true is rec e = inr (rec e)
     by false false is rec e = rec e

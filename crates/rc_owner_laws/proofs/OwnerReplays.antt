@@ -65,7 +65,7 @@ says-host world one i good work given = said-host world one i good (OwnSays worl
       (moved.says message at);
   moves = λ master after moved message at. by_master world.coordinator world.sent (world.sent ++ after.1)
       (server_of (world.hosts i)) master.log after.0.log message.to message.body (moved.says message at).says;
-  starts = each-one (OwnSaid world.coordinator) (to_coordinator (next_server (world.hosts i)) body.Enlist) tt;
+  starts = each-one (OwnSaid world.coordinator) tt;
 }) work given
 
 pub later-coordinator : (world : World) (work : NodeWork) → GoodWorld world → IsGiven world.sent TheCoordinator work →

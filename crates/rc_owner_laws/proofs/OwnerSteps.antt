@@ -55,7 +55,7 @@ module _ (sent : List Message) (c : Coordinator) (base : GoodCoordinator sent c)
   quiet is same says = search arith
 
   still : {message : Message} → OwnSaid c message → Moved (c, message ∷ [])
-  still {message} says = quiet good refl (each-one (OwnSaid c) message says)
+  still {message} says = quiet good refl (each-one (OwnSaid c) says)
 
   stays : Stays c Hears Moved
   stays = record {
@@ -65,7 +65,7 @@ module _ (sent : List Message) (c : Coordinator) (base : GoodCoordinator sent c)
     repeats = λ id term grant is found. still (record {
       grant = grant;
       among = (find-one (is_grant_to id term) c.grants found).0;
-      to_is = ap Server (sym (same_id-true grant.owner id (and_parts (nat_eq grant.term term) (same_id grant.owner id)
+      to_is = ap Server (sym (same_id-true (and_parts (nat_eq grant.term term) (same_id grant.owner id)
           (find-one (is_grant_to id term) c.grants found).1).1));
       body_is = refl;
     });
@@ -202,7 +202,7 @@ module _ (sent : List Message) (c : Coordinator) (base : GoodCoordinator sent c)
       IsNumbered c.attempts number attempt →
       Moved (decides_on c number attempt (decision_of c number attempt.master plan (id ∷ ids)) (id ∷ ids))
   decided-moved {number} {attempt} plan id ids numbered = quiet (decided-good plan id ids numbered) refl
-      (each-plans (OwnSaid (decides_on c number attempt decision (id ∷ ids)).0) number attempt.master decision
+      (each-plans (OwnSaid (decides_on c number attempt decision (id ∷ ids)).0) decision
       (plan-said (record {
         attempt = record attempt { decided = Some decision };
         numbered = numbered-set numbered;
@@ -224,13 +224,12 @@ module _ (sent : List Message) (c : Coordinator) (base : GoodCoordinator sent c)
     good = granted-good good new;
     remembers = λ one at. In-left one c.grants (grant ∷ []) at;
     told = λ one at. told one (In-append one c.grants (grant ∷ []) at);
-    says = each-one (OwnSaid (record c { tablets = tablets; grants = c.grants ++ grant ∷ []; last_term = last }))
-        (from_coordinator grant.owner (own_body grant)) (record {
-          grant = grant;
-          among = In-right grant c.grants (grant ∷ []) (inl refl);
-          to_is = refl;
-          body_is = refl;
-        });
+    says = each-one (OwnSaid (record c { tablets = tablets; grants = c.grants ++ grant ∷ []; last_term = last })) (record {
+      grant = grant;
+      among = In-right grant c.grants (grant ∷ []) (inl refl);
+      to_is = refl;
+      body_is = refl;
+    });
   }
     where
       told : (one : Grant) → In one c.grants ⊎ In one (grant ∷ []) →
@@ -339,12 +338,11 @@ module _ (sent : List Message) (c : Coordinator) (base : GoodCoordinator sent c)
     done = λ new messages p. quiet p.kept p.same (p.says new);
     begins = λ new messages master p crashed. quiet (begun-good p.kept master) p.same
         (each-both (OwnSaid (begins_attempt new master).0) messages (begins_attempt new master).1 (p.says (begins_attempt new master).0)
-        (each-to (OwnSaid (begins_attempt new master).0) (Gather (length new.attempts + 1) master) (λ id. tt) (up new.servers)));
+        (each-to (OwnSaid (begins_attempt new master).0) (λ id. tt) (up new.servers)));
     readies = λ id. quiet (changed good.apart (λ table key. refl) (λ m e. e)) refl
         (each-none (OwnSaid (record c { ready = put_id c.ready id true })));
     commits = λ id pair heard is. quiet (changed good.apart (λ table key. refl) (λ m e. e)) refl
-        (each-one (OwnSaid (record c { least = put_id c.least id (greater_pair (c.least id) pair) }))
-        (from_coordinator id (CommitOk pair.seg pair.epoch)) tt);
+        (each-one (OwnSaid (record c { least = put_id c.least id (greater_pair (c.least id) pair) })) tt);
     answers = λ from number rows attempt heard is undecided. quiet (answered from number rows attempt undecided) refl
         (each-none (OwnSaid (with_attempt c number (with_answer from rows attempt))));
     decides = λ master attempt plan id ids is undecided picked. decided-moved plan id ids (numbered-at c attempt is);
@@ -354,8 +352,7 @@ module _ (sent : List Message) (c : Coordinator) (base : GoodCoordinator sent c)
     creates = λ table owner is fresh room. granted (new-table is fresh);
     splits = λ table at tablet is held inside unmarked room. quiet (changed
         (apart-split table at c.tablets (above-first table at tablet held inside) good.apart) (owner_at-split table at c.tablets)
-        (λ m e. e)) refl
-        (each-one (OwnSaid (record c { tablets = split_at table at c.tablets })) (coordinator_tells (SplitOk table at)) tt);
+        (λ m e. e)) refl (each-one (OwnSaid (record c { tablets = split_at table at c.tablets })) tt);
   }
 
   pub moved : (work : NodeWork) → GrantsMoved c (coordinator_step c work)

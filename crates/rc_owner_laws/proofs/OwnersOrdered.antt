@@ -82,7 +82,7 @@ reached all start last (first ∷ grants) chain among grant at =
 
     by : (grant ≡ first) ⊎ In grant grants → (In grant grants → IsBefore all first.term grant.term) → IsBefore all start grant.term
     by (inl same) rec = subst (λ (one : Grant). IsBefore all start one.term) (sym same) step
-    by (inr rest) rec = before-through all start first.term grant.term step (rec rest)
+    by (inr rest) rec = before-through step (rec rest)
 
 -- of two grants of a chain one's term is before the other's
 ordered : (all : List Granted) (start last : ℕ) (grants : List Grant) → IsChain start grants last →
@@ -182,5 +182,5 @@ module _ (sent : List Message) (c : Coordinator) (good : GoodGrants c) (kept : G
       let a : IsAt one = at-point one (In-get (granted sent) p.0 one p.1) on in
       let b : IsAt other = at-point other (In-get (granted sent) q.0 other q.1) of in
       a.is ∙ (ap granted_of (same-owner (grants_at c.grants table key) (good.once table key) a.grant b.grant a.among b.among
-      (server-same a.grant.owner b.grant.owner (sym (ap (λ (g : Granted). g.owner) a.is) ∙
+      (server-same (sym (ap (λ (g : Granted). g.owner) a.is) ∙
       (same ∙ ap (λ (g : Granted). g.owner) b.is)))) ∙ sym b.is)

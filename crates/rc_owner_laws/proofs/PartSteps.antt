@@ -101,7 +101,7 @@ module _ (sent : List Message) (m : ServerId) where
           attempts = λ task at. refl;
           joined = λ state at rows. record { now = state; among = at; part_is = refl; rows = rows; size = refl };
         };
-        says = each-write_oks (λ message. part_said v_now message.to message.body) master.log.own (new_durable master.log)
+        says = each-write_oks (λ message. part_said v_now message.to message.body) (new_durable master.log)
             (λ place at client. record {
               place = place;
               among = among place at;
@@ -312,7 +312,7 @@ module _ (sent : List Message) (m : ServerId) where
     head = head;
     good = good;
     later = later-refl;
-    says = each-reminds (λ message. part_said (part_view master) message.to message.body) before master (record {
+    says = each-reminds (λ message. part_said (part_view master) message.to message.body) before {master = master} (record {
       place = λ member seg closed at shut among. tt;
       append = λ member seg len at. tt;
       close = λ member seg at old. tt;
@@ -382,7 +382,7 @@ module _ (sent : List Message) (m : ServerId) where
     marks = λ master is head good. quiet-log head good
         (same-segment (master.log.head - 1) (record (old_head_of master.log) { shut = true }) refl) plain-none;
     starts = λ master may head good. quiet-log head good (same-starts may) (plain-one tt);
-    places = λ master may head good. quiet-log head good (same-closes) plain-none;
+    places = λ master may head good. quiet-log head good same-closes plain-none;
     closes = λ master due head good. quiet-log head good
         (same-segment (master.log.head - 1) (with_closes_sent (old_head_of master.log)) refl)
         (plain-to_ids master.log.own
@@ -402,7 +402,7 @@ module _ (sent : List Message) (m : ServerId) where
 
 pub takes-keep-parts : TakesKeepParts
 takes-keep-parts sent m master from says head good hear =
-    kept-takes (Kept sent m) (parts-joined sent m) (parts-listed sent m) (parts-followed sent m) master from says
+    kept-takes (Kept sent m) (parts-joined sent m) (parts-listed sent m) (parts-followed sent m)
     (parts-taken sent m hear) head good
 
 pub ticks-keep-parts : TicksKeepParts

@@ -123,7 +123,7 @@ pub quiet : {sent : List Message} {m : ServerId} {old new : Master} {messages : 
 quiet {sent} {m} {old} {new} {messages} good head same all = record {
   head = head;
   good = subst (GoodParts sent m) (sym same) good;
-  later = subst (PartsLater (part_view old)) (sym same) (later-refl);
+  later = subst (PartsLater (part_view old)) (sym same) later-refl;
   says = plain-says (part_view new) messages all;
 }
 

@@ -148,7 +148,7 @@ module _ (world : World) (grants : OfWorld world) (terms : GoodTerms world.sent 
   parts-led : IsLed Was Its
   parts-led = record {
     same = λ sent m master was. was.its;
-    others = λ sent messages m master was others. its-later messages was.its was.its.good (later-refl)
+    others = λ sent messages m master was others. its-later messages was.its was.its.good later-refl
         (λ message here from. fine-others (part_view master) message.to message.body (others message here from));
     takes = λ sent m master from says good was at. moved was
         (takes-keep-parts sent m master from says (has-head good) was.its.good

@@ -222,7 +222,7 @@ module _ (sent : List Message) (m : ServerId) (v : PartView) (good : GoodParts s
           let long : length base ≡ length p.entries = length-map p.entries (under_term state.part.term) in
           let size : state.size ≡ length p.entries = p.size in
           let all = nothing-more (under state.part.term v.own.replay) (p.fresh unowned) (omega arith) in
-          (subst (Begins base) (sym all.1) (begins-refl), all.0, durable)
+          (subst (Begins base) (sym all.1) begins-refl, all.0, durable)
 
       by : (b : Bool) → owns_term v.own state.part.term ≡ b → (c : Bool) → nat_eq granted.term state.part.term ≡ c →
           (owns_term v.own state.part.term || nat_eq granted.term state.part.term) ≡ true → Owned

@@ -18,7 +18,7 @@ segs_of rows = map (λ row. row.seg) rows
 pub rows-ascend : (least : Pair) (replies : List (ServerId × List Row)) {plan : Plan} → pick least replies ≡ Ok plan →
     IsAscending (segs_of plan.rows)
 rows-ascend least replies {plan} e =
-    let is : IsPickable least replies plan = pickable-from_picked least replies plan e in
+    let is : IsPickable least replies plan = pickable-from_picked least replies e in
     subst IsAscending (sym (segs-taken least replies is.head (ascending is.head.row.digest) plan.rows is.taken))
     (IsAscending-ascending is.head.row.digest)
 

@@ -149,7 +149,7 @@ module _ (sent : List Message) (c : Coordinator) (grants : GoodGrants c) (good :
   pub keeps-work : (work : NodeWork) → ((message : Message) → work ≡ Deliver message →
       In (record { from = message.from; to = AtCoordinator; body = message.body }) sent) →
       Keeps (coordinator_step c work)
-  keeps-work work at = walked-step c Hears Same Keeps (any-stays c Hears Keeps (λ messages later. good)) moves work at
+  keeps-work work at = walked-step c Hears Same Keeps (any-stays Hears Keeps (λ messages later. good)) moves work at
 
 -- The beginning
 

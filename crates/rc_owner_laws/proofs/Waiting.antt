@@ -79,7 +79,7 @@ module _ (sent : List Message) (c : Coordinator) (base : GoodCoordinator sent c)
   After after = TabletsMoved after
 
   still : {message : Message} → Fine message → After (c, message ∷ [])
-  still {message} fine = record { good = good; says = each-one Fine message fine }
+  still {message} fine = record { good = good; says = each-one Fine fine }
 
   -- the attempts stay, and the grants
   changed : {servers : ServerList} {ready : ServerId → Bool} {tablets : List Tablet} {least : ServerId → Pair} →
@@ -94,7 +94,7 @@ module _ (sent : List Message) (c : Coordinator) (base : GoodCoordinator sent c)
       MarkedStay c.tablets tablets → After (record c { servers = servers; tablets = tablets }, spreads_list servers)
   came {servers} proper marked stay = record {
     good = changed proper marked stay;
-    says = each-to Fine (list_body servers) (λ id. refl) (up servers);
+    says = each-to Fine (λ id. refl) (up servers);
   }
 
   begun : {new : Coordinator} (master : ServerId) → GoodTablets new → GoodTablets (begins_attempt new master).0
@@ -280,7 +280,7 @@ module _ (sent : List Message) (c : Coordinator) (base : GoodCoordinator sent c)
     begins = λ new messages master p crashed. record {
       good = begun master p.good;
       says = each-both Fine messages (begins_attempt new master).1 p.says
-          (each-to Fine (Gather (length new.attempts + 1) master) (λ id. refl) (up new.servers));
+          (each-to Fine (λ id. refl) (up new.servers));
     };
     readies = λ id. record {
       good = changed good.proper good.marked (λ tablet at e. at);
@@ -288,7 +288,7 @@ module _ (sent : List Message) (c : Coordinator) (base : GoodCoordinator sent c)
     };
     commits = λ id pair heard is. record {
       good = changed good.proper good.marked (λ tablet at e. at);
-      says = each-one Fine (from_coordinator id (CommitOk pair.seg pair.epoch)) refl;
+      says = each-one Fine refl;
     };
     answers = λ from number rows attempt heard is undecided. record {
       good = answered-good from number rows attempt undecided;
@@ -296,20 +296,20 @@ module _ (sent : List Message) (c : Coordinator) (base : GoodCoordinator sent c)
     };
     decides = λ master attempt plan id ids is undecided picked. record {
       good = decided-good plan (id ∷ ids) (numbered-at c attempt is);
-      says = each-plans Fine (c.current master) attempt.master (decision_of c (c.current master) attempt.master plan (id ∷ ids))
+      says = each-plans Fine (decision_of c (c.current master) attempt.master plan (id ∷ ids))
           (λ to part parts are. refl) (id ∷ ids);
     };
     grants = λ id number term part is has. record {
       good = granted-good (senders c (attempt_at c number) (numbered-at c) is.found) is.up is.ungranted has;
-      says = each-one Fine (from_coordinator id (own_body (grant_of number id part))) refl;
+      says = each-one Fine refl;
     };
     creates = λ table owner is fresh room. record {
       good = created-good table owner is;
-      says = each-one Fine (from_coordinator owner (own_body (first_grant table owner (c.last_term + 1)))) refl;
+      says = each-one Fine refl;
     };
     splits = λ table at tablet is held inside unmarked room. record {
       good = split-good table at (record { tablet = tablet; found = is; within = held; inside = inside; unmarked = unmarked });
-      says = each-one Fine (coordinator_tells (SplitOk table at)) refl;
+      says = each-one Fine refl;
     };
   }
 

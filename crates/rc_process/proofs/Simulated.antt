@@ -120,7 +120,7 @@ reach setup all one reached may = record {
 
 pub goes-reached : (setup : Setup) (all : Processes) → Reached setup all → Goes setup all
 goes-reached setup all reached =
-    subst (Goes setup) reached.is (goes-all setup (new_processes setup) reached.happenings (goes-new) reached.may)
+    subst (Goes setup) reached.is (goes-all setup (new_processes setup) reached.happenings goes-new reached.may)
 
 abbrev pub AllRunning : Setup → (NodeName → Running) → Processes → Type 0
 AllRunning setup at all = (name : NodeName) → HasJournal name → IsRunning setup name (at name) (all.at name) all.done

@@ -13,7 +13,7 @@ use Rattle.rc_promises.proofs.News.{clients-are-heard}
 
 pub clients-asked : (setup : Setup) (events : List Event) {m : ServerId} →
     ClientsAsked (replay setup events).sent m ((replay setup events).masters m)
-clients-asked setup events {m} = kept-replay setup ClientsAsked (clients-kept) events m
+clients-asked setup events {m} = kept-replay setup ClientsAsked clients-kept events m
 
 -- it was the outside that asked
 pub client-asked : (setup : Setup) (events : List Event) (m : ServerId) (table key : ℕ) (value : Option (List ℕ)) →
@@ -45,13 +45,13 @@ above-kept = record {
 -- so the versions of clients' entries begin at 1
 pub clients-begin-at-one : (setup : Setup) (events : List Event) (m : ServerId) (place : LogPlace) →
     In place (places_of ((replay setup events).masters m).log) → place.client ≡ true → 0 < place.entry.version
-clients-begin-at-one setup events m place = kept-replay setup ClientsAbove (above-kept) events m place
+clients-begin-at-one setup events m place = kept-replay setup ClientsAbove above-kept events m place
 
 -- and those that are acknowledged
 pub versions-begin-at-one : (setup : Setup) (events : List Event) {m : ServerId} {ack : Ack} →
     HasAcknowledged (sent_after setup events) m ack → 0 < ack.version
 versions-begin-at-one setup events {m} {ack} p = subst (λ n. 0 < n) is.written.version_is
-    (kept-replay setup ClientsAbove (above-kept) events m is.written.place is.written.among is.written.client)
+    (kept-replay setup ClientsAbove above-kept events m is.written.place is.written.among is.written.client)
   where
     is : IsAcked (replay setup events).sent (replay setup events).masters (replay setup events).hosts (replay setup events).coordinator
         (all-world setup events) m ack

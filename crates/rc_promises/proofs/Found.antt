@@ -66,7 +66,7 @@ module _ (term table key : ℕ) where
   from-is : (found : Option Entry) (entries : List Entry) → (fold (or_greater term table key) found entries ≡ found)
       ⊎ IsOne entries (fold (or_greater term table key) found entries)
   from-is found [] = inl refl
-  from-is found (entry ∷ entries) = by (from-is (or_greater term table key found entry) entries) (or-is)
+  from-is found (entry ∷ entries) = by (from-is (or_greater term table key found entry) entries) or-is
     where
       more : IsOne entries (fold (or_greater term table key) (or_greater term table key found entry) entries) →
           IsOne (entry ∷ entries) (fold (or_greater term table key) (or_greater term table key found entry) entries)

@@ -32,11 +32,11 @@ none : {master : Master} → Hush (master, [])
 none = record { hushed = each-none is_hushed }
 
 one : {master : Master} {message : Message} → is_read_ok message.body ≡ false → Hush (master, message ∷ [])
-one {master} {message} isn't = record { hushed = each-one is_hushed message isn't }
+one {master} {message} isn't = record { hushed = each-one is_hushed isn't }
 
 several : {master : Master} (own : ServerId) (ids : List ServerId) (body : Body) → is_read_ok body ≡ false →
     Hush (master, to_ids own ids body)
-several own ids body isn't = record { hushed = each-to_ids is_hushed own ids body (λ id _. isn't) }
+several own ids body isn't = record { hushed = each-to_ids is_hushed ids (λ id _. isn't) }
 
 joined : Joined By
 joined = record {
@@ -75,13 +75,13 @@ followed = search (arith, none, one, several, each-frees, each-write_oks)
 
 pub hush-then : {first : Master × List Message} {rule : Master → Master × List Message} → Hush first →
     ((after : Master) → Hush (rule after)) → Hush (then_does first rule)
-hush-then {first} {rule} p q = kept-then By joined first.0 first rule p q
+hush-then {first} {rule} p q = kept-then By joined {master = first.0} p q
 
 pub hush-takes_first : (master : Master) (from : Addr) (body : Body) → is_read body ≡ false → Hush (master_takes_first master from body)
-hush-takes_first master from body isn't = kept-takes_first By joined listed master from body (taken isn't)
+hush-takes_first master from body isn't = kept-takes_first By joined listed from body (taken isn't)
 
 pub hush-deposed : (master : Master) (body : Body) → Hush (deposed_takes master body)
-hush-deposed master body = kept-deposed By joined (λ other fault. one refl) master body
+hush-deposed master body = kept-deposed By joined (λ other fault. one refl) body
 
 pub hush-goes : (master : Master) → Hush (goes_on master)
 hush-goes = kept-goes_on By joined followed

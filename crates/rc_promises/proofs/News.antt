@@ -34,8 +34,7 @@ pub record StandsSecond {X : Type 0} (xs ys before : List X) (x : X) (after : Li
   pub whole : ys ≡ between ++ x ∷ after
 
 pub stands-where : {X : Type 0} (xs : List X) {ys : List X} (before : List X) {x : X} {after : List X}
-    → xs ++ ys ≡ before ++ x ∷ after → StandsFirst xs before x
-    ⊎ StandsSecond xs ys before x after
+    → xs ++ ys ≡ before ++ x ∷ after → StandsFirst xs before x ⊎ StandsSecond xs ys before x after
 stands-where [] before e = inr (record { between = before; before_is = refl; whole = e })
 stands-where {X} (z ∷ xs) [] {x} {after} e = search arith
 stands-where {X} (z ∷ xs) {ys} (y ∷ before) {x} {after} e = by
@@ -180,8 +179,7 @@ module _ (world : World) (one : Event) (i : ℕ) (good : GoodWorld world) where
         body) says (moved.says message at).says));
     reads = λ m before message rest whole from table key version value says.
         subst (λ (view : Master). Reads view before table key version value) (sym ((good.hosts_are i).runs master e)
-        ∙ ap world.masters
-        (server-same (server_of (world.hosts i)) m (sym (moved.says message (among message before rest whole)).from ∙ from)))
+        ∙ ap world.masters (server-same (sym (moved.says message (among message before rest whole)).from ∙ from)))
         (reads before message rest whole table key version value says);
   }
     where
@@ -315,4 +313,4 @@ heard-more {setup} {past} (one ∷ events) p = subst (ClientsAreHeard setup) (ap
     (heard-more events (heard-one one p))
 
 pub clients-are-heard : (setup : Setup) (events : List Event) → ClientsAreHeard setup events
-clients-are-heard setup events = heard-more events (heard-none)
+clients-are-heard setup events = heard-more events heard-none

@@ -87,7 +87,7 @@ module _ (sent : List Message) (masters : ServerId → Master) (hosts : ℕ → 
 
     one-place : {m : ServerId} {ack other : Ack} → HasAcknowledged sent m ack → HasAcknowledged sent m other →
         IsOfKey ack.table ack.key other → other.term ≡ ack.term → other.version ≡ ack.version → other ≡ ack
-    one-place {ack} {other} p q keys same versions = by (three) (three)
+    one-place {ack} {other} p q keys same versions = by three three
       where
         back : IsOfKey other.table other.key ack
         back = record { table_is = sym keys.table_is; key_is = sym keys.key_is }

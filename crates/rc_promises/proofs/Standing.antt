@@ -18,7 +18,7 @@ module _ (sent : List Message) (masters : ServerId → Master) (hosts : ℕ → 
     pub one-a-version : (m : ServerId) (s o t k : ℕ) {one other : Entry} → slice_get (log_in (masters m).log s) o ≡ Some one →
         slice_get (log_in (masters m).log t) k ≡ Some other →
         one.term ≡ other.term → one.table ≡ other.table → one.key ≡ other.key → one.version ≡ other.version → one ≡ other
-    one-a-version m s o t k {one} {other} here there terms tables keys versions = by (three) (three)
+    one-a-version m s o t k {one} {other} here there terms tables keys versions = by three three
       where
         less : (t < s) ⊎ ((t ≡ s) × (k < o)) → one ≡ other
         less before =

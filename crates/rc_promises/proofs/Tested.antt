@@ -90,7 +90,7 @@ was-granted : {sent : List Message} {m : ServerId} {term table key : ℕ} → Wa
 was-granted {sent} {m} {term} {table} {key} p =
     any-from (is_to m term table key) (granted sent) p.grant (In-get (granted sent) p.granted.0 p.grant p.granted.1)
     (and_from (is_server m p.grant.owner) (nat_eq p.grant.term term && covers table key p.grant)
-    (is_server-from m p.grant.owner p.owner_is)
+    (is_server-from p.owner_is)
     (and_from (nat_eq p.grant.term term) (covers table key p.grant) (eq-eqb p.grant.term term p.term_is) p.holds))
 
 has-value : {sent : List Message} {m : ServerId} (ack : Ack) {value : Option (List ℕ)} →
@@ -189,7 +189,7 @@ module _ (setup : Setup) (events : List Event) (m : ServerId) (before : List Mes
             || is_no_more answer.table answer.key answer.version one.1) ≡ true
         each (x, ack) at = where-from (is_earlier sent answer.table answer.key ack.term p.term)
             (λ e. no-more (λ key. p.earlier x ack (acks-say sent x ack at) key
-            (is_before-finds (grants_of sent answer.table answer.key) ack.term p.term e)))
+            (is_before-finds (grants_of sent answer.table answer.key) e)))
 
     own-seen : sees_own before m p.term answer.table answer.key answer.version ≡ true
     own-seen = all-from (acks_of before) each
@@ -199,7 +199,7 @@ module _ (setup : Setup) (events : List Event) (m : ServerId) (before : List Mes
         each (x, ack) at = where-from (same_id m x && nat_eq ack.term p.term)
             (λ e. let both = and_parts (same_id m x) (nat_eq ack.term p.term) e in
             no-more (λ key. p.own ack
-            (subst (λ y. HasAcknowledged before y ack) (sym (same_id-true m x both.0)) (acks-say before x ack at)) key
+            (subst (λ y. HasAcknowledged before y ack) (sym (same_id-true both.0)) (acks-say before x ack at)) key
             (eqb-true ack.term p.term both.1)))
 
     by-then-seen : sees_by_then before p.term answer.table answer.key answer.version ≡ true
@@ -207,7 +207,7 @@ module _ (setup : Setup) (events : List Event) (m : ServerId) (before : List Mes
       where
         not-found : (ack : Ack) → is_earlier before answer.table answer.key p.term ack.term ≡ false →
             IsEarlier before answer.table answer.key p.term ack.term → ⊥
-        not-found ack none is = true_false (sym (is_before-found (grants_of before answer.table answer.key) p.term ack.term is) ∙ none)
+        not-found ack none is = true_false (sym (is_before-found (grants_of before answer.table answer.key) is) ∙ none)
 
         each : (one : ServerId × Ack) → In one (acks_of before) →
             (is_earlier before answer.table answer.key p.term one.1.term

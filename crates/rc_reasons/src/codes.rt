@@ -20,14 +20,10 @@ pub fn names_of_codes(alloc: Global, messages: &[Message]) -> Result<String, All
     for topic in &TOPICS {
         let is_seen = seen.get(usize::from(topic.code.number()));
         if is_seen.is_some_and(|is_seen| *is_seen) {
-            pen.put_all(
-                "refused %: %, %\n",
-                &[
-                    Piece::U8(topic.code.number()),
-                    Piece::Words(topic.code.name()),
-                    Piece::Words(topic.short),
-                ],
-            );
+            let number = Piece::U8(topic.code.number());
+            let name = Piece::Words(topic.code.name());
+            let short = Piece::Words(topic.short);
+            pen.put_all("refused %: %, %\n", &[number, name, short]);
         }
     }
     pen.end()

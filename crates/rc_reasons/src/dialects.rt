@@ -24,8 +24,6 @@ pub(crate) struct Words {
     pub kind: &'static str,
     /// The kinds of items.
     pub kinds: &'static [&'static str],
-    /// One of them, as an example.
-    pub first_kind: &'static str,
 }
 
 /// The words of a scenario.
@@ -39,7 +37,6 @@ pub(crate) static SCENARIO: Words = Words {
         "start", "stop", "suspect", "decide", "tick", "write", "read", "deliver", "settle",
         "create", "split",
     ],
-    first_kind: "start",
 };
 
 /// The words of a trace.
@@ -50,7 +47,6 @@ static TRACE: Words = Words {
     item: "message",
     kind: "m",
     kinds: &["place", "append", "ok", "plan", "own"],
-    first_kind: "place",
 };
 
 impl Dialect {

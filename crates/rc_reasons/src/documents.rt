@@ -3,7 +3,7 @@
 use crate::dialects::SCENARIO;
 use crate::explaining::{Explained, Section, explain};
 use crate::looking::Found;
-use crate::rules::{FIRST, LAST};
+use crate::rules::names;
 use crate::topics::{TOPICS, Topic};
 use rc_pen::{Pen, Piece, Spelling};
 use rc_types::Kind;
@@ -27,10 +27,8 @@ pub fn explain_json(alloc: Global, word: Option<&str>) -> Result<Explained, Allo
             put_found(&mut pen, &found);
         }
     }
-    Ok(Explained {
-        text: pen.end()?,
-        is_known: true,
-    })
+    let (text, is_known) = (pen.end()?, true);
+    Ok(Explained { text, is_known })
 }
 
 /// All that a word names; null for what it does not name.
@@ -43,32 +41,31 @@ fn put_found(pen: &mut Pen, found: &Found) {
         }
         None => pen.put("null"),
     }
-    pen.put(",\"message\":");
-    match found.kind {
-        Some(words) => {
-            pen.put_all("{\"name\":\"%\"", &[Piece::Words(words.kind.name())]);
-            put_text(pen, "way", words.way);
-            put_sections(pen, &words.sections());
-        }
-        None => pen.put("null"),
-    }
-    pen.put(",\"event\":");
-    match found.event {
-        Some(event) => {
-            pen.put_all("{\"name\":\"%\"", &[Piece::Words(event.name)]);
-            put_sections(pen, &event.sections());
-        }
-        None => pen.put("null"),
-    }
-    pen.put(",\"rule\":");
-    match found.rule {
-        Some(rule) => {
-            pen.put_all("{\"name\":\"%\"", &[Piece::Words(rule.name)]);
-            put_sections(pen, &rule.sections());
-        }
-        None => pen.put("null"),
-    }
+    let kind = found
+        .kind
+        .map(|words| (words.kind.name(), words.sections()));
+    put_named(pen, ",\"message\":", kind);
+    let event = found.event.map(|(name, event)| (name, event.sections()));
+    put_named(pen, ",\"event\":", event);
+    let rule = found.rule.map(|rule| (rule.name, rule.sections()));
+    put_named(pen, ",\"rule\":", rule);
     pen.put("}\n");
+}
+
+/// A member, and what a word names: its name and its texts.
+fn put_named<const N: usize>(
+    pen: &mut Pen,
+    member: &str,
+    found: Option<(&'static str, [Section; N])>,
+) {
+    pen.put(member);
+    match found {
+        Some((name, sections)) => {
+            pen.put_all("{\"name\":\"%\"", &[Piece::Words(name)]);
+            put_sections(pen, &sections);
+        }
+        None => pen.put("null"),
+    }
 }
 
 /// A member with a text, after its comma.
@@ -103,24 +100,18 @@ fn put_list(pen: &mut Pen) {
         put_short(pen, topic);
         pen.put("}");
     }
-    pen.put("],\"messages\":[");
-    for (at, kind) in Kind::ALL.iter().enumerate() {
-        put_name(pen, at, kind.name());
-    }
-    pen.put("],\"events\":[");
-    for (at, name) in SCENARIO.kinds.iter().enumerate() {
-        put_name(pen, at, *name);
-    }
-    pen.put("],\"rules\":[");
-    for (at, rule) in FIRST.iter().chain(&LAST).enumerate() {
-        put_name(pen, at, rule.name);
-    }
+    put_names(pen, "],\"messages\":[", &Kind::ALL.map(|kind| kind.name()));
+    put_names(pen, "],\"events\":[", SCENARIO.kinds);
+    put_names(pen, "],\"rules\":[", &names());
     pen.put("]}\n");
 }
 
-/// The name at this place of a list.
-fn put_name(pen: &mut Pen, at: usize, name: &'static str) {
-    pen.put_either(at > 0, ",\"", "\"");
-    pen.put(name);
-    pen.put("\"");
+/// The names of a list, after what begins it.
+fn put_names(pen: &mut Pen, begin: &str, names: &[&'static str]) {
+    pen.put(begin);
+    for (at, name) in names.iter().enumerate() {
+        pen.put_either(at > 0, ",\"", "\"");
+        pen.put(name);
+        pen.put("\"");
+    }
 }

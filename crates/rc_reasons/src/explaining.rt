@@ -3,7 +3,7 @@
 use crate::dialects::SCENARIO;
 use crate::looking::Found;
 use crate::names::nearest;
-use crate::rules::{FIRST, LAST};
+use crate::rules::names;
 use crate::topics::{TOPICS, Topic};
 use rc_pen::{Pen, Piece, Spelling};
 use rc_types::Kind;
@@ -44,35 +44,29 @@ pub fn explain(alloc: Global, word: Option<&str>) -> Result<Explained, AllocErro
             }
         }
     }
-    Ok(Explained {
-        text: pen.end()?,
-        is_known,
-    })
+    let text = pen.end()?;
+    Ok(Explained { text, is_known })
 }
 
 /// What there is to say of all that a word names, with an empty line between.
 fn tell_found(pen: &mut Pen, found: &Found) {
     if let Some(topic) = found.code {
-        let (number, name) = (
-            Piece::U8(topic.code.number()),
-            Piece::Words(topic.code.name()),
-        );
+        let number = Piece::U8(topic.code.number());
+        let name = Piece::Words(topic.code.name());
         pen.put_all("F% %: %\n", &[number, name, Piece::Words(topic.short)]);
         tell_sections(pen, &topic.sections());
     }
     let mut told = found.code.is_some();
     if let Some(words) = found.kind {
         pen.put_either(told, "\n", "");
-        pen.put_all(
-            "%, a message %\n",
-            &[Piece::Words(words.kind.name()), Piece::Words(words.way)],
-        );
+        let name = Piece::Words(words.kind.name());
+        pen.put_all("%, a message %\n", &[name, Piece::Words(words.way)]);
         tell_sections(pen, &words.sections());
         told = true;
     }
-    if let Some(event) = found.event {
+    if let Some((name, event)) = found.event {
         pen.put_either(told, "\n", "");
-        pen.put_all("%, an event of a scenario\n", &[Piece::Words(event.name)]);
+        pen.put_all("%, an event of a scenario\n", &[Piece::Words(name)]);
         tell_sections(pen, &event.sections());
         told = true;
     }
@@ -90,10 +84,10 @@ fn tell_found(pen: &mut Pen, found: &Found) {
     }
 }
 
-/// Those of these texts that there are, each below its title.
+/// Those of these texts that there are, each below its title. What has none stands in the heading.
 fn tell_sections(pen: &mut Pen, sections: &[Section]) {
     for (title, _, text) in sections {
-        if !text.is_empty() {
+        if !title.is_empty() && !text.is_empty() {
             pen.put_all("\n%\n", &[Piece::Words(*title)]);
             let mut column = 0usize;
             for word in text.split_whitespace() {
@@ -118,16 +112,14 @@ fn tell_unknown(alloc: Global, pen: &mut Pen, word: &str) -> Result<(), AllocErr
 
 /// The nearest of all names, if one is near.
 fn nearest_of_all(alloc: Global, word: &str) -> Result<Option<&'static str>, AllocError> {
-    let mut names = Vec::new(alloc);
+    let mut all = Vec::new(alloc);
     for topic in &TOPICS {
-        names.push(topic.code.name())?;
+        all.push(topic.code.name())?;
     }
-    names.extend_from_slice(&Kind::ALL.map(|kind| kind.name()))?;
-    names.extend_from_slice(SCENARIO.kinds)?;
-    for rule in FIRST.iter().chain(&LAST) {
-        names.push(rule.name)?;
-    }
-    nearest(alloc, word, names.as_slice())
+    all.extend_from_slice(&Kind::ALL.map(|kind| kind.name()))?;
+    all.extend_from_slice(SCENARIO.kinds)?;
+    all.extend_from_slice(&names())?;
+    nearest(alloc, word, all.as_slice())
 }
 
 /// A line for each code, and the names of the rest.
@@ -135,24 +127,21 @@ fn tell_list(pen: &mut Pen) {
     for topic in &TOPICS {
         tell_line(pen, topic);
     }
-    pen.put("\nMessages\n");
-    let mut column = 0usize;
-    for kind in &Kind::ALL {
-        column = tell_word(pen, kind.name(), column);
-    }
-    pen.put("\n\nEvents\n");
-    column = 0;
-    for name in SCENARIO.kinds {
-        column = tell_word(pen, *name, column);
-    }
-    pen.put("\n\nRules that can be broken\n");
-    column = 0;
-    for rule in FIRST.iter().chain(&LAST) {
-        column = tell_word(pen, rule.name, column);
-    }
+    tell_names(pen, "\nMessages\n", &Kind::ALL.map(|kind| kind.name()));
+    tell_names(pen, "\n\nEvents\n", SCENARIO.kinds);
+    tell_names(pen, "\n\nRules that can be broken\n", &names());
     pen.put(
         "\n\n`ramseg explain WORD` says more of one: of a code, as F18, 18 or BadEvent, or of a name above.\n",
     );
+}
+
+/// These names, below a title.
+fn tell_names(pen: &mut Pen, title: &str, names: &[&'static str]) {
+    pen.put(title);
+    let mut column = 0usize;
+    for name in names {
+        column = tell_word(pen, *name, column);
+    }
 }
 
 /// The line of a code.

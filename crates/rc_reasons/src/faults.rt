@@ -66,7 +66,9 @@ fn tell_whole_fault(input: Input<'_>, pen: &mut Pen) {
         return;
     }
     let found = Members::of(input.text, whole);
-    let is_first = is_first(input, &found);
+    let format = found.named(input.text, "format");
+    let is_first = matches!(input.dialect, Dialect::Scenario)
+        && format.is_some_and(|member| member.value.text(input.text) == "1");
     let has_second = |name: &str| found.named(input.text, name).is_some();
     if is_first && (has_second("factors") || has_second("free")) {
         tell_place(pen, input.text, whole.from);
@@ -84,15 +86,9 @@ fn tell_whole_fault(input: Input<'_>, pen: &mut Pen) {
     tell_members_fault(&object, &found, pen);
 }
 
-/// Whether this is a scenario of format 1.
-fn is_first(input: Input<'_>, found: &Members) -> bool {
-    let format = found.named(input.text, "format");
-    matches!(input.dialect, Dialect::Scenario)
-        && format.is_some_and(|member| member.value.text(input.text) == "1")
-}
-
-/// What the object is called.
-fn tell_name(pen: &mut Pen, object: &Object<'_>) {
+/// Tells where something stands, and what the object is called to which it belongs.
+fn tell_name(pen: &mut Pen, object: &Object<'_>, at: usize) {
+    tell_place(pen, object.input.text, at);
     match object.number {
         None => pen.say(object.input.dialect.words().whole),
         Some(number) => {
@@ -130,8 +126,7 @@ fn tell_members_fault(object: &Object<'_>, found: &Members, pen: &mut Pen) {
             return;
         }
     }
-    tell_place(pen, text, object.whole.from);
-    tell_name(pen, object);
+    tell_name(pen, object, object.whole.from);
     pen.say(" is wrong");
 }
 
@@ -142,7 +137,7 @@ fn tell_if_wrong(object: &Object<'_>, member: &Member, want: Want, pen: &mut Pen
     };
     tell_wrong(pen, object, member, &wrong);
     if let Want::Name = wrong.want {
-        let spelt = wrong.shown.unquoted(object.input.text);
+        let spelt = wrong.shown.unquoted(object.input.text).unwrap_or("");
         let names = Kind::ALL.map(|kind| kind.name());
         ask_for_nearest(object.input.alloc, pen, spelt, &names);
     }
@@ -154,8 +149,7 @@ fn tell_absent(object: &Object<'_>, wanted: &'static str, want: Want, pen: &mut 
     if may_be_absent(wanted) {
         return false;
     }
-    tell_place(pen, object.input.text, object.whole.from);
-    tell_name(pen, object);
+    tell_name(pen, object, object.whole.from);
     pen.say_all(" lacks the member \"%\": ", &[Told::Words(wanted)]);
     tell_want(pen, want);
     true
@@ -164,8 +158,7 @@ fn tell_absent(object: &Object<'_>, wanted: &'static str, want: Want, pen: &mut 
 /// Tells of a member that does not belong here.
 fn tell_strange(object: &Object<'_>, member: &Member, pen: &mut Pen) {
     let text = object.input.text;
-    tell_place(pen, text, member.name.from.saturating_sub(1));
-    tell_name(pen, object);
+    tell_name(pen, object, member.name.from.saturating_sub(1));
     pen.say(" has no member ");
     show_quoted(pen, text, member.name);
     let spelt = member.name.text(text);
@@ -178,8 +171,7 @@ fn tell_strange(object: &Object<'_>, member: &Member, pen: &mut Pen) {
 fn tell_wrong(pen: &mut Pen, object: &Object<'_>, member: &Member, wrong: &Wrong) {
     let text = object.input.text;
     let is_whole = wrong.shown.from == member.value.from;
-    tell_place(pen, text, wrong.at);
-    tell_name(pen, object);
+    tell_name(pen, object, wrong.at);
     pen.either(is_whole, ": ", ": in ");
     show_quoted(pen, text, member.name);
     pen.either(is_whole, " is ", " stands ");
@@ -211,10 +203,9 @@ fn tell_item_fault(input: Input<'_>, number: usize, pen: &mut Pen) {
             tell_item(pen, input, number);
             pen.say(" is ");
             show(pen, input.text, whole);
-            pen.say_all(
-                "; expected an object, as {\"%\":\"%\", ..}",
-                &[Told::Words(words.kind), Told::Words(words.first_kind)],
-            );
+            let kind = Told::Words(words.kind);
+            let first = Told::Words(words.kinds.first().copied().unwrap_or(""));
+            pen.say_all("; expected an object, as {\"%\":\"%\", ..}", &[kind, first]);
         }
         None => {
             tell_item(pen, input, number);
@@ -237,7 +228,7 @@ fn tell_object_fault(input: Input<'_>, number: usize, whole: Piece, pen: &mut Pe
         tell_names(pen, ":", words.kinds);
         return;
     };
-    let kind = member.value.unquoted(input.text);
+    let kind = member.value.unquoted(input.text).unwrap_or("");
     let wanted = input.dialect.members_of(kind);
     if wanted.is_empty() {
         tell_strange_kind(input, number, &member, pen);
@@ -262,7 +253,7 @@ fn tell_strange_kind(input: Input<'_>, number: usize, member: &Member, pen: &mut
     pen.say_all(": \"%\" is ", &[Told::Words(words.kind)]);
     show(pen, input.text, member.value);
     pen.say_all(", which is no kind of %", &[Told::Words(words.item)]);
-    let kind = member.value.unquoted(input.text);
+    let kind = member.value.unquoted(input.text).unwrap_or("");
     if !ask_for_nearest(input.alloc, pen, kind, words.kinds) {
         tell_names(pen, "; these are:", words.kinds);
     }

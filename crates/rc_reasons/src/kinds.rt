@@ -19,9 +19,10 @@ pub(crate) struct KindText {
 }
 
 impl KindText {
-    /// Its texts.
-    pub(crate) fn sections(&self) -> [Section; 3] {
+    /// Its texts, of which the first one has no title: it stands in the heading.
+    pub(crate) fn sections(&self) -> [Section; 4] {
         [
+            ("", "way", self.way),
             ("What it has", "has", self.has),
             ("What it says", "says", self.says),
             ("What comes of it", "then", self.then),

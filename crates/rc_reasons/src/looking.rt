@@ -1,5 +1,6 @@
 //! What a word may name.
 
+use crate::dialects::SCENARIO;
 use crate::events::{EVENTS, Happening};
 use crate::kinds::{KINDS, KindText};
 use crate::rules::{FIRST, LAST, Rule};
@@ -12,8 +13,8 @@ pub(crate) struct Found {
     pub code: Option<&'static Topic>,
     /// A kind of message.
     pub kind: Option<&'static KindText>,
-    /// An event of a scenario.
-    pub event: Option<&'static Happening>,
+    /// An event of a scenario, with its name.
+    pub event: Option<(&'static str, &'static Happening)>,
     /// A rule that can be broken.
     pub rule: Option<&'static Rule>,
 }
@@ -23,13 +24,14 @@ impl Found {
     pub(crate) fn of(word: &str) -> Found {
         let number = number_in(word);
         let is_named = |name: &str| name.eq_ignore_ascii_case(word);
+        let mut events = SCENARIO.kinds.iter().copied().zip(&EVENTS);
         Found {
             code: TOPICS.iter().find(|topic| match number {
                 Some(number) => u64::from(topic.code.number()) == number,
                 None => is_named(topic.code.name()),
             }),
             kind: KINDS.iter().find(|words| is_named(words.kind.name())),
-            event: EVENTS.iter().find(|event| is_named(event.name)),
+            event: events.find(|(name, _)| is_named(name)),
             rule: FIRST.iter().chain(&LAST).find(|rule| is_named(rule.name)),
         }
     }

@@ -1,7 +1,5 @@
 //! Pieces of a JSON text, found by its brackets, commas and quotes alone.
 
-use crate::values::unquoted;
-
 /// A piece of a text: where it begins, and where it ends.
 #[derive(Clone, Copy)]
 pub struct Piece {
@@ -12,22 +10,19 @@ pub struct Piece {
 }
 
 impl Piece {
+    /// From this byte on, up to before that one.
+    pub(crate) fn between(from: usize, to: usize) -> Piece {
+        Piece { from, to }
+    }
+
     /// All of this text.
     pub fn all(text: &[u8]) -> Piece {
-        Piece {
-            from: 0,
-            to: text.len(),
-        }
-        .trimmed(text)
+        Piece::between(0, text.len()).trimmed(text)
     }
 
     /// Its bytes; none, where the text has no such piece.
     pub fn of(self, text: &[u8]) -> &[u8] {
-        if self.from <= self.to && self.to <= text.len() {
-            &text[self.from..self.to]
-        } else {
-            &[]
-        }
+        text.get(self.from..self.to).unwrap_or(&[])
     }
 
     /// Its characters; none, where it isn't UTF-8.
@@ -35,9 +30,9 @@ impl Piece {
         std::str::from_utf8(self.of(text)).unwrap_or("")
     }
 
-    /// What stands between the quotes of the text that it is, or nothing.
-    pub(crate) fn unquoted(self, text: &[u8]) -> &str {
-        unquoted(self.text(text)).unwrap_or("")
+    /// What stands between the quotes of the text that it is, if it is one.
+    pub(crate) fn unquoted(self, text: &[u8]) -> Option<&str> {
+        self.text(text).strip_prefix('"')?.strip_suffix('"')
     }
 
     /// Its first byte, or 0.
@@ -58,10 +53,7 @@ impl Piece {
 
     /// The piece without its first byte and its last one.
     pub fn inner(self) -> Piece {
-        Piece {
-            from: self.from.saturating_add(1),
-            to: self.to.saturating_sub(1),
-        }
+        Piece::between(self.from.saturating_add(1), self.to.saturating_sub(1))
     }
 }
 
@@ -154,11 +146,7 @@ impl ItemWalk {
 
     /// An item ends here, if there is anything in it.
     fn end_item(&mut self, text: &[u8]) -> Option<Piece> {
-        let item = Piece {
-            from: self.from,
-            to: self.at,
-        }
-        .trimmed(text);
+        let item = Piece::between(self.from, self.at).trimmed(text);
         self.from = self.at.saturating_add(1);
         (item.from < item.to).then_some(item)
     }
@@ -193,7 +181,7 @@ pub struct Members {
 impl Members {
     /// Those of this object.
     pub fn of(text: &[u8], whole: Piece) -> Members {
-        let nothing = Piece { from: 0, to: 0 };
+        let nothing = Piece::between(0, 0);
         let none = Member {
             name: nothing,
             value: nothing,
@@ -236,9 +224,8 @@ impl Members {
     /// The last member of this name: it is the one that counts.
     pub fn named(&self, text: &[u8], name: &str) -> Option<Member> {
         let mut members = self.as_slice().iter().rev();
-        members
-            .find(|member| member.name.of(text) == name.as_bytes())
-            .copied()
+        let found = members.find(|member| member.name.of(text) == name.as_bytes());
+        found.copied()
     }
 }
 
@@ -253,18 +240,9 @@ pub(crate) fn member_in(text: &[u8], item: Piece) -> Member {
         walk.past(*byte);
         colon = colon.saturating_add(1);
     }
-    let name = Piece {
-        from: item.from,
-        to: colon,
-    };
-    let value = Piece {
-        from: colon.saturating_add(1),
-        to: item.to,
-    };
-    Member {
-        name: name.trimmed(text).inner(),
-        value: value.trimmed(text),
-    }
+    let name = Piece::between(item.from, colon).trimmed(text).inner();
+    let value = Piece::between(colon.saturating_add(1), item.to).trimmed(text);
+    Member { name, value }
 }
 
 /// The line and the column of a byte, both from 1; a column is a character.

@@ -26,7 +26,17 @@ impl Rule {
     }
 }
 
-/// The rules that can be broken, by names in order: the first half of them.
+/// The names of all rules that can be broken, in order.
+pub(crate) fn names() -> [&'static str; 44] {
+    let mut names = [""; 44];
+    for (name, rule) in names.iter_mut().zip(FIRST.iter().chain(&LAST)) {
+        *name = rule.name;
+    }
+    names
+}
+
+/// The rules that can be broken, by names in order: the first half of them. One table of all is more than the prover
+/// takes at a time.
 pub(crate) static FIRST: [Rule; 22] = [
     Rule {
         name: "acknowledges_again",
@@ -174,7 +184,7 @@ pub(crate) static FIRST: [Rule; 22] = [
     },
 ];
 
-/// And those behind them. One table of all is more than the prover takes at a time.
+/// And those behind them.
 pub(crate) static LAST: [Rule; 22] = [
     Rule {
         name: "frees_undurable",

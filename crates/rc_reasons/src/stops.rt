@@ -2,7 +2,7 @@
 
 use crate::dialects::Dialect;
 use crate::faults::item_of;
-use crate::histories::History;
+use crate::histories::Host;
 use crate::pieces::Members;
 use crate::showing::tell_place;
 use rc_pen::{Pen, Piece as Told, Spelling};
@@ -35,7 +35,8 @@ fn tell_event(text: &[u8], number: usize, pen: &mut Pen) {
     let kind = Members::of(text, whole).named(text, "e");
     tell_place(pen, text, whole.from);
     pen.say_all("event % (", &[Told::Size(number)]);
-    pen.say(kind.map_or("", |member| member.value.unquoted(text)));
+    let name = kind.and_then(|member| member.value.unquoted(text));
+    pen.say(name.unwrap_or(""));
     pen.say("): ");
 }
 
@@ -44,9 +45,9 @@ fn tell_stop(alloc: Global, text: &[u8], number: usize, sent: usize, pen: &mut P
     match read_scenario(alloc, text) {
         Ok(scenario) => {
             let events = scenario.events.as_slice();
-            let history = History::of(&events[..number.min(events.len())]);
+            let before = &events[..number.min(events.len())];
             match events.get(number) {
-                Some(ScenarioEvent::Core(event)) => tell_cause(event, &history, sent, pen),
+                Some(ScenarioEvent::Core(event)) => tell_cause(event, before, sent, pen),
                 _ => tell_limit(pen),
             }
         }
@@ -55,11 +56,11 @@ fn tell_stop(alloc: Global, text: &[u8], number: usize, sent: usize, pen: &mut P
     }
 }
 
-/// Says why the event was not possible.
-fn tell_cause(event: &Event, history: &History, sent: usize, pen: &mut Pen) {
+/// Says why the event was not possible that came after these.
+fn tell_cause(event: &Event, before: &[ScenarioEvent], sent: usize, pen: &mut Pen) {
     match event {
-        Event::Start { host, .. } => tell_running(*host, history, pen),
-        Event::Stop(id) | Event::Tick(Addr::Server(id)) => tell_absent(*id, history, pen),
+        Event::Start { host, .. } => tell_running(Host::of(*host, before), pen),
+        Event::Stop(id) | Event::Tick(Addr::Server(id)) => tell_absent(*id, before, pen),
         Event::Deliver(number) if *number >= sent => tell_unsent(*number, sent, pen),
         _ => tell_limit(pen),
     }
@@ -87,29 +88,24 @@ fn tell_limit(pen: &mut Pen) {
 }
 
 /// A host that is to start runs.
-fn tell_running(index: u8, history: &History, pen: &mut Pen) {
-    match history.host(index) {
-        Some(host) if host.is_running => pen.say_all(
-            "host % runs already, as %, since event %; it can start again once that is stopped",
-            &[
-                Told::U8(index),
-                Told::Id(host.newest(index)),
-                Told::Size(host.since),
-            ],
-        ),
-        _ => tell_limit(pen),
+fn tell_running(host: Host, pen: &mut Pen) {
+    if !host.is_running {
+        return tell_limit(pen);
     }
+    let (id, since) = (Told::Id(host.newest), Told::Size(host.since));
+    pen.say_all(
+        "host % runs already, as %, since event %; it can start again once that is stopped",
+        &[Told::U8(host.newest.index), id, since],
+    );
 }
 
 /// A server that is to stop or to tick does not run: what runs on its host, or ran last.
-fn tell_absent(id: ServerId, history: &History, pen: &mut Pen) {
-    let Some(host) = history.host(id.index) else {
-        return tell_limit(pen);
-    };
-    if host.is_running && host.generation == id.generation {
+fn tell_absent(id: ServerId, before: &[ScenarioEvent], pen: &mut Pen) {
+    let host = Host::of(id.index, before);
+    if host.is_running && host.newest == id {
         return tell_limit(pen);
     }
-    let form = if host.generation == 0 {
+    let form = if host.newest.generation == 0 {
         " has never been started"
     } else if host.is_running {
         " runs as %, since event %"
@@ -120,8 +116,5 @@ fn tell_absent(id: ServerId, history: &History, pen: &mut Pen) {
         "% does not run: host %",
         &[Told::Id(id), Told::U8(id.index)],
     );
-    pen.say_all(
-        form,
-        &[Told::Id(host.newest(id.index)), Told::Size(host.since)],
-    );
+    pen.say_all(form, &[Told::Id(host.newest), Told::Size(host.since)]);
 }

@@ -28,10 +28,8 @@ pub(crate) fn tell_text_fault(alloc: Global, dialect: Dialect, text: &[u8], pen:
             &[Told::Words(words.whole), Told::Size(MOST_BYTES)],
         );
     } else if Piece::all(text).of(text).is_empty() {
-        pen.say_all(
-            "the input is empty; expected an object, as %",
-            &[Told::Words(words.example)],
-        );
+        pen.say("the input is empty; expected an object, as ");
+        pen.say(words.example);
     } else {
         match std::str::from_utf8(text) {
             Ok(characters) => tell_json_fault(alloc, text, characters, pen),
@@ -103,23 +101,19 @@ fn first_too_deep(text: &[u8]) -> Option<usize> {
 
 /// The byte at this line and this column, both from 1, where a column is a byte.
 fn offset_of(text: &[u8], line: usize, column: usize) -> usize {
-    let mut left = line.saturating_sub(1);
-    let mut at = 0usize;
-    for byte in text {
-        if left == 0 {
-            break;
-        }
-        if *byte == b'\n' {
-            left = left.saturating_sub(1);
-        }
-        at = at.saturating_add(1);
-    }
-    at.saturating_add(column).saturating_sub(1)
+    let mut ends = text.iter().enumerate().filter(|(_, byte)| **byte == b'\n');
+    let begin = match line.checked_sub(2) {
+        None => 0,
+        Some(before) => ends
+            .nth(before)
+            .map_or(text.len(), |(at, _)| at.saturating_add(1)),
+    };
+    begin.saturating_add(column).saturating_sub(1)
 }
 
 /// What may be wrong at this byte of a text that is no JSON.
 fn guess_at(text: &[u8], at: usize) -> &'static str {
-    let before = Piece { from: 0, to: at }.trimmed(text);
+    let before = Piece::between(0, at).trimmed(text);
     let last = before.of(text).last().copied().unwrap_or(0);
     let byte = text.get(at).copied().unwrap_or(0);
     match byte {

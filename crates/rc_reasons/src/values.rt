@@ -92,14 +92,6 @@ impl Want {
         }
     }
 
-    /// How many items it may have.
-    fn most_items(self) -> usize {
-        match self {
-            Want::Factors => MAX_HOSTS as usize,
-            _ => usize::MAX,
-        }
-    }
-
     /// What the parts of a list of fixed length have to be; none, where it is to be no such list.
     fn parts(self) -> &'static [Want] {
         match self {
@@ -164,16 +156,13 @@ pub struct Wrong {
 }
 
 /// What is wrong with a value, if it isn't what it has to be.
-pub(crate) fn wrong_in(text: &[u8], value: Piece, want: Want) -> Option<Wrong> {
-    let wrong = Wrong {
-        at: value.from,
-        shown: value,
-        want,
-    };
+pub(crate) fn wrong_in(text: &[u8], shown: Piece, want: Want) -> Option<Wrong> {
+    let at = shown.from;
+    let wrong = Wrong { at, shown, want };
     match (want, want.item()) {
-        (Want::List, _) => (value.first(text) != b'[').then_some(wrong),
-        (_, None) => wrong_item(text, value, want),
-        (_, Some(item)) if value.first(text) == b'[' => wrong_items(text, wrong, item),
+        (Want::List, _) => (shown.first(text) != b'[').then_some(wrong),
+        (_, None) => wrong_item(text, shown, want),
+        (_, Some(item)) if shown.first(text) == b'[' => wrong_items(text, wrong, item),
         _ => Some(wrong),
     }
 }
@@ -191,20 +180,17 @@ fn wrong_items(text: &[u8], whole: Wrong, item: Want) -> Option<Wrong> {
             count = count.saturating_add(1);
         }
     }
-    (count > whole.want.most_items()).then_some(whole)
+    let has_most = matches!(whole.want, Want::Factors);
+    (has_most && count > MAX_HOSTS as usize).then_some(whole)
 }
 
 /// What is wrong with a value that is to be no list of any length.
-fn wrong_item(text: &[u8], value: Piece, want: Want) -> Option<Wrong> {
+fn wrong_item(text: &[u8], shown: Piece, want: Want) -> Option<Wrong> {
     let at = match want.parts() {
-        [] => wrong_part(text, value, want)?,
-        parts => wrong_list(text, value, parts)?,
+        [] => wrong_part(text, shown, want)?,
+        parts => wrong_list(text, shown, parts)?,
     };
-    Some(Wrong {
-        at,
-        shown: value,
-        want,
-    })
+    Some(Wrong { at, shown, want })
 }
 
 /// Where a list of these parts is wrong, if it is.
@@ -229,8 +215,13 @@ fn wrong_part(text: &[u8], value: Piece, want: Want) -> Option<usize> {
     match want {
         Want::Addr if value.text(text) == "\"c\"" => None,
         Want::Id | Want::Addr => wrong_id(text, value),
-        _ => (!is_simple(value.text(text), want)).then_some(value.from),
+        _ => wrong_simple(text, value, want),
     }
+}
+
+/// Where a value without parts is wrong, if it is.
+fn wrong_simple(text: &[u8], value: Piece, want: Want) -> Option<usize> {
+    (!is_simple(text, value, want)).then_some(value.from)
 }
 
 /// Where an id is wrong, if it is.
@@ -242,22 +233,20 @@ fn wrong_id(text: &[u8], value: Piece) -> Option<usize> {
     let (Some(index), Some(generation)) = (first, second) else {
         return Some(value.from);
     };
-    if !is_simple(index.text(text), Want::Host) {
-        return Some(index.from);
-    }
-    let is_right = is_whole(generation.text(text), 1, u64::from(u32::MAX));
-    (!is_right).then_some(generation.from)
+    let wrong = wrong_simple(text, index, Want::Host);
+    wrong.or(wrong_simple(text, generation, Want::Whole(1, u32::MAX as u64)))
 }
 
 /// Whether a value without parts is what it has to be.
-fn is_simple(value: &str, want: Want) -> bool {
+fn is_simple(text: &[u8], piece: Piece, want: Want) -> bool {
+    let (value, unquoted) = (piece.text(text), piece.unquoted(text));
     match want {
         Want::Whole(least, most) => is_whole(value, least, most),
         Want::Host => is_whole(value, 0, 63),
         Want::Flag => value == "true" || value == "false",
         Want::Value => value == "null" || value.starts_with('"'),
-        Want::Hex => value == "null" || is_hex(value),
-        Want::Name => Kind::named(unquoted(value).unwrap_or("")).is_some(),
+        Want::Hex => value == "null" || unquoted.is_some_and(|digits| is_hex(digits)),
+        Want::Name => unquoted.is_some_and(|name| Kind::named(name).is_some()),
         _ => true,
     }
 }
@@ -269,17 +258,8 @@ fn is_whole(value: &str, least: u64, most: u64) -> bool {
         && value.bytes().all(|byte| byte.is_ascii_digit())
 }
 
-/// Whether the value is a text of pairs of small hexadecimal digits.
-fn is_hex(value: &str) -> bool {
-    unquoted(value).is_some_and(|digits| {
-        digits.len() % 2 == 0
-            && digits
-                .bytes()
-                .all(|byte| matches!(byte, b'0'..=b'9' | b'a'..=b'f'))
-    })
-}
-
-/// What stands between the quotes of a text.
-pub(crate) fn unquoted(value: &str) -> Option<&str> {
-    value.strip_prefix('"')?.strip_suffix('"')
+/// Whether these are pairs of small hexadecimal digits.
+fn is_hex(digits: &str) -> bool {
+    let mut bytes = digits.bytes();
+    digits.len() % 2 == 0 && bytes.all(|byte| matches!(byte, b'0'..=b'9' | b'a'..=b'f'))
 }

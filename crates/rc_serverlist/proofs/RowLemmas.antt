@@ -40,8 +40,7 @@ marked_up-lookup (row ∷ rows) id = by (same_id id row.0) (marked_up-lookup row
 pub crashed-lookup : (rows : Rows) (id : ServerId) (found : Option Bool) → found ≡ lookup (same_id id) rows →
     (is_some found && (if unwrap_or found false then false else true))
     ≡ (knows rows id && (if marked_up rows id then false else true))
-crashed-lookup rows id found is =
-    ap (λ f. is_some f && (if unwrap_or f false then false else true)) is
+crashed-lookup rows id found is = ap (λ f. is_some f && (if unwrap_or f false then false else true)) is
     ∙ sym (ap (λ k. k && (if marked_up rows id then false else true)) (knows-lookup rows id)
     ∙ ap (λ m. is_some (lookup (same_id id) rows) && (if m then false else true)) (marked_up-lookup rows id))
 
@@ -57,7 +56,7 @@ id_crashed-elsewhere : (id : ServerId) (row : ServerId × Bool) (rows : Rows) �
     IsDistinct same_id (keys_of (row ∷ rows)) → id_crashed id rows ≡ rows
 id_crashed-elsewhere id row rows e d =
     let P : ServerId → Type 0 = λ k. AllByRecursion (λ other. same_id k other ≡ false) (keys_of rows) in
-    id_crashed-absent id rows (subst P (sym (same_id-true id row.0 e)) (IsDistinct-head same_id row.0 (keys_of rows) d))
+    id_crashed-absent id rows (subst P (sym (same_id-true e)) (IsDistinct-head same_id row.0 (keys_of rows) d))
 
 -- of rows of different ids, one at the most is marked
 pub id_crashed-distinct : (id : ServerId) (rows : Rows) → IsDistinct same_id (keys_of rows) →
@@ -123,8 +122,7 @@ insert_entry-unknown (row ∷ rows) id up h = by (same_id id row.0) h (insert_en
 
 -- a row for an id unless it has one
 pub added-unknown : (rows new : Rows) (id : ServerId) (up : Bool) → is_some (lookup (same_id id) rows) ≡ false →
-    new ≡ insert_entry same_id rows id up
-    → new ≡ (if knows rows id then rows else rows ++ (id, up) ∷ [])
+    new ≡ insert_entry same_id rows id up → new ≡ (if knows rows id then rows else rows ++ (id, up) ∷ [])
 added-unknown rows new id up absent added =
     let unknown : knows rows id ≡ false = knows-lookup rows id ∙ absent in
     added ∙ insert_entry-unknown rows id up unknown ∙ ap (λ b. if b then rows else rows ++ (id, up) ∷ []) (sym unknown)
@@ -233,8 +231,7 @@ crashed_below-kept index place rows now id up e found other =
     let b : nat_eq id.index index ≡ false = grind (arith, nat_tests) in
     set_value_at-same now place id up found ∙ e ∙
     sym (step ∙ ap (λ t. cond t (set_value_at (crashed_below index place rows) place false)
-    (crashed_below index place rows)) b)
-    ∙ ap (λ n. crashed_below index n rows) (sym (add-one place))
+    (crashed_below index place rows)) b) ∙ ap (λ n. crashed_below index n rows) (sym (add-one place))
 
 -- the marks of all rows but the last one, which is new
 pub enlisted-rows : (id : ServerId) (old with_id new : Rows) (count : ℕ) → is_newest id old ≡ true →

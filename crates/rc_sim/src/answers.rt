@@ -1,6 +1,6 @@
 //! What is answered to the bytes of a scenario or of a trace.
 
-ghost use Rattle.std.specs.Prelude.{◌≡◌, ◌++◌, string_bytes, Ok, IfOk};
+ghost use Rattle.std.specs.Prelude.{◌≡◌, [], ◌++◌, string_bytes, Ok, IfOk};
 ghost use Rattle.rc_model.specs.Breach.{breach};
 ghost use Rattle.rc_model.specs.Report.{report};
 ghost use Rattle.rc_world.specs.Happened.{sent_in};
@@ -32,6 +32,36 @@ pub struct Answer {
     pub(crate) text: String,
     /// How many messages were sent in the run, if it was one.
     pub(crate) sent: usize,
+}
+
+impl Answer {
+    /// The answer to a run.
+    pub(crate) fn of_run(verdict: Verdict, text: String, sent: usize) -> Answer
+        ensures verdict { result.verdict ≡ verdict }
+        ensures text { result.text ≡ text }
+    {
+        Answer {
+            verdict,
+            text,
+            sent,
+        }
+    }
+
+    /// The answer to something else.
+    pub(crate) fn of(verdict: Verdict, text: String) -> Answer
+        ensures verdict { result.verdict ≡ verdict }
+        ensures text { result.text ≡ text }
+    {
+        Answer::of_run(verdict, text, 0)
+    }
+
+    /// No text, and this verdict.
+    pub(crate) fn nothing(alloc: Global, verdict: Verdict) -> Answer
+        ensures verdict { result.verdict ≡ verdict }
+        ensures text { string_bytes result.text ≡ [] }
+    {
+        Answer::of(verdict, String::new(alloc))
+    }
 }
 
 /// The answer to these bytes as a scenario. The run's tablets lie in memory of the second allocator. It
@@ -105,12 +135,7 @@ fn reported(alloc: Global, sent: &[Message]) -> Result<Answer, AllocError>
         None => Verdict::Clean,
         Some(_) => Verdict::Breach,
     };
-    let sent = sent.len();
-    Ok(Answer {
-        verdict,
-        text,
-        sent,
-    })
+    Ok(Answer::of_run(verdict, text, sent.len()))
 }
 
 /// The answer with a trace of these messages.
@@ -119,13 +144,7 @@ fn traced(alloc: Global, sent: &[Message]) -> Result<Answer, AllocError>
     ensures text { IfOk result (λ answer. string_bytes answer.text ≡ printed_of Output.Trace sent.now) }
 {
     let text = write_trace(alloc, sent)?;
-    let verdict = Verdict::Clean;
-    let sent = sent.len();
-    Ok(Answer {
-        verdict,
-        text,
-        sent,
-    })
+    Ok(Answer::of_run(Verdict::Clean, text, sent.len()))
 }
 
 /// The answer to a run that stopped at this event.
@@ -142,12 +161,7 @@ pub(crate) fn stopped<A: Allocator + Clone>(
 {
     let Answer { mut text, sent, .. } = ended(alloc, world, output)?;
     add_last_line(alloc, &mut text, output, place, code)?;
-    let verdict = Verdict::Stopped(place, code);
-    Ok(Answer {
-        verdict,
-        text,
-        sent,
-    })
+    Ok(Answer::of_run(Verdict::Stopped(place, code), text, sent))
 }
 
 /// Adds the last line of what is printed of a run that stopped: a report has one.
@@ -172,12 +186,7 @@ pub(crate) fn bad(alloc: Global, place: usize) -> Result<Answer, AllocError>
     ensures text { IfOk result (λ answer. string_bytes answer.text ≡ error_line place) }
 {
     let text = error_text(alloc, place)?;
-    let verdict = Verdict::Bad(place);
-    Ok(Answer {
-        verdict,
-        text,
-        sent: 0,
-    })
+    Ok(Answer::of(Verdict::Bad(place), text))
 }
 
 /// The answer to these bytes as a trace, which are let go of once they are read, unless they are wrong. It fails only
@@ -191,9 +200,5 @@ pub fn judgement_of(alloc: Global, bytes: &mut Vec<u8>) -> Result<Answer, AllocE
         Finding::Breach => Verdict::Breach,
         Finding::Bad(place) => Verdict::Bad(place),
     };
-    Ok(Answer {
-        verdict,
-        text: judged.text,
-        sent: 0,
-    })
+    Ok(Answer::of(verdict, judged.text))
 }

@@ -111,11 +111,7 @@ pub(crate) fn cuts_answer(alloc: Global, cuts: usize, breaches: usize) -> Result
     } else {
         Verdict::Breach
     };
-    Ok(Answer {
-        verdict,
-        text,
-        sent: 0,
-    })
+    Ok(Answer::of(verdict, text))
 }
 
 /// The two lines of numbers.

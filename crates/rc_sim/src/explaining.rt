@@ -60,16 +60,8 @@ fn meaning_of<E: Write>(
         false => explain(alloc, word)?,
     };
     if found.is_known {
-        return Ok(Answer {
-            verdict: Verdict::Clean,
-            text: found.text,
-            sent: 0,
-        });
+        return Ok(Answer::of(Verdict::Clean, found.text));
     }
     let _ = write_all(errors, found.text.as_bytes());
-    Ok(Answer {
-        verdict: Verdict::Wrong,
-        text: String::new(alloc),
-        sent: 0,
-    })
+    Ok(Answer::nothing(alloc, Verdict::Wrong))
 }

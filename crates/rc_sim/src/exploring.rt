@@ -98,11 +98,7 @@ fn saved(alloc: Global, options: &Options, run: &Exploration) -> Result<Answer, 
 {
     let setup = options.setup(alloc);
     let text = saved_events(alloc, &setup, run.world().events())?;
-    Ok(Answer {
-        verdict: Verdict::Clean,
-        text,
-        sent: 0,
-    })
+    Ok(Answer::of(Verdict::Clean, text))
 }
 
 /// The report of the world, and what the run has reached.
@@ -110,17 +106,9 @@ fn reported(alloc: Global, options: &Options, run: &Exploration) -> Result<Answe
     ensures ok { IfOk result (λ answer. Explored false answer.verdict (string_bytes answer.text)) }
 {
     let lines = lines_of(alloc, options, run)?;
-    let Answer {
-        verdict,
-        mut text,
-        sent,
-    } = ended(alloc, run.world(), Output::Report)?;
-    text.push_str(lines.as_str())?;
-    Ok(Answer {
-        verdict,
-        text,
-        sent,
-    })
+    let mut answer = ended(alloc, run.world(), Output::Report)?;
+    answer.text.push_str(lines.as_str())?;
+    Ok(answer)
 }
 
 /// What the run was drawn with, and what it has reached.

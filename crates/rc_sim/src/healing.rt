@@ -80,11 +80,9 @@ fn answer_of<E: Write>(
         let outcome = run.play_all(alloc, slice::from_ref(event), &mut ());
         note_place(&mut places, run.world().events().len(), place)?;
         if let Err((_, fault)) = outcome {
-            return Ok(nothing(
-                alloc,
-                Verdict::Stopped(place, fault.code()),
-                run.world().sent().len(),
-            ));
+            let verdict = Verdict::Stopped(place, fault.code());
+            let sent = run.world().sent().len();
+            return Ok(Answer::of_run(verdict, String::new(alloc), sent));
         }
     }
     match rc_healing::heal(alloc, &setup, run.world().events(), power_cycle) {
@@ -102,20 +100,8 @@ fn answer_of<E: Write>(
                 errors.inner,
                 "error: a run takes 200000 events, and these do not suffice to heal it"
             );
-            Ok(nothing(alloc, Verdict::Wrong, 0))
+            Ok(Answer::nothing(alloc, Verdict::Wrong))
         }
-    }
-}
-
-/// Nothing is written, for this reason.
-fn nothing(alloc: Global, verdict: Verdict, sent: usize) -> Answer
-    ensures verdict { result.verdict ≡ verdict }
-    ensures text { string_bytes result.text ≡ [] }
-{
-    Answer {
-        verdict,
-        text: String::new(alloc),
-        sent,
     }
 }
 
@@ -156,11 +142,7 @@ fn told<E: Write>(
         left.push(Left { place, message })?;
     }
     let text = saved_scenario(alloc, setup, events.as_slice(), left.as_slice())?;
-    Ok(Answer {
-        verdict: Verdict::Clean,
-        text,
-        sent: 0,
-    })
+    Ok(Answer::of(Verdict::Clean, text))
 }
 
 /// Where the events of a world stand in the scenario that is written.

@@ -78,11 +78,7 @@ fn weighed_answer(alloc: Global, history: &ReadHistory) -> Result<Answer, AllocE
 {
     let found = check(alloc, history.events.as_slice())?;
     let text = judgement_text(alloc, history, found)?;
-    Ok(Answer {
-        verdict: verdict_of(found),
-        text,
-        sent: 0,
-    })
+    Ok(Answer::of(verdict_of(found), text))
 }
 
 /// The verdict on a history that is linearizable, or is not.

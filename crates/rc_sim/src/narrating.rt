@@ -122,11 +122,7 @@ fn answer_of(alloc: Global, played: &Played, telling: Telling) -> Result<Answer,
     ensures no_breach { IfOk result (λ answer. answer.verdict ≢ Breach) }
 {
     match text_of(alloc, &played.story(), telling) {
-        Ok(text) => Ok(Answer {
-            verdict: verdict_of(played.stopped()),
-            text,
-            sent: played.sent(),
-        }),
+        Ok(text) => Ok(Answer::of_run(verdict_of(played.stopped()), text, played.sent())),
         Err(_) => Err(AllocError),
     }
 }

@@ -75,14 +75,10 @@ fn sought<E: Write>(
     let Some(goal) = Goal::of(word) else {
         let text = unknown(alloc, word)?;
         let _ = write_all(errors, text.as_bytes());
-        return Ok(nothing(alloc, Verdict::Wrong));
+        return Ok(Answer::nothing(alloc, Verdict::Wrong));
     };
     match first_of(alloc, options, search, goal, errors)? {
-        Some(text) => Ok(Answer {
-            verdict: Verdict::Clean,
-            text,
-            sent: 0,
-        }),
+        Some(text) => Ok(Answer::of(Verdict::Clean, text)),
         None => {
             let _ = writeln!(
                 errors.inner,
@@ -91,20 +87,8 @@ fn sought<E: Write>(
                 search.last,
                 goal.name()
             );
-            Ok(nothing(alloc, Verdict::NoLine))
+            Ok(Answer::nothing(alloc, Verdict::NoLine))
         }
-    }
-}
-
-/// No text, and this verdict.
-fn nothing(alloc: Global, verdict: Verdict) -> Answer
-    ensures verdict { result.verdict ≡ verdict }
-    ensures text { string_bytes result.text ≡ [] }
-{
-    Answer {
-        verdict,
-        text: String::new(alloc),
-        sent: 0,
     }
 }
 

@@ -58,16 +58,8 @@ fn smallest(alloc: Global, scenario: &Scenario, keep: &str) -> Result<Answer, Al
     ensures ok { IfOk result (λ answer. IsShrunk answer.verdict (string_bytes answer.text)) }
 {
     match rc_study::shrink(alloc, scenario, keep) {
-        Ok(Some(text)) => Ok(Answer {
-            verdict: Verdict::Clean,
-            text,
-            sent: 0,
-        }),
-        Ok(None) => Ok(Answer {
-            verdict: Verdict::NoLine,
-            text: String::new(alloc),
-            sent: 0,
-        }),
+        Ok(Some(text)) => Ok(Answer::of(Verdict::Clean, text)),
+        Ok(None) => Ok(Answer::nothing(alloc, Verdict::NoLine)),
         Err(_) => Err(AllocError),
     }
 }

@@ -62,11 +62,7 @@ fn surveyed<E: Write>(
     let count = last.saturating_sub(options.seed).saturating_add(1);
     let found = run_all(alloc, options, count, progress, &mut sum, &mut text, errors)?;
     sum.tell(&mut text)?;
-    Ok(Answer {
-        verdict: verdict_of(found),
-        text,
-        sent: 0,
-    })
+    Ok(Answer::of(verdict_of(found), text))
 }
 
 /// The verdict on runs of which one has a breach, or none.

@@ -149,7 +149,7 @@ moved-added {sent} {old} {new} {messages} attempt good same current kept apart c
         IsNumbered (old.attempts ++ attempt ∷ []) (put_id old.current attempt.master (length old.attempts + 1) m) one →
         one.master ≡ m
     of_current m one = put_id_each (λ (k : ServerId) (n : ℕ). IsNumbered (old.attempts ++ attempt ∷ []) n one →
-        one.master ≡ k) old.current attempt.master (length old.attempts + 1)
+        one.master ≡ k)
         (λ numbered. ap (λ (some : Attempt). some.master) ((at-end (length old.attempts + 1) one numbered).0 refl))
         (λ other numbered. good.current_master other one ((at-end (old.current other) one numbered).1 (good.current_numbered other))) m
 

@@ -148,10 +148,10 @@ moved-held {sent} {messages} {masters} {host} {m} {held} good quiet new later fr
   held = λ n. either (λ (one : Held). GoodHeld (sent ++ messages) n (masters n).log host.index host.generation one)
       (same_id m n) held (host.backup.held n)
       (λ same. subst (λ (k : ServerId). GoodHeld (sent ++ messages) k (masters k).log host.index host.generation held)
-      (same_id-true m n same) (held-quiet masters quiet (omega arith) new)) (λ _. held-quiet masters quiet
+      (same_id-true same) (held-quiet masters quiet (omega arith) new)) (λ _. held-quiet masters quiet
       (omega arith) (good n));
   later = λ n. either (λ (one : Held). HeldLater (host.backup.held n) one) (same_id m n) held (host.backup.held n)
-      (λ same. subst (λ (k : ServerId). HeldLater (host.backup.held k) held) (same_id-true m n same) later)
+      (λ same. subst (λ (k : ServerId). HeldLater (host.backup.held k) held) (same_id-true same) later)
       (λ _. held_later-refl);
   from = from;
   says = says;
@@ -274,7 +274,7 @@ moved-fences {sent} {masters} {hosts} {c} {host} {attempt} {m} own good of_attem
       attempt = of_attempt;
       since = subst (λ (one : HostNode). host.generation ≤ one.generation) (sym placed) (omega arith);
       fenced = λ _. subst (λ (one : HostNode). (one.backup.held m).fenced ≡ true) (sym placed)
-          (ap (λ (one : Held). one.fenced) (put_id-same host.backup.held m (record (host.backup.held m) { fenced = true })));
+          (ap (λ (one : Held). one.fenced) (put_id-same host.backup.held m));
       rows_are = λ row at. row-is row at;
     }
 

@@ -27,7 +27,7 @@ use Rattle.rc_model.proofs.Granting.{greater-left, greater-right}
 -- one message
 says-one : (c : Coordinator) {to : Addr} {body : Body} → coordinator_body_said c to body →
     Each (Says c) (record { from = AtCoordinator; to = to; body = body } ∷ [])
-says-one c {to} {body} holds = each-one (Says c) (record { from = AtCoordinator; to = to; body = body }) (refl, holds)
+says-one c {to} {body} holds = each-one (Says c) (refl, holds)
 
 module _ (sent : List Message) (c : Coordinator) (good : GoodCoordinator sent c) where
   abbrev Hears : Addr → Body → Type 0
@@ -94,7 +94,7 @@ module _ (sent : List Message) (c : Coordinator) (good : GoodCoordinator sent c)
     current = refl;
     kept = record { crashed = crashed; least = λ m. below-refl (c.least m); least_stays = λ m e. refl };
     apart = apart;
-    says = λ new. each-to (Says new) (list_body servers) (λ id. (refl, apart)) (up servers);
+    says = λ new. each-to (Says new) (λ id. (refl, apart)) (up servers);
   }
 
   begun : (new : Coordinator) (messages : List Message) (master : ServerId) → Came (new, messages) →
@@ -106,8 +106,7 @@ module _ (sent : List Message) (c : Coordinator) (good : GoodCoordinator sent c)
       (ap (λ (table : ServerId → ℕ). put_id table master (length new.attempts + 1)) p.current ∙
       ap (λ (attempts : List Attempt). put_id c.current master (length attempts + 1)) p.attempts)
       (record { crashed = p.kept.crashed; least = p.kept.least; least_stays = p.kept.least_stays }) p.apart has refl refl
-      (each-both (Says next) messages (begins_attempt new master).1 (p.says next)
-      (each-to (Says next) (Gather (length new.attempts + 1) master)
+      (each-both (Says next) messages (begins_attempt new master).1 (p.says next) (each-to (Says next)
       (λ id. (refl, of-added new.attempts (new_attempt master))) (up new.servers)))
 
   -- Commits
@@ -121,16 +120,15 @@ module _ (sent : List Message) (c : Coordinator) (good : GoodCoordinator sent c)
       (says-one (record c { least = put_id c.least id (greater_pair (c.least id) pair) }) mine)
     where
       rises : (m : ServerId) → is_below (put_id c.least id (greater_pair (c.least id) pair) m) (c.least m) ≡ false
-      rises m = put_id_each (λ (k : ServerId) (p : Pair). is_below p (c.least k) ≡ false) c.least id
-          (greater_pair (c.least id) pair) (greater-left (c.least id) pair) (λ other. below-refl (c.least other)) m
+      rises m = put_id_each (λ (k : ServerId) (p : Pair). is_below p (c.least k) ≡ false)
+          (greater-left (c.least id) pair) (λ other. below-refl (c.least other)) m
 
       -- that of a crashed master stays, since it isn't up
       stay : (m : ServerId) → has_crashed c.servers m ≡ true → put_id c.least id (greater_pair (c.least id) pair) m ≡ c.least m
       stay m e = search (arith, put_id_each, crashed-not-up)
 
       mine : is_below (put_id c.least id (greater_pair (c.least id) pair) id) pair ≡ false
-      mine = ap (λ (p : Pair). is_below p pair) (put_id-same c.least id (greater_pair (c.least id) pair)) ∙
-          greater-right (c.least id) pair
+      mine = ap (λ (p : Pair). is_below p pair) (put_id-same c.least id) ∙ greater-right (c.least id) pair
 
   -- Answers
 
@@ -173,7 +171,7 @@ module _ (sent : List Message) (c : Coordinator) (good : GoodCoordinator sent c)
             (plan_messages number attempt.master decision ids) (was.answered y told there);
         picked = λ other e. (let same : decision ≡ other = cc in
             subst (λ (one : Decision). pick (c.least attempt.master) attempt.replies ≡ Ok one.plan) same picked);
-      }) (each-plans (Says new) number attempt.master decision (λ id part parts e. (refl, is_plan)) ids)
+      }) (each-plans (Says new) decision (λ id part parts e. (refl, is_plan)) ids)
     where
       now : Attempt
       now = record attempt { decided = Some decision }

@@ -114,7 +114,7 @@ above-later {sent} {sent_now} {m} {old} {new} {index} {generation} {s} {e} {clos
     by : In (between x m (Stored s e told_len told_mark)) sent ⊎ (x.generation ≤ generation → ⊥) → o < len
     by (inl there) = c.above x o on (member-before w.old_fine w.places x told_len told_mark there p)
         (record { len = told_len; closed = told_mark; above = above; told = there })
-    by (inr fresh) = split closed (if_closed) (if_open fresh)
+    by (inr fresh) = split closed if_closed (if_open fresh)
 
 closed-later : {sent sent_now : List Message} {m : ServerId} {old new : Log} {index generation s e : ℕ} {closed : Bool}
     {len : ℕ} {digest : List ℕ} →

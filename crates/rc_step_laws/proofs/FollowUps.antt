@@ -127,15 +127,14 @@ moved-closing {m} master e sent view = (
     record {
       log = marked-moved view.log view.fine
           (record { above = over.0; below = omega arith }) (record { entries = refl; digest = refl; shut = refl; config = refl })
-          (each-to_ids (MasterSays sent (sent ++ messages) m log (close_marked log)) log.own ids
-          (Close (log.head - 1) (length (old_head_of log).entries)) (λ x at. record {
+          (each-to_ids (MasterSays sent (sent ++ messages) m log (close_marked log)) ids (λ x at. record {
             from = ap Server view.log.own;
             says = record {
               above = over.0;
               final = over.1;
               whole = sym (length-map (old_head_of log).entries (λ (one : Entry × Bool). one.0))
                   ∙ sym (ap (λ (segment : Segment). length (map (λ (one : Entry × Bool). one.0) segment.entries))
-                  (put-same log.segments (log.head - 1) (with_closes_sent (old_head_of log))));
+                  (put-same log.segments (log.head - 1)));
             };
           })) (λ x t f digest entries at. close-no_place m log.own ids x t f (log.head - 1)
           (length (old_head_of log).entries) digest entries false at);
@@ -221,7 +220,7 @@ moved-change {master} {s} e sent view =
 write_ok-no_place : {P : Type 0} (m x own : ServerId) (s e : ℕ) (digest : List ℕ) (entries : List Entry) (closed : Bool)
     (places : List LogPlace) → In (between m x (Place s e digest entries closed)) (write_oks own places) → P
 write_ok-no_place {P} m x own s e digest entries closed places at =
-    each-write_oks (λ message. message ≡ between m x (Place s e digest entries closed) → P) own places
+    each-write_oks (λ message. message ≡ between m x (Place s e digest entries closed) → P) places
     (λ place there client same. differ (ap (λ (message : Message). message.body) same))
     (between m x (Place s e digest entries closed)) at refl
   where
@@ -283,7 +282,7 @@ stored-moved {sent} {m} {log} good fine = moved-log good fine (record {
         either_place x s e digest entries closed (inr now) = no_place x s e digest entries closed now
 
     says : (message : Message) → In message messages → MasterSays sent (sent ++ messages) m log new message
-    says = each-write_oks (MasterSays sent (sent ++ messages) m log new) log.own (new_durable log) (λ place at client. (
+    says = each-write_oks (MasterSays sent (sent ++ messages) m log new) (new_durable log) (λ place at client. (
         let p = among place at in
         let safe : IsSafe sent m log place.seg place.offset = durable-safe sent m log p.0 place good fine p.1 p.2 in
         record {
@@ -376,4 +375,4 @@ by_rule {m} = record {
 }
 
 pub moved-goes_on : {sent : List Message} {m : ServerId} {master : Master} → GoodView sent m master → Moved sent m master (goes_on master)
-moved-goes_on {sent} {m} {master} = kept-goes_on (Kept m) (joined m) (by_rule) master sent
+moved-goes_on {sent} {m} {master} = kept-goes_on (Kept m) (joined m) by_rule master sent

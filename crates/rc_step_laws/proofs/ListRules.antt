@@ -51,8 +51,7 @@ refilled-log : {sent : List Message} {m : ServerId} {log : Log} {s : ℕ} (serve
     ((with_config s (record (with_lost servers (log.segments s).config)
     { members = replaced (with_lost servers (log.segments s).config).members ids }) log).segments s).shut))
 refilled-log {sent} {m} {log} {s} servers ids good fine opened shut = steady-moved good fine opened steady
-    (each-to_ids (MasterSays sent (sent ++ messages) m log log_now) log.own ids
-    (place_of log_now s (log_now.segments s).shut) (λ x at. record {
+    (each-to_ids (MasterSays sent (sent ++ messages) m log log_now) ids (λ x at. record {
       from = ap Server good.own;
       says = (
         place-whole (record { above = opened.above; below = opened.below }) refl (λ e. true_false (sym shut_now ∙ e)),
@@ -82,7 +81,7 @@ refilled-log {sent} {m} {log} {s} servers ids good fine opened shut = steady-mov
     messages = to_ids log.own ids (place_of log_now s (log_now.segments s).shut)
 
     at_new : log_now.segments s ≡ new
-    at_new = put-same log.segments s new
+    at_new = put-same log.segments s
 
     shut_now : (log_now.segments s).shut ≡ true
     shut_now = ap (λ (segment : Segment). segment.shut) at_new ∙ shut
@@ -132,21 +131,20 @@ changed-log {sent} {m} {log} {s} servers {ids} good fine opened open_now found =
     committed = λ e. true_false (sym e);
   };
   quiet = λ _. refl;
-  says = each-to_ids (MasterSays sent (sent ++ messages) m log log_now) log.own members_now
-      (place_of log_now s (log_now.segments s).shut) (λ x at. record {
-        from = ap Server good.own;
-        says = (
-          place-whole (record { above = opened.above; below = opened.below }) refl
-              (λ _. subst (λ (segment : Segment). In x (ids_of segment.config.members)) (sym at_new) at),
-          record {
-            long = (let same : length (log_in log_now s) ≡ length (log_in log s) = ap
-                (λ (segment : Segment). length (map (λ (one : Entry × Bool). one.0) segment.entries)) at_new in
-                omega arith);
-            known = λ e upto under. (let fresh : (log_now.segments s).config.epoch ≡ old.config.epoch + 1 = ap
-                (λ (segment : Segment). segment.config.epoch) at_new in absurd (omega arith));
-          },
-        );
-      });
+  says = each-to_ids (MasterSays sent (sent ++ messages) m log log_now) members_now (λ x at. record {
+    from = ap Server good.own;
+    says = (
+      place-whole (record { above = opened.above; below = opened.below }) refl
+          (λ _. subst (λ (segment : Segment). In x (ids_of segment.config.members)) (sym at_new) at),
+      record {
+        long = (let same : length (log_in log_now s) ≡ length (log_in log s) = ap
+            (λ (segment : Segment). length (map (λ (one : Entry × Bool). one.0) segment.entries)) at_new in
+            omega arith);
+        known = λ e upto under. (let fresh : (log_now.segments s).config.epoch ≡ old.config.epoch + 1 = ap
+            (λ (segment : Segment). segment.config.epoch) at_new in absurd (omega arith));
+      },
+    );
+  });
   news = λ x t e digest entries at. inr (fresh x t e
       (place-to_ids m log.own members_now x t e s (log_now.segments s).config.epoch digest (log_now.segments s).digest
       entries (log_in log_now s) false (log_now.segments s).shut at));
@@ -171,7 +169,7 @@ changed-log {sent} {m} {log} {s} servers {ids} good fine opened open_now found =
     messages = to_ids log.own members_now (place_of log_now s (log_now.segments s).shut)
 
     at_new : log_now.segments s ≡ new
-    at_new = put-same log.segments s new
+    at_new = put-same log.segments s
 
     placed_it : (x : ServerId) → In x members_now →
         In (between m x (Place s (old.config.epoch + 1) (log_now.segments s).digest (log_in log_now s) false)) messages

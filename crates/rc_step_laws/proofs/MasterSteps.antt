@@ -38,7 +38,7 @@ moved-takes_plan : {sent : List Message} {m : ServerId} (attempt : ℕ) (crashed
     (parts : List Part) {master : Master} → GoodView sent m master
     → Moved sent m master (takes_plan attempt crashed rows parts master)
 moved-takes_plan {sent} {m} attempt crashed rows parts {master} =
-    kept-plan (Kept m) (joined m) attempt crashed rows parts (λ one part at new more view. moved-quiet view refl refl
+    kept-plan (Kept m) (joined m) parts (λ one part at new more view. moved-quiet view refl refl
     (fetches-quiet (task_of attempt crashed rows part) rows view.log.own)) master sent
 
 -- A message

@@ -51,7 +51,7 @@ each-told sent m s e from len closed at members all = each-mapped sent m s e (to
     (λ member old. either (λ one. NotedOf sent m s e one) (is_heard from member)
     (record member { told = Some (told_with member.told len closed) }) member
     (λ heard. told-with sent m s e from len closed at member
-    (same_id-true from member.id (and_parts (same_id from member.id) (not member.lost) heard).0) old) (λ _. old))
+    (same_id-true (and_parts (same_id from member.id) (not member.lost) heard).0) old) (λ _. old))
     members all
 
 pub ids-told : (from : ServerId) (len : ℕ) (closed : Bool) (members : List Member) →
@@ -83,7 +83,7 @@ each-replaced sent m s e (one ∷ members) (id ∷ ids) all member at =
   where
     new_first : (In member (replaced members ids) → NotedOf sent m s e member) →
         (member ≡ new_member id) ⊎ In member (replaced members ids) → NotedOf sent m s e member
-    new_first rec (inl same) = subst (λ x. NotedOf sent m s e x) (sym same) (noted-new)
+    new_first rec (inl same) = subst (λ x. NotedOf sent m s e x) (sym same) noted-new
     new_first rec (inr rest) = rec rest
 
     old_first : (In member (replaced members (id ∷ ids)) → NotedOf sent m s e member) →
@@ -96,4 +96,4 @@ pub each-new : (sent : List Message) (m : ServerId) (s e : ℕ) (members : List 
     EachNoted sent m s e (map (λ member. new_member member.id) members)
 each-new sent m s e members member at =
     let found = In-map (λ (one : Member). new_member one.id) member members at in subst (λ one. NotedOf sent m s e one)
-    (sym found.2) (noted-new)
+    (sym found.2) noted-new

@@ -40,7 +40,7 @@ member-placed (first ∷ sent) m x s e at = by (member-placed sent m x s e)
       digest = p.digest;
       entries = p.entries;
       placed = inl (λ j. record {
-        from = sym (is_server-true m first.from here.0) j;
+        from = sym (is_server-true first.from here.0) j;
         to = sym p.to_x j;
         body = sym p.says j;
       });

@@ -78,7 +78,7 @@ opened-moved {sent} {m} {log} {digest} ids good fine all_shut apart fits = moved
     sent_now = sent ++ messages
 
     at_new : new.segments h ≡ seg
-    at_new = put-same log.segments h seg
+    at_new = put-same log.segments h
 
     none_there : log.segments h ≡ no_segment h
     none_there = good.none_above h (omega arith)
@@ -97,7 +97,7 @@ opened-moved {sent} {m} {log} {digest} ids good fine all_shut apart fits = moved
         })) (λ n. later-refl))
 
     says : (message : Message) → In message messages → MasterSays sent sent_now m log new message
-    says = each-to_ids (MasterSays sent sent_now m log new) m ids (Place h 0 digest [] false) (λ x at. record {
+    says = each-to_ids (MasterSays sent sent_now m log new) ids (λ x at. record {
       from = refl;
       says = (
         record {

@@ -85,7 +85,7 @@ places_to-begins old new (suc n) same more =
 
 places_to-more : (segments : ℕ → Segment) (n d : ℕ) → Begins (places_to segments n) (places_to segments (d + n))
 places_to-more segments n zero = let e : 0 + n ≡ n = omega arith in
-    subst (λ k. Begins (places_to segments n) (places_to segments k)) (sym e) (begins-refl)
+    subst (λ k. Begins (places_to segments n) (places_to segments k)) (sym e) begins-refl
 places_to-more segments n (suc d) =
     let e : suc d + n ≡ suc (d + n) = omega arith in
     subst (λ k. Begins (places_to segments n) (places_to segments k)) (sym e) (begins-trans (places_to segments n)

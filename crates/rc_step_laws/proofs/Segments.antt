@@ -114,7 +114,7 @@ pub record SegmentSteady (sent : List Message) (m : ServerId) (s : ℕ) (old new
 steady-later : {sent sent_now : List Message} {m : ServerId} {head s : ℕ} {old new : Segment} →
     SegmentSteady sent m s old new → SegmentLater sent_now m head s old new
 steady-later {old} p = record {
-  grows = subst (λ l. Begins old.entries l) (sym p.entries) (begins-refl);
+  grows = subst (λ l. Begins old.entries l) (sym p.entries) begins-refl;
   final = λ below. p.entries;
   digest = λ upto. p.digest;
   epoch = λ upto. omega (arith, p.epoch);

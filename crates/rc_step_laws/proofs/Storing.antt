@@ -44,9 +44,9 @@ moved-kept {sent} {masters} {hosts} {c} {host} {m} {seg} {after} own good unfenc
   own = refl;
   held = λ n. either (λ (held : Held). GoodHeld sent_now n (masters n).log host.index host.generation held)
       (same_id m n) held_now (host.backup.held n)
-      (λ same. of_same n (same_id-true m n same)) (λ other. of_other n (differs-id other));
+      (λ same. of_same n (same_id-true same)) (λ other. of_other n (differs-id other));
   later = λ n. either (λ (held : Held). HeldLater (host.backup.held n) held) (same_id m n) held_now (host.backup.held n)
-      (λ same. later_same n (same_id-true m n same)) (λ _. held_later-refl);
+      (λ same. later_same n (same_id-true same)) (λ _. held_later-refl);
   from = λ message at. from message at;
   says = λ message at. says message at;
 }

@@ -64,16 +64,15 @@ appends-log {sent} {m} {log} entry client ids good fine writing = put-moved good
   };
   good = entry-good entry client (segment-more (more-left sent messages) (good.each h));
   quiet = λ quiet. absurd (quiet writing);
-  says = each-to_ids (MasterSays sent (sent ++ messages) m log (appends entry client log)) log.own ids
-      (Append h (length (head_of log).entries) (entry ∷ [])) (λ x at. record {
-        from = ap Server good.own;
-        says = record {
-          opened = record { above = good.writing_opened writing; below = omega arith };
-          stands = subst (λ (segment : Segment). Stands (entry ∷ []) (length (head_of log).entries)
-              (map (λ (one : Entry × Bool). one.0) segment.entries)) (sym (put-same log.segments h new))
-              (stands-new (head_of log).entries entry client);
-        };
-      });
+  says = each-to_ids (MasterSays sent (sent ++ messages) m log (appends entry client log)) ids (λ x at. record {
+    from = ap Server good.own;
+    says = record {
+      opened = record { above = good.writing_opened writing; below = omega arith };
+      stands = subst (λ (segment : Segment). Stands (entry ∷ []) (length (head_of log).entries)
+          (map (λ (one : Entry × Bool). one.0) segment.entries)) (sym (put-same log.segments h))
+          (stands-new (head_of log).entries entry client);
+    };
+  });
   news = λ x t e digest entries at. append-no_place m log.own ids x t e h (length (head_of log).entries) digest entries
       (entry ∷ []) false at;
 })
@@ -121,7 +120,7 @@ refusing master fault sent view = moved-refused fault view
 
 pub moved-writes : {sent : List Message} {m : ServerId} {master : Master} (table key : ℕ) (value : Option (List ℕ)) →
     GoodView sent m master → Moved sent m master (writes master table key value)
-moved-writes {sent} {m} {master} table key value = kept-writes (Kept m) (joined m) (refusing) master table key value
+moved-writes {sent} {m} {master} table key value = kept-writes (Kept m) (joined m) refusing table key value
     (λ ids writing room chosen more view. moved-opens_roll view (writing-is master.log.phase writing) chosen)
     (λ term owned writing room more view.
     moved-appends (written master term table key value) true view (writing-is master.log.phase writing)) sent
@@ -129,6 +128,6 @@ moved-writes {sent} {m} {master} table key value = kept-writes (Kept m) (joined 
 pub moved-reads : {sent : List Message} {m : ServerId} {master : Master} (table key : ℕ) → GoodView sent m master →
     Moved sent m master (reads master table key)
 moved-reads {sent} {m} {master} table key =
-    kept-reads (Kept m) (joined m) (refusing) master (term_of master.ownership table key) table key
+    kept-reads (Kept m) (joined m) refusing (term_of master.ownership table key)
     (λ term owned more view. (let found : Found = read_of term table key (durable_entries master) in
     moved-quiet view refl refl (quiet-one (record { from = ap Server view.log.own; quiet = λ _ _ _ _ _ _. tt })))) sent

@@ -1,13 +1,12 @@
 //! What a step has answered.
 
 use crate::replicas::Replica;
-use rc_types::{Body, Code, Message};
+use rc_types::{Body, Code, Kind, Message};
 
 /// What was stored, as a backup answers it.
 pub(crate) fn stored_in(answer: &[Message]) -> Option<Replica> {
-    answer
-        .iter()
-        .find_map(|message| Replica::told_in(&message.body))
+    let mut sent = answer.iter();
+    sent.find_map(|message| Replica::told_in(&message.body))
 }
 
 /// The number of the code with which it was refused; 0 where it was not.
@@ -24,27 +23,17 @@ pub(crate) fn is_refused(answer: &[Message], code: Code) -> bool {
     refusal_in(answer) == code.number()
 }
 
-/// Whether a Gather was sent.
-pub(crate) fn gathers(answer: &[Message]) -> bool {
-    answer
-        .iter()
-        .any(|message| matches!(message.body, Body::Gather { .. }))
+/// How many messages of this kind were sent.
+pub(crate) fn count_of(answer: &[Message], kind: Kind) -> usize {
+    let sent = answer.iter();
+    sent.filter(|message| Kind::of(&message.body) == kind)
+        .count()
 }
 
 /// Whether a segment was placed.
 pub(crate) fn places(answer: &[Message], wanted: u16) -> bool {
-    answer.iter().any(|message| match &message.body {
-        Body::Place { seg, .. } => *seg == wanted,
-        _ => false,
-    })
-}
-
-/// How many writes were acknowledged.
-pub(crate) fn acknowledged(answer: &[Message]) -> usize {
-    answer
-        .iter()
-        .filter(|message| matches!(message.body, Body::WriteOk { .. }))
-        .count()
+    let mut sent = answer.iter();
+    sent.any(|message| matches!(&message.body, Body::Place { seg, .. } if *seg == wanted))
 }
 
 /// The version that was read, if one was.

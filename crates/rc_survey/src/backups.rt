@@ -5,7 +5,7 @@ use crate::counts::more;
 use crate::replicas::Replica;
 use crate::rules::Rule;
 use crate::surveying::Survey;
-use rc_types::{Body, Message, Seq, ServerId};
+use rc_types::{Body, Message, ServerId};
 use std::alloc::AllocError;
 
 /// A master's segment at a backup.
@@ -99,11 +99,7 @@ impl Survey {
     }
 
     /// A host is started, and keeps these of its open replicas.
-    pub(crate) fn start(
-        &mut self,
-        host: u8,
-        kept: &Seq<(ServerId, u16)>,
-    ) -> Result<(), AllocError> {
+    pub(crate) fn start(&mut self, host: u8, kept: &[(ServerId, u16)]) -> Result<(), AllocError> {
         self.servers.start(host)?;
         let restart = self.servers.keep(host, kept)?;
         self.reach_if(restart.keeps_named, Rule::RestartKeepsNamed);

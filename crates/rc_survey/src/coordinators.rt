@@ -1,9 +1,10 @@
 //! The rules that the coordinator reaches.
 
-use crate::answers::{gathers, is_refused};
+use crate::answers::{count_of, is_refused};
 use crate::rules::Rule;
+use crate::servers::pair;
 use crate::surveying::Survey;
-use rc_types::{Body, Code, Message, Pair, PlanRow, Row, Seq, ServerId};
+use rc_types::{Body, Code, Kind, Message, Row, Seq, ServerId};
 use std::alloc::AllocError;
 
 impl Survey {
@@ -18,18 +19,14 @@ impl Survey {
             Body::Enlist => {
                 let is_stale = is_refused(answer, Code::StaleGeneration);
                 self.reach_if(is_stale, Rule::EnlistRefused);
-                self.reach_if(gathers(answer), Rule::EnlistBeginsAttempt);
+                let begins = count_of(answer, Kind::Gather) > 0;
+                self.reach_if(begins, Rule::EnlistBeginsAttempt);
             }
             Body::Commit { seg, epoch } => {
-                let pair = Pair {
-                    seg: *seg,
-                    epoch: *epoch,
-                };
-                if is_refused(answer, Code::Deposed) {
-                    self.counts.reach(Rule::CommitOfCrashed);
-                } else if pair < self.servers.least_of(from) {
-                    self.counts.reach(Rule::LeastPairStays);
-                }
+                let is_crashed = is_refused(answer, Code::Deposed);
+                let is_below = pair(*seg, *epoch) < self.servers.least_of(from);
+                self.reach_if(is_crashed, Rule::CommitOfCrashed);
+                self.reach_if(is_below && !is_crashed, Rule::LeastPairStays);
             }
             Body::Recovered { attempt, .. } => {
                 let is_stale = is_refused(answer, Code::StaleAttempt) && self.is_replaced(*attempt);
@@ -65,25 +62,18 @@ impl Survey {
         server.is_some_and(|server| server.attempt.is_some_and(|newest| newest > attempt))
     }
 
-    /// A recovery was decided.
+    /// A recovery was decided: perhaps plans were sent.
     pub(crate) fn decide(&mut self, answer: &[Message]) {
+        let counts = &mut self.counts;
         for message in answer {
             if let Body::Plan { attempt, rows, .. } = &message.body {
-                self.planned(*attempt, rows);
+                if let Some(known) = self.recoveries.attempt(*attempt) {
+                    counts.reach_if(known.has_stale, Rule::OpenRowBelowLeastPair);
+                    for row in rows.as_slice() {
+                        counts.reach_if(known.has_both(row.seg), Rule::ClosedRowFirst);
+                    }
+                }
             }
-        }
-    }
-
-    /// The attempt has a plan with these rows.
-    fn planned(&mut self, attempt: u32, rows: &Seq<PlanRow>) {
-        let Some(known) = self.recoveries.attempt(attempt) else {
-            return;
-        };
-        self.counts
-            .reach_if(known.has_stale, Rule::OpenRowBelowLeastPair);
-        for row in rows.as_slice() {
-            self.counts
-                .reach_if(known.has_both(row.seg), Rule::ClosedRowFirst);
         }
     }
 }

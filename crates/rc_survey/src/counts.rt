@@ -58,7 +58,7 @@ pub(crate) fn more(count: &mut u64) {
 }
 
 /// One more at this place, where there is one.
-pub(crate) fn more_at(counts: &mut [u64], at: usize) {
+fn more_at(counts: &mut [u64], at: usize) {
     if at < counts.len() {
         counts[at] = counts[at].saturating_add(1);
     }
@@ -130,21 +130,6 @@ impl Counts {
         self.owners = self.owners.max(other.owners);
     }
 
-    /// How many events happened.
-    pub(crate) fn events(&self) -> u64 {
-        sum(&self.events)
-    }
-
-    /// How many messages were sent.
-    pub(crate) fn messages(&self) -> u64 {
-        sum(&self.bodies)
-    }
-
-    /// How many rules were reached.
-    pub(crate) fn rules(&self) -> u64 {
-        self.rules.iter().filter(|count| **count > 0).count() as u64
-    }
-
     /// What came of the events, in the order of its names.
     pub(crate) fn outcomes(&self) -> [u64; OUTCOMES] {
         [
@@ -162,8 +147,7 @@ impl Counts {
 }
 
 /// The sum of these.
-fn sum(counts: &[u64]) -> u64 {
-    counts
-        .iter()
-        .fold(0u64, |all, count| all.saturating_add(*count))
+pub(crate) fn sum(counts: &[u64]) -> u64 {
+    let counts = counts.iter();
+    counts.fold(0u64, |all, count| all.saturating_add(*count))
 }

@@ -110,9 +110,8 @@ impl Segment {
 
     /// Whether the host has an open replica that was named at this start.
     pub(crate) fn is_named(&self, host: u8, start: usize) -> bool {
-        self.open
-            .iter()
-            .any(|open| open.host == host && open.named == start)
+        let mut open = self.open.iter();
+        open.any(|open| open.host == host && open.named == start)
     }
 }
 
@@ -194,9 +193,8 @@ impl Log {
 
     /// Whether one of these segments has an entry of a recovered log.
     pub(crate) fn has_replayed(&self, digest: &Shared<u16>) -> bool {
-        digest.as_slice().iter().any(|seg| self
-            .segment(*seg)
-            .is_some_and(|segment| segment.replayed))
+        let mut segs = digest.as_slice().iter().map(|seg| self.segment(*seg));
+        segs.any(|known| known.is_some_and(|segment| segment.replayed))
     }
 
     /// This version of a key is appended.

@@ -1,9 +1,9 @@
 //! The rules that a master reaches.
 
-use crate::answers::{acknowledged, places, refusal_in, version_read};
+use crate::answers::{count_of, places, refusal_in, version_read};
 use crate::rules::Rule;
 use crate::surveying::Survey;
-use rc_types::{Body, Code, Message, ServerId, Shared};
+use rc_types::{Body, Code, Kind, Message, ServerId, Shared};
 
 impl Survey {
     /// A write or a read has come to a master that runs, or another message but a list.
@@ -18,7 +18,8 @@ impl Survey {
                 let segment = self.servers.segment(master, *seg);
                 let is_old = segment.is_some_and(|segment| *epoch < segment.epoch);
                 self.reach_if(is_old, Rule::StoredOfOldEpoch);
-                self.reach_if(acknowledged(answer) > 1, Rule::AcknowledgedTogether);
+                let acknowledged = count_of(answer, Kind::WriteOk);
+                self.reach_if(acknowledged > 1, Rule::AcknowledgedTogether);
             }
             Body::CommitOk { seg, epoch } => self.committed(master, *seg, *epoch),
             _ => {}
@@ -74,15 +75,12 @@ impl Survey {
         }
         server.list = version;
         let head = server.log.head();
-        let Some(segment) = server.log.segment(head) else {
-            return;
-        };
-        if places(answer, head) {
-            return;
-        }
-        for (id, up) in rows.as_slice() {
-            let is_lost = !*up && segment.members.contains(id);
-            self.counts.reach_if(is_lost, Rule::NoReplacement);
+        let segment = server.log.segment(head);
+        if let Some(segment) = segment.filter(|_| !places(answer, head)) {
+            for (id, up) in rows.as_slice() {
+                let is_lost = !*up && segment.members.contains(id);
+                self.counts.reach_if(is_lost, Rule::NoReplacement);
+            }
         }
     }
 }

@@ -1,8 +1,9 @@
 //! What is known of recoveries: what was answered in their attempts, and the parts of their plans.
 
+use crate::servers::pair;
 use rc_types::{KeyRange, Pair, Part, Row, ServerId};
 use std::alloc::{AllocError, Global};
-use std::collections::HashMap;
+use std::collections::{HashMap, HashSet};
 
 /// How many keys are looked at, those below.
 const KEYS: usize = 4;
@@ -14,52 +15,34 @@ struct Given {
     granted: bool,
 }
 
-/// What was answered of a segment in an attempt.
-#[derive(Clone, Copy)]
-struct Found {
-    open: bool,
-    closed: bool,
-}
-
 /// An attempt.
 #[derive(Drop)]
 pub(crate) struct Attempt {
     pub(crate) master: ServerId,
     /// Whether an open row below the least pair was answered.
     pub(crate) has_stale: bool,
-    /// What was answered of each segment, from 0 on.
-    found: Vec<Found>,
+    /// The segments of which a closed row was answered.
+    closed: HashSet<u16>,
+    /// The segments of which a valid open row was answered.
+    open: HashSet<u16>,
 }
 
 impl Attempt {
     /// A row was answered, where this is the least pair of the master.
     pub(crate) fn answer(&mut self, row: &Row, least: Pair) -> Result<(), AllocError> {
-        let pair = Pair {
-            seg: row.seg,
-            epoch: row.epoch,
-        };
-        if !row.closed && pair < least {
+        if row.closed {
+            self.closed.insert(row.seg)?;
+        } else if pair(row.seg, row.epoch) < least {
             self.has_stale = true;
-            return Ok(());
-        }
-        let at = row.seg as usize;
-        for _ in self.found.len()..at.saturating_add(1) {
-            self.found.push(Found {
-                open: false,
-                closed: false,
-            })?;
-        }
-        if let Some(found) = self.found.get_mut(at) {
-            found.open = found.open || !row.closed;
-            found.closed = found.closed || row.closed;
+        } else {
+            self.open.insert(row.seg)?;
         }
         Ok(())
     }
 
     /// Whether both a closed row and a valid open one of this segment were answered.
     pub(crate) fn has_both(&self, seg: u16) -> bool {
-        let found = self.found.get(seg as usize);
-        found.is_some_and(|found| found.open && found.closed)
+        self.closed.contains(&seg) && self.open.contains(&seg)
     }
 }
 
@@ -95,7 +78,8 @@ impl Recoveries {
         let begun = Attempt {
             master,
             has_stale: false,
-            found: Vec::new(self.alloc),
+            closed: HashSet::new(self.alloc),
+            open: HashSet::new(self.alloc),
         };
         self.attempts.insert(attempt, begun)?;
         Ok(true)
@@ -116,11 +100,8 @@ impl Recoveries {
         if self.has_part(part.term) {
             return Ok(false);
         }
-        let given = Given {
-            master,
-            granted: false,
-        };
-        self.parts.insert(part.term, given)?;
+        let granted = false;
+        self.parts.insert(part.term, Given { master, granted })?;
         Ok(true)
     }
 

@@ -1,7 +1,7 @@
 //! What backups have told of their replicas.
 
 use crate::servers::Servers;
-use rc_types::{Body, Seq, ServerId};
+use rc_types::{Body, ServerId};
 use std::alloc::AllocError;
 
 /// What a backup has told of a replica.
@@ -61,7 +61,7 @@ impl Servers {
     pub(crate) fn keep(
         &mut self,
         host: u8,
-        kept: &Seq<(ServerId, u16)>,
+        kept: &[(ServerId, u16)],
     ) -> Result<Restart, AllocError> {
         let start = self.starts(host);
         let mut restart = Restart {
@@ -69,7 +69,7 @@ impl Servers {
             drops_unnamed: false,
             keeps_closed: self.has_closed(host),
         };
-        for (master, seg) in kept.as_slice() {
+        for (master, seg) in kept {
             if let Some(segment) = self.segment_mut(*master, *seg) {
                 restart.keeps_named = segment.name(host, start) || restart.keeps_named;
             }

@@ -10,6 +10,11 @@ use std::mem::replace;
 /// No pair is below it.
 const LEAST: Pair = Pair { seg: 0, epoch: 0 };
 
+/// This segment under this epoch.
+pub(crate) fn pair(seg: u16, epoch: u16) -> Pair {
+    Pair { seg, epoch }
+}
+
 /// What is known of a server that was started.
 #[derive(Drop)]
 pub(crate) struct Server {

@@ -6,10 +6,8 @@ use crate::logs::Placing;
 use crate::recoveries::Recoveries;
 use crate::replicas::Replica;
 use crate::rules::Rule;
-use crate::servers::Servers;
-use rc_types::{
-    Addr, Body, Code, Entry, Event, KeyRange, Message, Pair, Part, Seq, ServerId, Shared,
-};
+use crate::servers::{Servers, pair};
+use rc_types::{Addr, Body, Code, Entry, Event, KeyRange, Message, Part, Seq, ServerId, Shared};
 use std::alloc::{AllocError, Global};
 use std::collections::HashSet;
 
@@ -96,14 +94,12 @@ impl Survey {
         delivered: Option<&Message>,
         answer: &[Message],
     ) -> Result<(), AllocError> {
+        if let Some(message) = delivered {
+            return self.delivery(message, answer);
+        }
         match event {
-            Event::Deliver(_) => {
-                if let Some(message) = delivered {
-                    self.delivery(message, answer)?;
-                }
-            }
             Event::Tick(_) => self.reach_if(!answer.is_empty(), Rule::TickRepeats),
-            Event::Start { host, kept } => self.start(*host, kept)?,
+            Event::Start { host, kept } => self.start(*host, kept.as_slice())?,
             Event::Stop(id) => {
                 if let Some(server) = self.servers.get_mut(*id) {
                     server.runs = false;
@@ -297,10 +293,8 @@ impl Survey {
     fn zombie(&mut self, master: ServerId, seg: u16) {
         more(&mut self.counts.zombies);
         if let Some(segment) = self.servers.segment(master, seg) {
-            let has_open = segment
-                .members
-                .iter()
-                .any(|member| !self.servers.has_fenced(*member, master));
+            let mut members = segment.members.iter();
+            let has_open = members.any(|member| !self.servers.has_fenced(*member, master));
             self.reach_if(has_open, Rule::ZombieAcknowledges);
         }
     }
@@ -315,10 +309,7 @@ impl Survey {
                     more(&mut self.counts.epochs);
                 }
                 if let Some(server) = self.servers.get_mut(to) {
-                    server.least = server.least.max(Pair {
-                        seg: *seg,
-                        epoch: *epoch,
-                    });
+                    server.least = server.least.max(pair(*seg, *epoch));
                 }
             }
             Body::Own { range, term, .. } => self.own(range, *term),
@@ -375,13 +366,10 @@ fn kept_at(backup: ServerId, master: ServerId, seg: u16) -> Kept {
 
 /// What the step was that has delivered this message, or none.
 fn step_of(event: &Event, delivered: Option<&Message>) -> Step {
-    match (event, delivered) {
+    match (event, delivered.map(|message| &message.body)) {
         (Event::Tick(_), _) => Step::Tick,
-        (_, Some(message)) => match &message.body {
-            Body::Write { .. } => Step::Write,
-            Body::Stored { .. } => Step::Stored,
-            _ => Step::Other,
-        },
+        (_, Some(Body::Write { .. })) => Step::Write,
+        (_, Some(Body::Stored { .. })) => Step::Stored,
         _ => Step::Other,
     }
 }

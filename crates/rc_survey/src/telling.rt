@@ -1,21 +1,40 @@
 //! The lines that tell what a run has reached, and what several runs have reached together.
 
-use crate::counts::{Counts, OUTCOME_NAMES, OUTCOMES, more, more_at};
+use crate::counts::{Counts, OUTCOME_NAMES, OUTCOMES, more, sum};
 use crate::rules::{RULE_NAMES, RULES, Rule};
 use rc_pen::{Pen, Piece, Spelling};
 use rc_types::{EventKind, Kind};
 use std::alloc::AllocError;
 
 impl Counts {
-    /// The lines of it: the events, the messages and the refusals by kind, what came of them, and what this run has not
-    /// reached.
+    /// The lines of it: the events, the messages and the refusals by kind, what came of them, and what was not reached:
+    /// kinds of messages that were never sent, what never came of the events, and rules.
     ///
     /// # Errors
     ///
     /// Memory was refused.
     pub fn tell(&self, text: &mut String) -> Result<(), AllocError> {
         let mut pen = Pen::new(*text.allocator(), Spelling::Plain);
-        tell_counts(&mut pen, self);
+        let event_names = EventKind::ALL.map(|kind| kind.name());
+        let message_names = Kind::ALL.map(|kind| kind.name());
+        pen.put("events");
+        tell_counted(&mut pen, &event_names, &self.events);
+        pen.put("\nmessages");
+        tell_counted(&mut pen, &message_names, &self.bodies);
+        pen.put("\nrefusals");
+        for (code, count) in self.refused.iter().enumerate() {
+            if *count > 0 {
+                pen.put_all(" F% %", &[Piece::Size(code), Piece::U64(*count)]);
+            }
+        }
+        pen.put("\nreached");
+        tell_all(&mut pen, &self.outcomes());
+        pen.put("\nunreached");
+        tell_missing(&mut pen, &message_names, &self.bodies);
+        tell_missing(&mut pen, &OUTCOME_NAMES, &self.outcomes());
+        pen.put("\nunreached-rules");
+        tell_missing(&mut pen, &RULE_NAMES, &self.rules);
+        pen.put("\n");
         pen.end_after(text)
     }
 
@@ -27,10 +46,11 @@ impl Counts {
     pub fn tell_seed(&self, text: &mut String, seed: u64, clean: bool) -> Result<(), AllocError> {
         let mut pen = Pen::new(*text.allocator(), Spelling::Plain);
         pen.put_number("seed ", seed);
-        tell_count(&mut pen, "events", self.events());
-        tell_count(&mut pen, "messages", self.messages());
-        tell_reached(&mut pen, &OUTCOME_NAMES, &self.outcomes());
-        tell_count(&mut pen, "rules", self.rules());
+        tell_count(&mut pen, "events", sum(&self.events));
+        tell_count(&mut pen, "messages", sum(&self.bodies));
+        tell_counted(&mut pen, &OUTCOME_NAMES, &self.outcomes());
+        let rules = self.rules.iter().filter(|count| **count > 0).count();
+        tell_count(&mut pen, "rules", rules as u64);
         pen.put_number("/", RULES as u64);
         pen.put_either(clean, " clean\n", " breach\n");
         pen.end_after(text)
@@ -83,12 +103,12 @@ impl Sum {
     ///
     /// Memory was refused.
     pub fn tell(&self, text: &mut String) -> Result<(), AllocError> {
+        self.total.tell(text)?;
         let mut pen = Pen::new(*text.allocator(), Spelling::Plain);
-        tell_counts(&mut pen, &self.total);
         pen.put("in-runs");
         tell_all(&mut pen, &self.outcomes);
         pen.put_all(" all-three %\nrules-in-runs", &[Piece::U64(self.full)]);
-        tell_reached(&mut pen, &RULE_NAMES, &self.rules);
+        tell_counted(&mut pen, &RULE_NAMES, &self.rules);
         pen.put_all(
             "\nruns %\nbreaches %\n",
             &[Piece::U64(self.runs), Piece::U64(self.breaches)],
@@ -97,37 +117,11 @@ impl Sum {
     }
 }
 
-/// One more at each place at which this run has counted something.
+/// One run more at each place at which something was counted.
 fn add_reached(runs: &mut [u64], counts: &[u64]) {
-    for (at, count) in counts.iter().enumerate() {
-        if *count > 0 {
-            more_at(runs, at);
-        }
+    for (run, count) in runs.iter_mut().zip(counts) {
+        *run = run.saturating_add(u64::from(*count > 0));
     }
-}
-
-/// The lines of what was counted: the events, the messages and the refusals by kind, what came of them, and what was
-/// not reached: kinds of messages that were never sent, what never came of the events, and rules.
-fn tell_counts(pen: &mut Pen, counts: &Counts) {
-    let message_names = Kind::ALL.map(|kind| kind.name());
-    pen.put("events");
-    tell_reached(pen, &EventKind::ALL.map(|kind| kind.name()), &counts.events);
-    pen.put("\nmessages");
-    tell_reached(pen, &message_names, &counts.bodies);
-    pen.put("\nrefusals");
-    for (code, count) in counts.refused.iter().enumerate() {
-        if *count > 0 {
-            pen.put_all(" F% %", &[Piece::Size(code), Piece::U64(*count)]);
-        }
-    }
-    pen.put("\nreached");
-    tell_all(pen, &counts.outcomes());
-    pen.put("\nunreached");
-    tell_missing(pen, &message_names, &counts.bodies);
-    tell_missing(pen, &OUTCOME_NAMES, &counts.outcomes());
-    pen.put("\nunreached-rules");
-    tell_missing(pen, &RULE_NAMES, &counts.rules);
-    pen.put("\n");
 }
 
 /// A name and its count.
@@ -143,7 +137,7 @@ fn tell_all(pen: &mut Pen, counts: &[u64; OUTCOMES]) {
 }
 
 /// The counts by name; where one is 0, it is left out.
-fn tell_reached(pen: &mut Pen, names: &[&'static str], counts: &[u64]) {
+fn tell_counted(pen: &mut Pen, names: &[&'static str], counts: &[u64]) {
     for (name, count) in names.iter().zip(counts) {
         if *count > 0 {
             tell_count(pen, name, *count);

@@ -73,11 +73,8 @@ impl Changes {
         let before = self.last.find(id.index);
         if before.is_none_or(|before| before.0 != id || phase_name(before.1, before.2) != name) {
             self.last.put(id.index, (id, phase, is_deposed))?;
-            self.phases.push(PhaseChange {
-                event,
-                id,
-                phase: name,
-            })?;
+            let phase = name;
+            self.phases.push(PhaseChange { event, id, phase })?;
         }
         Ok(())
     }

@@ -71,10 +71,8 @@ impl Course {
     fn take(&mut self, event: &Event, at: usize, messages: &[Message]) -> Result<(), AllocError> {
         match event {
             Event::Deliver(number) => {
-                if let (Some(mark), Some(message)) = (
-                    self.delivered.get_mut(*number),
-                    messages.get(*number),
-                ) {
+                let mark = self.delivered.get_mut(*number);
+                if let (Some(mark), Some(message)) = (mark, messages.get(*number)) {
                     *mark = true;
                     self.arrive(message);
                 }
@@ -104,19 +102,13 @@ impl Course {
 
     /// A message has arrived.
     fn arrive(&mut self, message: &Message) {
-        match &message.body {
-            Body::Ready => {
-                if let Addr::Server(id) = message.from {
-                    if let Some(generation) = self.ready.get_mut(usize::from(id.index)) {
-                        *generation = id.generation;
-                    }
+        match (&message.body, message.from, message.to) {
+            (Body::Ready, Addr::Server(id), _) => {
+                if let Some(generation) = self.ready.get_mut(usize::from(id.index)) {
+                    *generation = id.generation;
                 }
             }
-            Body::Write { .. } => {
-                if let Addr::Server(id) = message.to {
-                    self.ask(Early::Write(id), id);
-                }
-            }
+            (Body::Write { .. }, _, Addr::Server(id)) => self.ask(Early::Write(id), id),
             _ => {}
         }
     }

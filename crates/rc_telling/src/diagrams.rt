@@ -1,6 +1,6 @@
 //! The story as a sequence diagram for Mermaid.
 
-use crate::fields::{tell_event, tell_fields_if_any};
+use crate::fields::{node_of, tell_event, tell_fields_if_any};
 use crate::silences::tell_silence;
 use crate::story::{Story, Turn};
 use crate::tables::Table;
@@ -81,19 +81,13 @@ fn put_undelivered(pen: &mut Pen, story: &Story<'_>, place: usize, message: &Mes
 
 /// A delivery. What goes to the outside stands where it was sent.
 fn put_delivery(pen: &mut Pen, story: &Story<'_>, number: usize, message: usize, turn: &Turn) {
-    let Some(delivered) = story.messages.get(message) else {
+    let delivered = story.messages.get(message);
+    let Some(delivered) = delivered.filter(|message| message.to != Addr::Outside) else {
         return;
     };
-    if delivered.to == Addr::Outside {
-        return;
-    }
     let has_effect = turn.silence.is_none();
-    put_arrow(
-        pen,
-        if has_effect { "->>" } else { "-x" },
-        message,
-        delivered,
-    );
+    let arrow = if has_effect { "->>" } else { "-x" };
+    put_arrow(pen, arrow, message, delivered);
     if story.notes.passages.is_delivered_before(message, number) {
         pen.put(", once more");
     }
@@ -106,13 +100,7 @@ fn put_delivery(pen: &mut Pen, story: &Story<'_>, number: usize, message: usize,
 
 /// An event that is no message.
 fn put_note(pen: &mut Pen, event: &Event, started: Option<ServerId>) {
-    let at = match (event, started) {
-        (_, Some(id)) => Addr::Server(id),
-        (Event::Stop(id), None) => Addr::Server(*id),
-        (Event::Tick(addr), None) => *addr,
-        _ => Addr::Coordinator,
-    };
-    put_name(pen, "    Note over ", at);
+    put_name(pen, "    Note over ", node_of(event, started));
     pen.put(": ");
     tell_event(pen, event, started);
     pen.put("\n");
@@ -122,12 +110,7 @@ fn put_note(pen: &mut Pen, event: &Event, started: Option<ServerId>) {
 fn put_arrow(pen: &mut Pen, arrow: &str, number: usize, message: &Message) {
     put_name(pen, "    ", message.from);
     put_name(pen, arrow, message.to);
-    pen.put_all(
-        ": % %",
-        &[
-            Piece::Size(number),
-            Piece::Words(Kind::of(&message.body).name()),
-        ],
-    );
+    let kind = Piece::Words(Kind::of(&message.body).name());
+    pen.put_all(": % %", &[Piece::Size(number), kind]);
     tell_fields_if_any(pen, &message.body);
 }

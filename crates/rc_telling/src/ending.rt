@@ -3,7 +3,7 @@
 
 use crate::story::Story;
 use crate::tables::Table;
-use rc_pen::Piece;
+use rc_pen::{Pen, Piece};
 use rc_types::{Addr, Body, KeyRange, Kind, Message};
 use std::alloc::{AllocError, Global};
 
@@ -21,8 +21,6 @@ pub(crate) struct Group {
     pub(crate) count: u64,
     /// The numbers of the first of them.
     numbers: [usize; MOST_NUMBERS],
-    /// How many numbers these are.
-    known: usize,
 }
 
 impl Group {
@@ -33,23 +31,27 @@ impl Group {
             to: message.to,
             count: 0,
             numbers: [0; MOST_NUMBERS],
-            known: 0,
         }
     }
 
     /// One more, of this number.
     fn add(&mut self, number: usize) {
-        self.count = self.count.saturating_add(1);
-        let place = self.known;
-        if let Some(slot) = self.numbers.get_mut(place) {
+        if let Some(slot) = self.numbers.get_mut(self.count as usize) {
             *slot = number;
-            self.known = place.saturating_add(1);
         }
+        self.count = self.count.saturating_add(1);
     }
 
     /// The numbers of the first of them.
     pub(crate) fn numbers(&self) -> &[usize] {
-        self.numbers.get(0..self.known).unwrap_or(&[])
+        let known = MOST_NUMBERS.min(self.count as usize);
+        self.numbers.get(0..known).unwrap_or(&[])
+    }
+
+    /// How many there are, of which kind, and to whom.
+    pub(crate) fn tell(&self, pen: &mut Pen) {
+        let (kind, to) = (Piece::Words(self.kind), Piece::Node(self.to));
+        pen.say_all("% % to %", &[Piece::U64(self.count), kind, to]);
     }
 }
 

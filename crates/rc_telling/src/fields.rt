@@ -2,8 +2,8 @@
 
 use rc_pen::{Pen, Piece};
 use rc_types::{
-    Body, Breach, Code, Entry, Event, KeyRange, Kind, Message, Part, PlanRow, Row, Seq, ServerId,
-    Shared,
+    Addr, Body, Breach, Code, Entry, Event, KeyRange, Kind, Message, Part, PlanRow, Row, Seq,
+    ServerId, Shared,
 };
 use std::alloc::Global;
 
@@ -24,15 +24,9 @@ const MOST_BYTES: usize = 32;
 
 /// A message: its number, its kind, from where to where, and what it says.
 pub(crate) fn tell_message(pen: &mut Pen, number: usize, message: &Message) {
-    pen.put_all(
-        "% % % -> %",
-        &[
-            Piece::Size(number),
-            Piece::Words(Kind::of(&message.body).name()),
-            Piece::Node(message.from),
-            Piece::Node(message.to),
-        ],
-    );
+    let kind = Piece::Words(Kind::of(&message.body).name());
+    let (from, to) = (Piece::Node(message.from), Piece::Node(message.to));
+    pen.put_all("% % % -> %", &[Piece::Size(number), kind, from, to]);
     tell_fields_if_any(pen, &message.body);
 }
 
@@ -87,6 +81,17 @@ pub(crate) fn event_name(event: &Event) -> &'static str {
     }
 }
 
+/// The node at which an event happens.
+pub(crate) fn node_of(event: &Event, started: Option<ServerId>) -> Addr {
+    match event {
+        Event::Ask { .. } => Addr::Outside,
+        Event::Tick(addr) => *addr,
+        Event::Stop(id) => Addr::Server(*id),
+        Event::Start { .. } => started.map_or(Addr::Outside, Addr::Server),
+        _ => Addr::Coordinator,
+    }
+}
+
 /// A start: the host, the new server, and what is kept.
 fn tell_start(pen: &mut Pen, host: u8, kept: &Seq<(ServerId, u16)>, started: Option<ServerId>) {
     pen.number(" host ", u64::from(host));
@@ -118,7 +123,8 @@ fn tell_more(pen: &mut Pen, count: usize, told: usize) {
     }
 }
 
-/// What a message says: of what clients and servers say to each other here, or else what `tell_segment` tells.
+/// What a message says. What clients and servers say to each other is told here; the rest is passed on to
+/// `tell_segment`.
 pub(crate) fn tell_fields(pen: &mut Pen, body: &Body) {
     match body {
         Body::Write { table, key, value } => {
@@ -163,7 +169,7 @@ fn tell_key(pen: &mut Pen, table: u32, key: u64) {
     pen.say_all("table % key %", &[Piece::U32(table), Piece::U64(key)]);
 }
 
-/// What masters, backups and the coordinator say of segments.
+/// What masters, backups and the coordinator say of segments; the rest is passed on to `tell_recovery`.
 fn tell_segment(pen: &mut Pen, body: &Body) {
     match body {
         Body::Place {
@@ -219,7 +225,7 @@ fn tell_replica(pen: &mut Pen, seg: u16, epoch: u16, len: usize, closed: bool) {
     );
 }
 
-/// What is said in a recovery.
+/// What is said in a recovery; the rest is passed on to `tell_other`.
 fn tell_recovery(pen: &mut Pen, body: &Body) {
     match body {
         Body::Gather { attempt, master } => tell_attempt(pen, *attempt, *master),
@@ -261,7 +267,7 @@ fn tell_attempt(pen: &mut Pen, attempt: u32, master: ServerId) {
     pen.say_all("attempt % of %", &[Piece::U32(attempt), Piece::Id(master)]);
 }
 
-/// What is said of the entries of a part, of freed segments, of refusals, of the server list, and of ranges.
+/// The end of this chain: what is said of a part's entries, freed segments, refusals, the server list, and ranges.
 fn tell_other(pen: &mut Pen, body: &Body) {
     match body {
         Body::Data {
@@ -360,14 +366,10 @@ fn tell_part(pen: &mut Pen, part: &Part) {
 
 /// A range of keys, and the term of an ownership of it.
 fn tell_range(pen: &mut Pen, range: &KeyRange, term: u32) {
+    let (lo, hi) = (Piece::U64(range.lo), Piece::U64(range.hi));
     pen.say_all(
         "table % keys %..% term %",
-        &[
-            Piece::U32(range.table),
-            Piece::U64(range.lo),
-            Piece::U64(range.hi),
-            Piece::U32(term),
-        ],
+        &[Piece::U32(range.table), lo, hi, Piece::U32(term)],
     );
 }
 

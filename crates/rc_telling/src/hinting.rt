@@ -27,10 +27,8 @@ impl Factors {
     /// Those of a setup.
     pub fn of(setup: &Setup) -> Factors {
         let mut of_hosts = [setup.factor; MAX_HOSTS as usize];
-        for (host, factor) in setup.factors.as_slice().iter().enumerate() {
-            if let Some(place) = of_hosts.get_mut(host) {
-                *place = *factor;
-            }
+        for (place, factor) in of_hosts.iter_mut().zip(setup.factors.as_slice()) {
+            *place = *factor;
         }
         Factors { of_hosts }
     }
@@ -57,7 +55,12 @@ pub fn hints(
     let mut course = Course::new(alloc);
     course.take_all(events, messages)?;
     tell_early(&course, &mut pen);
-    let waiting = waiting_in(alloc, &course, messages)?;
+    let mut waiting = Table::new(alloc);
+    for (number, message) in messages.iter().enumerate() {
+        if course.waits(number, message) {
+            count(&mut waiting, number, message)?;
+        }
+    }
     let waits = !waiting.entries.is_empty();
     if waits {
         tell_waiting(&mut pen, &waiting);
@@ -65,10 +68,8 @@ pub fn hints(
     }
     tell_unheard(&course, &mut pen);
     if let Some(id) = course.unstarted {
-        pen.say_all(
-            "hint: % was suspected, but had never been started: nothing comes of that\n",
-            &[Piece::Id(id)],
-        );
+        pen.id("hint: ", id);
+        pen.say(" was suspected, but had never been started: nothing comes of that\n");
     }
     tell_few(&course.servers, &mut pen, factors);
     if course.has_reads {
@@ -97,37 +98,14 @@ fn tell_early(course: &Course, pen: &mut Pen) {
     pen.say(", so it was refused: it takes a settle behind the starts, and enough hosts\n");
 }
 
-/// The messages that wait, by kind and addressee.
-fn waiting_in(
-    alloc: Global,
-    course: &Course,
-    messages: &[Message],
-) -> Result<Table<(u8, Addr), Group>, AllocError> {
-    let mut groups = Table::new(alloc);
-    for (number, message) in messages.iter().enumerate() {
-        if course.waits(number, message) {
-            count(&mut groups, number, message)?;
-        }
-    }
-    Ok(groups)
-}
-
 /// How many messages wait, and the first kinds of them.
 fn tell_waiting(pen: &mut Pen, groups: &Table<(u8, Addr), Group>) {
     pen.number("hint: messages that wait at the end: ", total_of(groups));
     for (place, group) in groups.entries.values().take(MOST_GROUPS).enumerate() {
-        pen.say(if place == 0 { " (" } else { ", " });
-        pen.say_all(
-            "% % to %",
-            &[
-                Piece::U64(group.count),
-                Piece::Words(group.kind),
-                Piece::Node(group.to),
-            ],
-        );
+        pen.either(place == 0, " (", ", ");
+        group.tell(pen);
     }
-    let has_more = groups.entries.len() > MOST_GROUPS;
-    pen.say(if has_more { ", ..)" } else { ")" });
+    pen.either(groups.entries.len() > MOST_GROUPS, ", ..)", ")");
     pen.say("; a settle would deliver them\n");
 }
 
@@ -160,15 +138,11 @@ fn tell_unheard(course: &Course, pen: &mut Pen) {
     let Some(id) = course.unheard else {
         return;
     };
-    pen.say_all(
-        "hint: % was asked while it did not run: nothing comes of that",
-        &[Piece::Id(id)],
-    );
+    pen.id("hint: ", id);
+    pen.say(" was asked while it did not run: nothing comes of that");
     if course.requests > 1 {
-        pen.say_all(
-            "; so it was with % requests in all",
-            &[Piece::U64(course.requests)],
-        );
+        pen.number("; so it was with ", course.requests);
+        pen.say(" requests in all");
     }
     pen.say("\n");
 }

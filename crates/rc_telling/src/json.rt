@@ -2,7 +2,7 @@
 
 use crate::changes::Changes;
 use crate::ending::Ending;
-use crate::fields::{event_name, tell_event, tell_fields, tell_verdict};
+use crate::fields::{event_name, node_of, tell_event, tell_fields, tell_verdict};
 use crate::servers::Server;
 use crate::silences::{Silence, tell_silence};
 use crate::standing::{ReplicaStanding, SegmentStanding};
@@ -10,7 +10,7 @@ use crate::story::{Story, Turn};
 use crate::waits::{tell_wait, wait_of};
 use crate::writes::{Writes, tell_fate};
 use rc_pen::{Pen, Piece, Spelling};
-use rc_types::{Addr, Event, Kind, ServerId};
+use rc_types::{Event, Kind};
 use std::alloc::{AllocError, Global};
 
 /// The story as one JSON value, with long lists `whole`, or as a log tells them. Keys and versions are texts, since
@@ -74,16 +74,13 @@ fn put_messages(pen: &mut Pen, story: &Story<'_>) {
     pen.put("],\"messages\":[");
     let passages = &story.notes.passages.items;
     for (number, (message, passage)) in story.messages.iter().zip(passages).enumerate() {
+        let kind = Piece::Words(Kind::of(&message.body).name());
+        let (from, to) = (Piece::Node(message.from), Piece::Node(message.to));
         put_item(
             pen,
             number,
             "{\"n\":%,\"kind\":\"%\",\"from\":\"%\",\"to\":\"%\",\"text\":\"",
-            &[
-                Piece::Size(number),
-                Piece::Words(Kind::of(&message.body).name()),
-                Piece::Node(message.from),
-                Piece::Node(message.to),
-            ],
+            &[Piece::Size(number), kind, from, to],
         );
         tell_fields(pen, &message.body);
         pen.put_number("\",\"sent\":", passage.sent as u64);
@@ -98,15 +95,12 @@ fn put_messages(pen: &mut Pen, story: &Story<'_>) {
 /// One event: its number, its place in the scenario, its kind, what it says, and the numbers of what it sent.
 fn put_turn(pen: &mut Pen, story: &Story<'_>, number: usize, event: &Event, turn: &Turn) {
     let step = &turn.step;
+    let kind = Piece::Words(event_name(event));
     put_item(
         pen,
         number,
         "{\"n\":%,\"place\":%,\"kind\":\"%\",",
-        &[
-            Piece::Size(number),
-            Piece::Size(step.place),
-            Piece::Words(event_name(event)),
-        ],
+        &[Piece::Size(number), Piece::Size(step.place), kind],
     );
     match event {
         Event::Deliver(message) => {
@@ -133,30 +127,16 @@ fn put_turn(pen: &mut Pen, story: &Story<'_>, number: usize, event: &Event, turn
     pen.put("]}");
 }
 
-/// The node at which an event happens.
-fn node_of(event: &Event, started: Option<ServerId>) -> Addr {
-    match event {
-        Event::Ask { .. } => Addr::Outside,
-        Event::Tick(addr) => *addr,
-        Event::Stop(id) => Addr::Server(*id),
-        Event::Start { .. } => started.map_or(Addr::Outside, Addr::Server),
-        _ => Addr::Coordinator,
-    }
-}
-
 /// What was never delivered, by kind and addressee.
 fn put_lost(pen: &mut Pen, ending: &Ending) {
     pen.put("],\"lost\":[");
     for (place, group) in ending.lost.entries.values().enumerate() {
+        let (kind, to) = (Piece::Words(group.kind), Piece::Node(group.to));
         put_item(
             pen,
             place,
             "{\"kind\":\"%\",\"to\":\"%\",\"count\":%}",
-            &[
-                Piece::Words(group.kind),
-                Piece::Node(group.to),
-                Piece::U64(group.count),
-            ],
+            &[kind, to, Piece::U64(group.count)],
         );
     }
 }

@@ -113,14 +113,9 @@ fn tell_groups(pen: &mut Pen, title: &str, groups: &Table<(u8, Addr), Group>) {
     pen.number(title, total_of(groups));
     pen.say("\n");
     for group in groups.entries.values() {
-        pen.say_all(
-            "    % % to %:",
-            &[
-                Piece::U64(group.count),
-                Piece::Words(group.kind),
-                Piece::Node(group.to),
-            ],
-        );
+        pen.say("    ");
+        group.tell(pen);
+        pen.say(":");
         let numbers = group.numbers();
         for number in numbers {
             pen.number(" ", *number as u64);

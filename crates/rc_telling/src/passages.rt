@@ -19,18 +19,16 @@ pub(crate) struct Passages {
 }
 
 impl Passages {
-    /// An event sent so many more messages.
+    /// The event of this number sent so many more messages.
     pub(crate) fn send(
         &mut self,
         alloc: Global,
-        event: usize,
+        sent: usize,
         count: usize,
     ) -> Result<(), AllocError> {
         for _ in 0..count {
-            self.items.push(Passage {
-                sent: event,
-                delivered: Vec::new(alloc),
-            })?;
+            let delivered = Vec::new(alloc);
+            self.items.push(Passage { sent, delivered })?;
         }
         Ok(())
     }
@@ -45,10 +43,8 @@ impl Passages {
 
     /// Whether the message of this number was delivered before this event.
     pub(crate) fn is_delivered_before(&self, number: usize, event: usize) -> bool {
-        let first = self
-            .items
-            .get(number)
-            .and_then(|passage| passage.delivered.first());
+        let passage = self.items.get(number);
+        let first = passage.and_then(|passage| passage.delivered.first());
         first.is_some_and(|first| *first < event)
     }
 

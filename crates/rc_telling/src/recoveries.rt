@@ -9,8 +9,6 @@ use std::alloc::{AllocError, Global};
 /// An attempt to recover a master.
 #[derive(Clone, Copy)]
 struct Attempt {
-    /// Its number.
-    number: u32,
     /// How many servers it has asked.
     asked: u64,
     /// How many answers have come.
@@ -22,6 +20,8 @@ struct Attempt {
 /// A part of a plan.
 #[derive(Clone, Copy)]
 struct Given {
+    /// Its term.
+    term: u32,
     /// The attempt.
     attempt: u32,
     /// Who is to recover it.
@@ -30,19 +30,6 @@ struct Given {
     is_recovered: bool,
     /// Whether it was granted.
     is_granted: bool,
-}
-
-/// How far a part has come that was not granted.
-#[derive(Clone, Copy)]
-enum Stage {
-    /// The plan has not reached who is to recover it.
-    Planned,
-    /// This segment has not come from there.
-    Fetching(u16, Addr),
-    /// All of it has come.
-    Fetched,
-    /// The coordinator was told that it is recovered.
-    Recovered,
 }
 
 /// The recoveries of a run.
@@ -117,7 +104,6 @@ impl Recoveries {
     fn ask(&mut self, number: u32, master: ServerId) -> Result<(), AllocError> {
         self.newest.put(master, number)?;
         let mut attempt = self.attempts.find(number).unwrap_or(Attempt {
-            number,
             asked: 0,
             answers: 0,
             is_decided: false,
@@ -133,6 +119,7 @@ impl Recoveries {
         }
         for part in parts {
             let given = Given {
+                term: part.term,
                 attempt: number,
                 to,
                 is_recovered: false,
@@ -144,33 +131,16 @@ impl Recoveries {
     }
 
     /// How many parts of this attempt were not granted, and the first of them by its term.
-    fn missing(&self, attempt: u32) -> (u64, Option<(u32, Given)>) {
+    fn missing(&self, attempt: u32) -> (u64, Option<Given>) {
         let mut count = 0u64;
         let mut first = None;
-        for (term, part) in &self.parts.entries {
+        for part in self.parts.entries.values() {
             if part.attempt == attempt && !part.is_granted {
                 count = count.saturating_add(1);
-                first = first.or(Some((*term, *part)));
+                first = first.or(Some(*part));
             }
         }
         (count, first)
-    }
-
-    /// How far a part has come.
-    fn stage(&self, term: u32, part: &Given) -> Stage {
-        if part.is_recovered {
-            return Stage::Recovered;
-        }
-        let mut stage = Stage::Planned;
-        for (place, fetch) in &self.fetches.entries {
-            if place.0 == term {
-                if !fetch.1 {
-                    return Stage::Fetching(place.1, fetch.0);
-                }
-                stage = Stage::Fetched;
-            }
-        }
-        stage
     }
 }
 
@@ -181,32 +151,24 @@ pub(crate) fn tell_recoveries(
     servers: &Servers,
     waits: bool,
 ) {
-    for (master, number) in &recoveries.newest.entries {
-        let attempt = recoveries.attempts.find(*number);
+    for (master, newest) in &recoveries.newest.entries {
+        let attempt = recoveries.attempts.find(*newest);
+        let (id, number) = (Piece::Id(*master), Piece::U32(*newest));
         if let Some(attempt) = attempt.filter(|attempt| !attempt.is_decided) {
+            let (answers, asked) = (Piece::U64(attempt.answers), Piece::U64(attempt.asked));
             pen.say_all(
                 "hint: the recovery of % (attempt %) has no plan: answers have come to % of % Gathers; it takes a \
                  decide, once they suffice\n",
-                &[
-                    Piece::Id(*master),
-                    Piece::U32(attempt.number),
-                    Piece::U64(attempt.answers),
-                    Piece::U64(attempt.asked),
-                ],
+                &[id, number, answers, asked],
             );
-        } else if let (count, Some((term, part))) = recoveries.missing(*number) {
+        } else if let (count, Some(part)) = recoveries.missing(*newest) {
             pen.say_all(
                 "hint: the recovery of % (attempt %) is not at its end: parts that were not granted: %; the first is \
                  to be recovered by %",
-                &[
-                    Piece::Id(*master),
-                    Piece::U32(*number),
-                    Piece::U64(count),
-                    Piece::Node(part.to),
-                ],
+                &[id, number, Piece::U64(count), Piece::Node(part.to)],
             );
             if servers.is_there(part.to) {
-                tell_stage(pen, *master, recoveries.stage(term, &part), servers, waits);
+                tell_stage(pen, *master, &part, recoveries, servers, waits);
             } else {
                 tell_gone(pen, *master);
             }
@@ -217,32 +179,36 @@ pub(crate) fn tell_recoveries(
 
 /// Who is needed for the recovery of this master is gone.
 fn tell_gone(pen: &mut Pen, master: ServerId) {
-    pen.say_all(
-        ", which runs no longer: suspect % once more",
-        &[Piece::Id(master)],
-    );
+    pen.id(", which runs no longer: suspect ", master);
+    pen.say(" once more");
 }
 
-/// How far a part has come, and what it waits for.
-fn tell_stage(pen: &mut Pen, master: ServerId, stage: Stage, servers: &Servers, waits: bool) {
-    match stage {
-        Stage::Planned => pen.say(", which the plan has not reached"),
-        Stage::Fetching(seg, from) => {
-            pen.say_all(
-                ", which waits for segment % from %",
-                &[Piece::U16(seg), Piece::Node(from)],
-            );
-            if !servers.is_there(from) {
-                tell_gone(pen, master);
-            }
+/// How far a part has come that was not granted, and what it waits for.
+fn tell_stage(
+    pen: &mut Pen,
+    master: ServerId,
+    part: &Given,
+    recoveries: &Recoveries,
+    servers: &Servers,
+    waits: bool,
+) {
+    let fetches = &recoveries.fetches.entries;
+    let is_asked_for = fetches.keys().any(|place| place.0 == part.term);
+    let mut all = fetches.iter();
+    let missing = all.find(|(place, fetch)| place.0 == part.term && !fetch.1);
+    if part.is_recovered {
+        pen.say(", which has told the coordinator that it has it, and waits for the answer");
+    } else if !is_asked_for {
+        pen.say(", which the plan has not reached");
+    } else if let Some((place, fetch)) = missing {
+        let (seg, from) = (Piece::U16(place.1), Piece::Node(fetch.0));
+        pen.say_all(", which waits for segment % from %", &[seg, from]);
+        if !servers.is_there(fetch.0) {
+            tell_gone(pen, master);
         }
-        Stage::Fetched => {
-            pen.say(", which has read all of it, and waits until its own backups have stored it");
-            tell_unsuspected(pen, servers, waits);
-        }
-        Stage::Recovered => {
-            pen.say(", which has told the coordinator that it has it, and waits for the answer");
-        }
+    } else {
+        pen.say(", which has read all of it, and waits until its own backups have stored it");
+        tell_unsuspected(pen, servers, waits);
     }
 }
 
@@ -250,14 +216,12 @@ fn tell_stage(pen: &mut Pen, master: ServerId, stage: Stage, servers: &Servers, 
 /// suspected and runs.
 fn tell_unsuspected(pen: &mut Pen, servers: &Servers, waits: bool) {
     if let Some(id) = servers.first(false, false) {
-        pen.say_all(
-            "; % has stopped and was not suspected, so its place is not filled",
-            &[Piece::Id(id)],
-        );
+        pen.id("; ", id);
+        pen.say(" has stopped and was not suspected, so its place is not filled");
     } else if let (false, Some(id)) = (waits, servers.first(true, true)) {
-        pen.say_all(
-            "; % was suspected and runs: once it is stopped and its host is started, that can be one",
-            &[Piece::Id(id)],
+        pen.id("; ", id);
+        pen.say(
+            " was suspected and runs: once it is stopped and its host is started, that can be one",
         );
     }
 }

@@ -70,11 +70,9 @@ impl Servers {
     }
 
     /// An event starts the next server of a host, which does not run.
-    fn start(&mut self, host: u8, event: usize) -> Result<ServerId, AllocError> {
-        let id = ServerId {
-            index: host,
-            generation: self.generation(host).saturating_add(1),
-        };
+    fn start(&mut self, index: u8, event: usize) -> Result<ServerId, AllocError> {
+        let generation = self.generation(index).saturating_add(1);
+        let id = ServerId { index, generation };
         let place = self.items.len();
         self.items.push(Server {
             id,
@@ -83,7 +81,7 @@ impl Servers {
             suspected: None,
             acknowledged: 0,
         })?;
-        if let Some(newest) = self.newest.get_mut(usize::from(host)) {
+        if let Some(newest) = self.newest.get_mut(usize::from(index)) {
             *newest = Some(place);
         }
         Ok(id)

@@ -109,59 +109,42 @@ impl Known {
 
     /// Why this message, when it reaches its addressee, which runs, will come to nothing, if that can be told.
     pub(crate) fn why(&self, message: &Message) -> Option<Silence> {
-        match (message.to, message.from) {
-            (Addr::Server(to), Addr::Server(from)) => self.why_between(from, to, &message.body),
-            (Addr::Server(to), _) => self.why_at(to, &message.body),
-            (Addr::Coordinator, _) => self.why_at_coordinator(&message.body),
-            (Addr::Outside, _) => None,
+        match (message.to, message.from, &message.body) {
+            (
+                Addr::Server(to),
+                Addr::Server(from),
+                Body::Place { seg, .. } | Body::Append { seg, .. } | Body::Close { seg, .. },
+            ) => Some(match self.fences.find((to, from)) {
+                Some(attempt) => Silence::Fenced(attempt),
+                None if self.freed.has((to, from, *seg)) => Silence::Freed(*seg),
+                None => Silence::NoReplica,
+            }),
+            (Addr::Server(to), _, body) => self.why_at_master(to, body),
+            (Addr::Coordinator, _, Body::Replicas { attempt, .. }) => self.why_stale(*attempt),
+            _ => None,
         }
     }
 
-    /// Of a message from one server to another.
-    fn why_between(&self, from: ServerId, to: ServerId, body: &Body) -> Option<Silence> {
-        match body {
-            Body::Place { seg, .. } | Body::Append { seg, .. } | Body::Close { seg, .. } => {
-                Some(match self.fences.find((to, from)) {
-                    Some(attempt) => Silence::Fenced(attempt),
-                    None if self.freed.has((to, from, *seg)) => Silence::Freed(*seg),
-                    None => Silence::NoReplica,
-                })
-            }
-            Body::Stored { seg, epoch, .. } => self.why_not_noted(to, *seg, *epoch),
-            _ => self.why_not_heard(to),
-        }
-    }
-
-    /// Of what a master is told of a segment.
-    fn why_not_noted(&self, master: ServerId, seg: u16, epoch: u16) -> Option<Silence> {
-        match self.epochs.find((master, seg)) {
-            Some(newest) if newest > epoch => Some(Silence::OlderEpoch(newest)),
-            _ => self.why_not_heard(master),
-        }
-    }
-
-    /// Of what comes to a master that may be deposed.
-    fn why_not_heard(&self, master: ServerId) -> Option<Silence> {
-        self.deposed.find(master).map(|_| Silence::Deposed)
-    }
-
-    /// Of a message from the coordinator or the outside to a server.
-    fn why_at(&self, to: ServerId, body: &Body) -> Option<Silence> {
+    /// Of a message to a server as a master, which may be deposed.
+    fn why_at_master(&self, to: ServerId, body: &Body) -> Option<Silence> {
         let known = self.list_of(to);
-        match body {
+        let silence = match body {
             Body::List { version, .. } if *version <= known => Some(Silence::OlderList(known)),
-            Body::CommitOk { seg, epoch } => self.why_not_noted(to, *seg, *epoch),
-            _ => self.why_not_heard(to),
-        }
+            Body::Stored { seg, epoch, .. } | Body::CommitOk { seg, epoch } => {
+                let newest = self.epochs.find((to, *seg));
+                newest
+                    .filter(|newest| *newest > *epoch)
+                    .map(Silence::OlderEpoch)
+            }
+            _ => None,
+        };
+        silence.or(self.deposed.find(to).map(|_| Silence::Deposed))
     }
 
-    /// Of a message to the coordinator.
-    fn why_at_coordinator(&self, body: &Body) -> Option<Silence> {
-        let Body::Replicas { attempt, .. } = body else {
-            return None;
-        };
-        let newest = self.newest.find(self.attempts.find(*attempt)?)?;
-        (newest > *attempt).then_some(Silence::StaleAttempt(newest))
+    /// Of an answer to the coordinator in this attempt.
+    fn why_stale(&self, attempt: u32) -> Option<Silence> {
+        let newest = self.newest.find(self.attempts.find(attempt)?)?;
+        (newest > attempt).then_some(Silence::StaleAttempt(newest))
     }
 }
 

@@ -84,7 +84,11 @@ impl Notes {
         let silence = self.silence_of(event, &step, messages);
         let started = self.servers.take(event, number)?;
         if let Event::Deliver(message) = event {
-            self.note_delivery(*message, number, messages)?;
+            self.passages.deliver(*message, number)?;
+            let delivered = messages.get(*message);
+            if let Some(heard) = delivered.filter(|message| self.servers.is_there(message.to)) {
+                self.known.deliver(heard)?;
+            }
         }
         let sent = messages.get(step.first..).unwrap_or(&[]);
         self.passages.send(alloc, number, sent.len())?;
@@ -115,20 +119,6 @@ impl Notes {
             return None;
         }
         self.known.why(message)
-    }
-
-    /// Notes that the event of this number delivered a message.
-    fn note_delivery(
-        &mut self,
-        message: usize,
-        number: usize,
-        messages: &[Message],
-    ) -> Result<(), AllocError> {
-        self.passages.deliver(message, number)?;
-        match messages.get(message) {
-            Some(delivered) if self.servers.is_there(delivered.to) => self.known.deliver(delivered),
-            _ => Ok(()),
-        }
     }
 }
 

@@ -42,19 +42,12 @@ pub(crate) fn wait_of<'a>(
     };
     match master.phase {
         Phase::Opening => wait_at(head, Missing::Told),
-        Phase::Closing => wait_of_closing(head, segments),
+        // the head is placed; the segment before it is being closed, or the head's epoch is not committed
+        Phase::Closing => match segments.iter().rev().nth(1) {
+            Some(old) if !old.is_shut => wait_at(old, Missing::Closed),
+            _ => wait_at(head, Missing::Told),
+        },
         Phase::Writing => wait_at(head, Missing::Length(head.len)),
-    }
-}
-
-/// The head is placed; the segment before it is being closed, or the head's epoch is not committed.
-fn wait_of_closing<'a>(
-    head: &'a SegmentStanding,
-    segments: &'a [SegmentStanding],
-) -> Option<Wait<'a>> {
-    match segments.iter().rev().nth(1) {
-        Some(old) if !old.is_shut => wait_at(old, Missing::Closed),
-        _ => wait_at(head, Missing::Told),
     }
 }
 
@@ -70,10 +63,7 @@ fn wait_at(segment: &SegmentStanding, missing: Missing) -> Option<Wait<'_>> {
         let missing = if is_empty { Missing::Told } else { missing };
         return Some(Wait::Members(segment, missing));
     }
-    if segment.is_committed {
-        return None;
-    }
-    Some(Wait::Commit(segment))
+    (!segment.is_committed).then_some(Wait::Commit(segment))
 }
 
 /// Whether this member has not told this.

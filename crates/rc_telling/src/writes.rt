@@ -58,7 +58,14 @@ impl Writes {
         }
         for (event, (happened, turn)) in story.events.iter().zip(&story.notes.turns).enumerate() {
             if let Event::Deliver(message) = happened {
-                writes.judge(story.messages, event, *message, turn)?;
+                let message = *message;
+                if let Some(fate) = writes.fate(story.messages, message, turn) {
+                    writes.unanswered.push(Unanswered {
+                        event,
+                        message,
+                        fate,
+                    })?;
+                }
             }
         }
         Ok(writes)
@@ -89,31 +96,13 @@ impl Writes {
         Ok(())
     }
 
-    /// Notes the message of this number, which this event delivers, where it is a write that was not acknowledged.
-    fn judge(
-        &mut self,
-        messages: &[Message],
-        event: usize,
-        message: usize,
-        turn: &Turn,
-    ) -> Result<(), AllocError> {
-        let Some(delivered) = messages.get(message) else {
-            return Ok(());
+    /// What became of the message of this number, which this turn delivered, where it is a write that was not
+    /// acknowledged.
+    fn fate(&self, messages: &[Message], message: usize, turn: &Turn) -> Option<Fate> {
+        let delivered = messages.get(message)?;
+        let (Addr::Server(master), Body::Write { .. }) = (delivered.to, &delivered.body) else {
+            return None;
         };
-        if let (Addr::Server(master), Body::Write { .. }) = (delivered.to, &delivered.body) {
-            if let Some(fate) = self.fate(messages, master, turn) {
-                self.unanswered.push(Unanswered {
-                    event,
-                    message,
-                    fate,
-                })?;
-            }
-        }
-        Ok(())
-    }
-
-    /// What became of a write to this master that this turn delivered; nothing, where it was acknowledged.
-    fn fate(&self, messages: &[Message], master: ServerId, turn: &Turn) -> Option<Fate> {
         if let Some(Silence::NotRunning) = turn.silence {
             return Some(Fate::Unheard);
         }

@@ -241,7 +241,7 @@ kept-look setup views id desk place k at =
           (record {
             own = mine.0;
             known = mine.1;
-            knows = record { seen = subst (StartsWith k.log) (sym whole) (starts-same); mine = mine.2.mine };
+            knows = record { seen = subst (StartsWith k.log) (sym whole) starts-same; mine = mine.2.mine };
           })) (λ by v differ there. k.each by v there);
     }
 
@@ -290,7 +290,7 @@ kept-add setup views id desk place event k at can =
             own = mine.0;
             known = mine.1;
             knows = record {
-              seen = subst (StartsWith log) (ap (λ l. l ++ event ∷ []) (sym whole)) (starts-same);
+              seen = subst (StartsWith log) (ap (λ l. l ++ event ∷ []) (sym whole)) starts-same;
               mine = events_of-own setup (name_at place.node) k.log event may.0 may.1 ∙ ap (λ l. l ++ event ∷ []) mine.2.mine;
             };
           })) (λ by v differ there.

@@ -393,7 +393,7 @@ pub grows-later : (old new : SeatData) → Later old new → Grows old new
 grows-later old new l = record {
   name = ap (λ (s : SeatData). s.name) l.same;
   seen = l.seen;
-  mine = subst (λ (m : List Event). StartsWith m old.mine) (sym (ap (λ (s : SeatData). s.mine) l.same)) (starts-same);
+  mine = subst (λ (m : List Event). StartsWith m old.mine) (sym (ap (λ (s : SeatData). s.mine) l.same)) starts-same;
 }
 
 pub progress-later : (setup : Setup) (start : SeatData) (steps : List Step) (at from : ℕ) (old new : SeatData) →

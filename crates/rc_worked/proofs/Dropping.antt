@@ -10,10 +10,9 @@ use Rattle.rc_worked.specs.Happening.{ack, freed_plan, freed_acks}
 -- where this plan was accepted, and these writes were acknowledged, the first of them is at its own place no more
 pub first-dropped : (sent : List Message) → accepted sent ≡ freed_plan ∷ [] → acknowledged sent (id 0 1) ≡ freed_acks →
     NothingIsDropped sent → ⊥
-first-dropped sent plans acks all = true_false (sym (held-is_recovered freed_plan.rows 1 0 there.held))
+first-dropped sent plans acks all = true_false (sym (held-is_recovered there.held))
   where
     there : IsThereItself sent freed_plan (ack 1 0 1 1 1)
-    there = all freed_plan
-        (WasAccepted-from sent freed_plan (subst (In freed_plan) (sym plans) (inl refl)))
+    there = all freed_plan (WasAccepted-from sent freed_plan (subst (In freed_plan) (sym plans) (inl refl)))
         (ack 1 0 1 1 1)
         (HasAcknowledged-from sent (id 0 1) (ack 1 0 1 1 1) (subst (In (ack 1 0 1 1 1)) (sym acks) (inl refl)))

@@ -178,7 +178,7 @@ acknowledged-was-asked setup events m ack acked = by (oks-of m (counted_places l
       version = sym says.version;
       asked = subst (λ t. WasToldToWrite (replay setup events).sent m t ack.key place.entry.value) (sym says.table)
           (subst (λ k. WasToldToWrite (replay setup events).sent m place.entry.table k place.entry.value) (sym says.key)
-          (kept-replay setup ClientsAsked (clients-kept) events m place
+          (kept-replay setup ClientsAsked clients-kept events m place
           (In-from_take log.durable (places_of log) place among) client));
     }
       where

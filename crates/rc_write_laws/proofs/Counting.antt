@@ -242,4 +242,4 @@ acked-kept : {setup : Setup} → IsKeptByAll setup Acked
 acked-kept = search (arith, acked-others, acked-after, acks-takes, acks-ticks)
 
 pub counted-is-acknowledged : CountedIsAcknowledged
-counted-is-acknowledged setup events m = kept-replay setup Acked (acked-kept) events m
+counted-is-acknowledged setup events m = kept-replay setup Acked acked-kept events m

@@ -30,9 +30,8 @@ TellsWhole log from body = Unit {0}
 takes_first-input : (master : Master) (from : Addr) (body : Body) → TellsWhole master.log from body →
     OfLog InputOk master (master_takes_first master from body)
 takes_first-input master from body tells =
-    kept-takes_first (OfLog InputOk) (of_log-joined InputOk inputs) (of_log-listed InputOk inputs listed) master from body
-    (of_log-taken InputOk inputs written master from body
-    (λ teller seg epoch len closed is told. input-stored teller epoch
+    kept-takes_first (OfLog InputOk) (of_log-joined InputOk inputs) (of_log-listed InputOk inputs listed) from body
+    (of_log-taken InputOk inputs written (λ teller seg epoch len closed is told. input-stored teller epoch
     (subst (λ (says : Body). TellsWhole master.log (Server teller) says) told
     (subst (λ (sender : Addr). TellsWhole master.log sender body) is tells)))
     (λ seg epoch is. input-commit_noted seg epoch))

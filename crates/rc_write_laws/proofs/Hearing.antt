@@ -97,7 +97,7 @@ module _ (P : ServerId → ℕ → Type 0) where
           either (λ (now : Member). is_some now.told ≡ true → P now.id config.epoch) (is_heard from was)
           (record was { told = Some (told_with was.told len closed) }) was
           (λ is _. subst (λ (id : ServerId). P id config.epoch)
-          (same_id-true from was.id (and_parts (same_id from was.id) (not was.lost) is).0) (subst (P from) same said))
+          (same_id-true (and_parts (same_id from was.id) (not was.lost) is).0) (subst (P from) same said))
           (λ _ told. heard was there told)
 
       by : epoch ≡ config.epoch → (member : Member) → is_some member.told ≡ true →
@@ -182,8 +182,7 @@ module _ (Q : ℕ → ServerId → ℕ → Type 0) where
       Q seg teller epoch) → HeardAll master.log → HeardAll (master_takes master from body).0.log
   takes-heard master {from} {body} said =
       kept-takes (OfLog Keeps) (of_log-joined Keeps keeps-joined) (of_log-listed Keeps keeps-joined keeps-listed)
-      (of_log-followed Keeps keeps-joined keeps-written keeps-followed) master from body
-      (of_log-taken Keeps keeps-joined keeps-written master from body
+      (of_log-followed Keeps keeps-joined keeps-written keeps-followed) (of_log-taken Keeps keeps-joined keeps-written
       (λ teller seg epoch len closed is says. keeps-if master.log (has_segment master.log seg)
       (noted teller epoch len closed (master.log.segments seg).config)
       (heard-noted (Q seg) len closed (master.log.segments seg).config (said teller seg epoch len closed is says)))
@@ -238,7 +237,7 @@ members-have-told setup events {m} {s} {x} placed member = by ((log_of setup eve
     place = (good-world setup events).messages _ member.placed
 
     noted-is : (one : Member) → In one segment.config.members → HasToldOf (sent_after setup events) one.id m s segment.config.epoch
-    noted-is one at = kept-replay setup (λ sent m master. HeardAll (Told sent m) master.log) (heard-all) events m s one at
+    noted-is one at = kept-replay setup (λ sent m master. HeardAll (Told sent m) master.log) heard-all events m s one at
         (and_parts (not one.lost) (is_some one.told) (all-each is_placed one segment.config.members placed at)).1
 
     by : (b : Bool) → segment.shut ≡ b → HasToldOf (sent_after setup events) x m s segment.config.epoch

@@ -43,7 +43,7 @@ of_setup-kept : {setup : Setup} → IsKeptByAll setup (OfSetup setup)
 of_setup-kept = search (arith, after-step, takes-kept, limits-kept, tick-kept)
 
 pub logs-stay-within-limits : LogsStayWithinLimits
-logs-stay-within-limits setup events m = (kept-replay setup (OfSetup setup) (of_setup-kept) events m).limits
+logs-stay-within-limits setup events m = (kept-replay setup (OfSetup setup) of_setup-kept events m).limits
 
 pub segments-take-what-is-set-up : SegmentsTakeWhatIsSetUp
-segments-take-what-is-set-up setup events m = (kept-replay setup (OfSetup setup) (of_setup-kept) events m).size
+segments-take-what-is-set-up setup events m = (kept-replay setup (OfSetup setup) of_setup-kept events m).size

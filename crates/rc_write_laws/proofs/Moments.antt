@@ -47,7 +47,7 @@ among-more {old} {new} (n ∷ ns) each =
 among-further : (segments others : List Segment) → durable_among segments ≤ durable_among (segments ++ others)
 among-further [] others = omega arith
 among-further (segment ∷ segments) others = first-more segment segment (durable_among segments)
-    (durable_among (segments ++ others)) (more-same) (among-further segments others)
+    (durable_among (segments ++ others)) more-same (among-further segments others)
 
 numbers-more : (n d : ℕ) → (rest : List ℕ) × (numbers_to (d + n) ≡ numbers_to n ++ rest)
 numbers-more n zero = ([], (let e : 0 + n ≡ n = omega arith in ap numbers_to e) ∙ sym (append-nil (numbers_to n)))
@@ -101,8 +101,7 @@ follows-more : {old new : Log} → new.durable ≡ old.durable → old.head ≤ 
 follows-more {old} {new} same upto each = record {
   now = now-more old new upto each;
   rises = omega (arith, same);
-  count
-      = omega (arith, same);
+  count = omega (arith, same);
 }
 
 follows-put : {log : Log} (seg : ℕ) {segment : Segment} → SegmentMore (log.segments seg) segment →
@@ -114,7 +113,7 @@ follows-put {log} seg {segment} more = follows-more refl (omega arith)
 follows-opens : {log : Log} (digest : List ℕ) (ids : List ServerId) → Follows log (opens_head log digest ids)
 follows-opens {log} digest ids = follows-more refl (omega arith) (λ s upto. subst (SegmentMore (log.segments s))
     (sym (put-beside log.segments (new_segment (log.head + 1) digest ids)
-    (λ same. absurd (omega (arith, same, upto))))) (more-same))
+    (λ same. absurd (omega (arith, same, upto))))) more-same)
 
 follows-appends : (entry : Entry) (client : Bool) {log : Log} → Follows log (appends entry client log)
 follows-appends entry client {log} = search (arith, follows-put, length_push)
@@ -128,7 +127,7 @@ follows-freed (seg ∷ segs) {log} =
 
 follows-phase : {log new : Log} → new.durable ≡ log.durable → new.head ≡ log.head → new.segments ≡ log.segments → Follows log new
 follows-phase {log} durable head segments = follows-more durable (omega (arith, head))
-    (λ s upto. subst (λ (table : ℕ → Segment). SegmentMore (log.segments s) (table s)) (sym segments) (more-same))
+    (λ s upto. subst (λ (table : ℕ → Segment). SegmentMore (log.segments s) (table s)) (sym segments) more-same)
 
 -- The rules
 
@@ -185,7 +184,7 @@ takes-counts : (master : Master) (from : Addr) (body : Body) → Counts master.l
 takes-counts master from body =
     either (λ (after : Master × List Message). Counts master.log after.0.log) master.deposed (deposed_takes master body)
     (then_does (master_takes_first master from body) goes_on)
-    (λ _. subst (λ (after : Master). Counts master.log after.log) (sym (same-deposed master body)) (counts-same))
+    (λ _. subst (λ (after : Master). Counts master.log after.log) (sym (same-deposed body)) counts-same)
     (λ _. then-counts (master_takes_first master from body)
     (first-kept_by (λ entry. Unit {0}) CountStays count-kept master from body (λ table key value under e. tt)))
 

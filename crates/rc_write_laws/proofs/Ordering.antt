@@ -189,7 +189,7 @@ order-kept = record {
 
 pub commits-are-asked-in-order : CommitsAreAskedInOrder
 commits-are-asked-in-order setup events m s e t at above less =
-    ((kept-replay setup InOrder (order-kept) events m).said s e at).shut t above less
+    ((kept-replay setup InOrder order-kept events m).said s e at).shut t above less
 
 -- and of segments that are placed
 in-drop : {X : Type 0} (x : X) (n : ℕ) (xs : List X) → In x (drop n xs) → In x xs

@@ -84,7 +84,7 @@ told-alike : {log : Log} (seg : ℕ) (segment : Segment) → segment.entries ≡
 told-alike {log} seg segment entries shut config told = told-config seg segment entries shut
     (subst (λ (one : Config). FromMembers (log.segments seg).config.members one.members) (sym config)
     (from-same (log.segments seg).config.members))
-    (subst (λ (one : Config). StaySome (log.segments seg).config.members one.members) (sym config) (some-same)) told
+    (subst (λ (one : Config). StaySome (log.segments seg).config.members one.members) (sym config) some-same) told
 
 -- Members
 
@@ -183,9 +183,9 @@ input-commit_noted seg epoch {log} =
     (nat_eq epoch (log.segments seg).config.epoch) (record (log.segments seg).config { committed = true })
     (log.segments seg).config (λ _. input-members seg
     (record (log.segments seg) { config = record (log.segments seg).config { committed = true } }) refl refl
-    (from-same (log.segments seg).config.members) (some-same))
+    (from-same (log.segments seg).config.members) some-same)
     (λ _. input-members seg (record (log.segments seg) { config = (log.segments seg).config }) refl refl
-    (from-same (log.segments seg).config.members) (some-same))) (λ _. input-refl log)
+    (from-same (log.segments seg).config.members) some-same)) (λ _. input-refl log)
 
 -- what was told closed is all of a segment below the head
 abbrev pub IsWholeTold : Log → ℕ → ℕ → Bool → Type 0
@@ -203,7 +203,7 @@ input-stored {seg} from epoch {len} {closed} {log} whole =
       config = record (log.segments seg).config
           { members = map (told_if_heard from len closed) (log.segments seg).config.members };
     }) refl heard) (λ _. input-members seg (record (log.segments seg) { config = (log.segments seg).config }) refl refl
-    (from-same (log.segments seg).config.members) (some-same))) (λ _. input-refl log)
+    (from-same (log.segments seg).config.members) some-same)) (λ _. input-refl log)
   where
     one : (member : Member) →
         (told_closed member.told ≡ true → (seg < log.head) × (length (log.segments seg).entries ≤ told_len member.told))

@@ -36,7 +36,7 @@ pub record IsKept (Asked : Entry → Type 0) (R : Master → Master × List Mess
 
 module _ (Asked : Entry → Type 0) (R : Master → Master × List Message → Type 0) (kept : IsKeptByInputs Asked R) where
   joined : Joined R
-  joined = record { still = λ master. kept.quiet master master [] (quiet-refl) soft-none; both = kept.both }
+  joined = record { still = λ master. kept.quiet master master [] quiet-refl soft-none; both = kept.both }
 
   -- the log is as it was, and this is said
   says : {master new : Master} {message : Message} → QuietLog master.log new.log → is_loud message.body ≡ false →
@@ -45,7 +45,7 @@ module _ (Asked : Entry → Type 0) (R : Master → Master × List Message → T
 
   -- the log is as it was, and nothing is said
   same : {master new : Master} → new.log ≡ master.log → R master (new, [])
-  same {master} {new} is = kept.quiet master new [] (subst (QuietLog master.log) (sym is) (quiet-refl)) soft-none
+  same {master} {new} is = kept.quiet master new [] (subst (QuietLog master.log) (sym is) quiet-refl) soft-none
 
   opens : (master : Master) (digest : List ℕ) (ids : List ServerId) → master.log.head < LAST_SEGMENT →
       R master (with_log master (opens_head master.log digest ids), places_head (opens_head master.log digest ids))
@@ -64,18 +64,18 @@ module _ (Asked : Entry → Type 0) (R : Master → Master × List Message → T
 
   taken : {master : Master} {from : Addr} {body : Body} → WritesAsked master body → Taken R master from body
   taken {master} asked = record {
-    refuses = λ one fault. says (quiet-refl) refl;
+    refuses = λ one fault. says quiet-refl refl;
     rolls = rolls master;
     writes = λ term table key value is owned writing room.
         kept.appends master (written master term table key value) true room (λ _. asked table key value term is);
-    reads = λ term table key is owned. says (quiet-refl) refl;
+    reads = λ term table key is owned. says quiet-refl refl;
     lists = λ version rows is newer. same refl;
     stores = λ teller seg epoch len closed is told. kept.quiet master (with_log master (stored seg teller epoch len closed master.log)) []
         (quiet-stored seg teller epoch len closed) soft-none;
     commits = λ seg epoch is. kept.quiet master (with_log master (commit_noted seg epoch master.log)) []
         (quiet-commit_noted seg epoch) soft-none;
     deposes = same refl;
-    begins = λ one attempt crashed head rows parts part is at new. kept.quiet one _ _ (quiet-refl)
+    begins = λ one attempt crashed head rows parts part is at new. kept.quiet one _ _ quiet-refl
         (soft-all _ (each-map is_soft _ rows (λ row _. refl)));
     comes = λ holder attempt seg term entries is says. same refl;
     owns = λ range term previous attempt is. same refl;
@@ -83,7 +83,7 @@ module _ (Asked : Entry → Type 0) (R : Master → Master × List Message → T
 
   pub first-kept_by : (master : Master) (from : Addr) (body : Body) → WritesAsked master body →
       R master (master_takes_first master from body)
-  first-kept_by master from body asked = kept-takes_first R joined listed master from body (taken asked)
+  first-kept_by master from body asked = kept-takes_first R joined listed from body (taken asked)
 
   -- The timer
 
@@ -92,7 +92,7 @@ module _ (Asked : Entry → Type 0) (R : Master → Master × List Message → T
       told _ (ready_again master) (told _ (recovered_again master) (told _ (fetches_again master master.tasks)
       (kept.both master master (reminds_open before master.log (numbers_to master.log.head) ++
       reminds_shut before master.log (numbers_to master.log.head)) (master, commits_again master.log)
-      (kept.quiet master master _ (quiet-refl) (soft-all _ (each-copies is_soft master.log (record {
+      (kept.quiet master master _ quiet-refl (soft-all _ (each-copies is_soft master.log (record {
         place = λ member seg closed at shut among. refl;
         append = λ member seg len at. refl;
         close = λ member seg at old. refl;
@@ -105,10 +105,10 @@ module _ (Asked : Entry → Type 0) (R : Master → Master × List Message → T
       -- this is said besides, and the view stays
       told : (first second : List Message) → R master (master, first) → Each is_soft second → R master (master, first ++ second)
       told first second p soft =
-          kept.both master master first (master, second) p (kept.quiet master master second (quiet-refl) (soft-all second soft))
+          kept.both master master first (master, second) p (kept.quiet master master second quiet-refl (soft-all second soft))
 
   ticked : Ticked R
-  ticked = record { enlists = λ master. says (quiet-refl) refl; reminds = reminds-kept }
+  ticked = record { enlists = λ master. says quiet-refl refl; reminds = reminds-kept }
 
   pub ticks-kept_by : (master : Master) → R master (ticks master)
   ticks-kept_by = kept-ticks_first R joined listed ticked
@@ -119,15 +119,15 @@ module _ (Asked : Entry → Type 0) (R : Master → Master × List Message → T
     marks = λ master is. kept.inputs.quiet master _ []
         (quiet-put (master.log.head - 1) (record (old_head_of master.log) { shut = true }) refl (λ e. refl) (λ e. e) (λ e. e))
         soft-none;
-    starts = λ master may. says Asked R kept.inputs (quiet-phase) refl;
-    places = λ master may. kept.inputs.quiet master (with_log master (closes_old master.log)) [] (quiet-phase) soft-none;
+    starts = λ master may. says Asked R kept.inputs quiet-phase refl;
+    places = λ master may. kept.inputs.quiet master (with_log master (closes_old master.log)) [] quiet-phase soft-none;
     closes = λ master due. kept.inputs.quiet master (with_log master (close_marked master.log)) _
         (quiet-put (master.log.head - 1) (with_closes_sent (old_head_of master.log)) refl (λ e. e) (λ e. e) (λ e. e))
         (soft-ids master.log.own
         (ids_of (filter (is_unclosed (old_head_of master.log)) (old_head_of master.log).config.members))
         (Close (master.log.head - 1) (length (old_head_of master.log).entries)) refl);
     shuts = λ master may. kept.inputs.quiet master (with_log master (writes_on master.log))
-        (frees_segments master.log (left_out master.log)) (quiet-trans (quiet-phase)
+        (frees_segments master.log (left_out master.log)) (quiet-trans quiet-phase
         (quiet-freed (left_out master.log)))
         (soft-all _ (each-frees is_soft master.log (left_out master.log) (λ seg id at. refl)));
     commits = λ master seg open_one wants. kept.commits master seg open_one;
@@ -139,7 +139,7 @@ module _ (Asked : Entry → Type 0) (R : Master → Master × List Message → T
         (same Asked R kept.inputs refl)
         (kept.inputs.appends (record master { ownership = after_replay master.ownership }) entry false room
         (λ never. true_false (sym never)));
-    answers = λ master term is. says Asked R kept.inputs (quiet-refl) refl;
+    answers = λ master term is. says Asked R kept.inputs quiet-refl refl;
   }
 
   -- a message: by a Write only what was asked is appended for a client
@@ -147,7 +147,7 @@ module _ (Asked : Entry → Type 0) (R : Master → Master × List Message → T
       ((table key : ℕ) (value : Option (List ℕ)) (under : ℕ) → body ≡ Write table key value →
       Asked (written master under table key value)) → R master (master_takes master from body)
   takes-kept {master} from {body} asked =
-      kept-takes R (joined Asked R kept.inputs) (listed Asked R kept.inputs) followed master from body
+      kept-takes R (joined Asked R kept.inputs) (listed Asked R kept.inputs) followed
       (taken Asked R kept.inputs asked)
 
   pub tick-kept : (master : Master) → R master (master_ticks master)

@@ -1,5 +1,6 @@
 //! Which kind of event comes next.
 
+use crate::exploring::roster::KEYS;
 use rand_core::utils::NextWord;
 use rand_pcg::Pcg32;
 
@@ -22,6 +23,11 @@ impl Words {
             target: generator.next_word(),
             detail: generator.next_word(),
         }
+    }
+
+    /// The key that they choose.
+    pub(crate) fn key(self) -> u64 {
+        u64::from(self.target % KEYS as u32)
     }
 }
 

@@ -3,7 +3,7 @@
 use crate::exploring::choosing::{Choice, Words};
 use crate::exploring::mail::Mail;
 use crate::exploring::options::Options;
-use crate::exploring::roster::{KEYS, Roster};
+use crate::exploring::roster::Roster;
 use rand_pcg::Pcg32;
 use rc_survey::{Counts, Goal, Survey};
 use rc_types::{Addr, Body, Event, Fault, Seq, ServerId, Shared};
@@ -61,11 +61,7 @@ impl Exploration {
     /// # Errors
     ///
     /// `OutOfMemory` (F1): memory was refused.
-    pub fn toward(
-        alloc: Global,
-        options: &Options,
-        goal: Option<Goal>,
-    ) -> Result<Exploration, Fault> {
+    pub fn toward(alloc: Global, options: &Options, goal: Option<Goal>) -> Result<Self, Fault> {
         let mut run = Exploration {
             world: World::new(alloc, options.setup(alloc), alloc),
             survey: Survey::new(alloc),
@@ -91,7 +87,7 @@ impl Exploration {
     pub fn go_on(&mut self, alloc: Global, steps: usize) -> Result<(), Fault> {
         for _ in 0..steps.min(self.steps.saturating_sub(self.step)) {
             let words = Words::take(&mut self.generator);
-            if let Some(event) = self.event_of(alloc, self.step, words)? {
+            if let Some(event) = self.event_of(alloc, words)? {
                 self.take(alloc, &event)?;
             }
             self.step = self.step.saturating_add(1);
@@ -136,13 +132,13 @@ impl Exploration {
 
     /// The hosts are started, and a table is created.
     fn open(&mut self, alloc: Global) -> Result<(), Fault> {
-        for host in 0..self.roster.hosts() {
+        for host in 0..self.roster.hosts {
             let kept = Seq::new(alloc);
             self.take(alloc, &Event::Start { host, kept })?;
         }
         self.rest(alloc)?;
         let owner = self.roster.server(&self.world, 0);
-        let table = self.roster.table();
+        let table = self.roster.table;
         self.take(alloc, &Event::Create { table, owner })?;
         self.rest(alloc)
     }
@@ -187,13 +183,9 @@ impl Exploration {
     }
 
     /// The event that the words choose, if there is one.
-    fn event_of(
-        &mut self,
-        alloc: Global,
-        number: usize,
-        words: Words,
-    ) -> Result<Option<Event>, Fault> {
-        match self.choice(number, words) {
+    fn event_of(&mut self, alloc: Global, words: Words) -> Result<Option<Event>, Fault> {
+        let number = self.step;
+        match self.choice(words) {
             Choice::Write => {
                 let value = format!(in alloc; "{number}")?.into_bytes();
                 Ok(Some(self.write(Some(Shared::from_vec(alloc, value)?), words)))
@@ -207,8 +199,8 @@ impl Exploration {
             Choice::Suspect => self.suspect(words),
             Choice::Decide => Ok(self.decide(words)),
             Choice::Split => Ok(Some(Event::Split {
-                table: self.roster.table(),
-                at: u64::from(words.target % KEYS as u32),
+                table: self.roster.table,
+                at: words.key(),
             })),
             Choice::Create => Ok(self.create(words)),
             mail => self.delivery(mail, words),
@@ -217,10 +209,10 @@ impl Exploration {
 
     /// The kind of event. In the last third of the steps nothing crashes any more, and nothing is lost or held back:
     /// what was begun is decided.
-    fn choice(&self, number: usize, words: Words) -> Choice {
+    fn choice(&self, words: Words) -> Choice {
         match Choice::of(words.kind, self.mail.len()) {
-            Choice::Stop | Choice::Suspect if number >= self.calm => Choice::Decide,
-            Choice::Lose | Choice::Hold if number >= self.calm => Choice::Deliver,
+            Choice::Stop | Choice::Suspect if self.step >= self.calm => Choice::Decide,
+            Choice::Lose | Choice::Hold if self.step >= self.calm => Choice::Deliver,
             choice => choice,
         }
     }
@@ -252,34 +244,27 @@ impl Exploration {
 
     /// The server that is to be suspected: every second time one that owns a key, else any.
     fn suspected(&self, words: Words) -> ServerId {
-        let owner = self.roster.owner(&self.world, words.target as usize % KEYS);
+        let owner = self.roster.owner(&self.world, words.key());
         let owner = owner.filter(|_| words.detail % 2 == 0);
         owner.unwrap_or_else(|| self.server(words))
     }
 
     /// A write of this value at one of the keys, or a deletion. A value is the step's number in decimal digits.
     fn write(&self, value: Option<Shared<u8>>, words: Words) -> Event {
-        let key = words.target as usize % KEYS;
-        Event::Ask {
-            to: self.roster.asked(&self.world, key, words.detail),
-            body: Body::Write {
-                table: self.roster.table(),
-                key: key as u64,
-                value,
-            },
-        }
+        let (table, key) = (self.roster.table, words.key());
+        self.ask(Body::Write { table, key, value }, words)
     }
 
     /// A read of one of the keys.
     fn read(&self, words: Words) -> Event {
-        let key = words.target as usize % KEYS;
-        Event::Ask {
-            to: self.roster.asked(&self.world, key, words.detail),
-            body: Body::Read {
-                table: self.roster.table(),
-                key: key as u64,
-            },
-        }
+        let (table, key) = (self.roster.table, words.key());
+        self.ask(Body::Read { table, key }, words)
+    }
+
+    /// This is asked of a server that the words choose.
+    fn ask(&self, body: Body, words: Words) -> Event {
+        let to = self.roster.asked(&self.world, words.key(), words.detail);
+        Event::Ask { to, body }
     }
 
     /// A stop of a server that was suspected, and now and then of one that was not.
@@ -303,10 +288,8 @@ impl Exploration {
         if id.generation > 0 && !self.roster.is_suspected(id) {
             self.roster.suspect(id)?;
         }
-        Ok(Some(Event::Start {
-            host: id.index,
-            kept: Seq::from_vec(kept),
-        }))
+        let (host, kept) = (id.index, Seq::from_vec(kept));
+        Ok(Some(Event::Start { host, kept }))
     }
 
     /// A suspicion of a server that has stopped, or of one that lives; or once more of one that waits to be recovered.
@@ -330,16 +313,15 @@ impl Exploration {
         self.roster.crashed(words.target).map(Event::Decide)
     }
 
-    /// Another table, now and then.
+    /// Another table, now and then, which is written from then on.
     fn create(&mut self, words: Words) -> Option<Event> {
         let owner = self.server(words);
-        if words.detail % 8 > 0
-            || self.roster.is_suspected(owner)
-            || !self.world.is_running(owner)
-        {
+        let is_up = self.world.is_running(owner) && !self.roster.is_suspected(owner);
+        if words.detail % 8 > 0 || !is_up {
             return None;
         }
-        let table = self.roster.next_table();
+        let table = self.roster.table.saturating_add(1);
+        self.roster.table = table;
         Some(Event::Create { table, owner })
     }
 }

@@ -19,13 +19,6 @@ struct Crash {
     planned: bool,
 }
 
-/// A part of a plan: its term, and whose it was.
-#[derive(Clone, Copy)]
-struct Given {
-    term: u32,
-    master: ServerId,
-}
-
 /// The owners of a key of a table: the last two.
 #[derive(Clone, Copy)]
 struct Owners {
@@ -36,13 +29,16 @@ struct Owners {
 /// What the drawing knows of the servers.
 #[derive(Drop)]
 pub(crate) struct Roster {
-    hosts: u8,
+    /// How many hosts there are.
+    pub(crate) hosts: u8,
     factor: u8,
     suspected: [u32; MOST_HOSTS],
     crashes: Vec<Crash>,
-    given: Vec<Given>,
+    /// The parts of plans: the term of each, and whose it was.
+    given: Vec<(u32, ServerId)>,
     owned: Vec<ServerId>,
-    table: u32,
+    /// The table that is written.
+    pub(crate) table: u32,
     owners: [Owners; KEYS],
 }
 
@@ -70,29 +66,11 @@ impl Roster {
         }
     }
 
-    /// How many hosts there are.
-    pub(crate) fn hosts(&self) -> u8 {
-        self.hosts
-    }
-
-    /// The table that is written.
-    pub(crate) fn table(&self) -> u32 {
-        self.table
-    }
-
-    /// Another table, which is written from now on.
-    pub(crate) fn next_table(&mut self) -> u32 {
-        self.table = self.table.saturating_add(1);
-        self.table
-    }
-
     /// The newest server of the host that the word chooses.
     pub(crate) fn server(&self, world: &World<Global>, word: u32) -> ServerId {
         let index = word.checked_rem(self.hosts as u32).unwrap_or(0) as u8;
-        ServerId {
-            index,
-            generation: world.newest(index),
-        }
+        let generation = world.newest(index);
+        ServerId { index, generation }
     }
 
     /// Whether this server, or a later one of its host, was suspected.
@@ -159,14 +137,14 @@ impl Roster {
     }
 
     /// The last owner of this key, where it is the newest server of its host.
-    pub(crate) fn owner(&self, world: &World<Global>, key: usize) -> Option<ServerId> {
-        let id = self.owners.get(key)?.last;
+    pub(crate) fn owner(&self, world: &World<Global>, key: u64) -> Option<ServerId> {
+        let id = self.owners.get(key as usize)?.last;
         (world.newest(id.index) == id.generation).then_some(id)
     }
 
     /// The server that is asked for this key: mostly its owner, now and then the one before or anyone.
-    pub(crate) fn asked(&self, world: &World<Global>, key: usize, word: u32) -> ServerId {
-        let Some(owners) = self.owners.get(key) else {
+    pub(crate) fn asked(&self, world: &World<Global>, key: u64, word: u32) -> ServerId {
+        let Some(owners) = self.owners.get(key as usize) else {
             return self.server(world, word);
         };
         let id = match word % 16 {
@@ -191,10 +169,7 @@ impl Roster {
             }
             (_, Body::Plan { master, parts, .. }) => {
                 for part in parts.as_slice() {
-                    self.given.push(Given {
-                        term: part.term,
-                        master: *master,
-                    })?;
+                    self.given.push((part.term, *master))?;
                 }
                 for crash in self.crashes.iter_mut() {
                     crash.planned = crash.planned || crash.id == *master;
@@ -214,9 +189,9 @@ impl Roster {
                 owners.last = id;
             }
         }
-        for given in &self.given {
-            if given.term == term {
-                let master = given.master;
+        for (given, master) in &self.given {
+            if *given == term {
+                let master = *master;
                 self.crashes.retain(|crash| crash.id != master);
             }
         }

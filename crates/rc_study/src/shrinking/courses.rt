@@ -70,10 +70,8 @@ impl Move {
     /// The next event of the course is left. If it is a delivery, it is of this message.
     pub(crate) fn keep(&mut self, place: usize, message: usize) -> Result<(), AllocError> {
         let origin = self.origins.get(message).copied().unwrap_or(NOWHERE);
-        self.next.push(Item {
-            left: Left { place, message },
-            origin,
-        })?;
+        let left = Left { place, message };
+        self.next.push(Item { left, origin })?;
         Ok(())
     }
 

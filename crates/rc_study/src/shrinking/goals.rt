@@ -52,7 +52,8 @@ impl<'a> Goal<'a> {
         sent: &[Message],
         stopped: Option<usize>,
     ) -> Result<bool, Fault> {
-        if self.is_of_messages() {
+        let of_messages = ["ack ", "own ", "plan ", "read ", "split "];
+        if of_messages.iter().any(|word| self.text.starts_with(*word)) {
             return Ok(false);
         }
         let found = if self.may_begin("audit ") {
@@ -66,12 +67,6 @@ impl<'a> Goal<'a> {
         }
         let mut lines = text.as_str().lines();
         Ok(lines.any(|line| line.starts_with(self.text)))
-    }
-
-    /// Whether only lines of messages can begin so.
-    fn is_of_messages(self) -> bool {
-        let words = ["ack ", "own ", "plan ", "read ", "split "];
-        words.iter().any(|word| self.text.starts_with(*word))
     }
 
     /// Whether the line of a message with this body can begin so.

@@ -26,6 +26,7 @@ pub fn shrink(alloc: Global, scenario: &Scenario, keep: &str) -> Result<Option<S
     requires { IsWithinLimits scenario.now.setup }
 {
     let task = Task {
+        alloc,
         setup: &scenario.setup,
         events: scenario.events.as_slice(),
         goal: Goal::of(keep),
@@ -37,10 +38,10 @@ pub fn shrink(alloc: Global, scenario: &Scenario, keep: &str) -> Result<Option<S
         settles: false,
         moves: false,
     };
-    let Some(first) = without(alloc, task, whole.as_slice(), nothing)? else {
+    let Some(first) = without(task, whole.as_slice(), nothing)? else {
         return Ok(None);
     };
-    let last = searched(alloc, task, first)?;
+    let last = searched(task, first)?;
     let left: Vec<Left> = last.iter().map(|item| item.left).collect(alloc)?;
     let text = saved_scenario(alloc, task.setup, task.events, left.as_slice())?;
     Ok(Some(text))
@@ -54,24 +55,22 @@ fn whole(alloc: Global, events: &[ScenarioEvent]) -> Result<Vec<Item>, AllocErro
             ScenarioEvent::Core(Event::Deliver(number)) => *number,
             _ => 0,
         };
-        items.push(Item {
-            left: Left { place, message },
-            origin: NOWHERE,
-        })?;
+        let (left, origin) = (Left { place, message }, NOWHERE);
+        items.push(Item { left, origin })?;
     }
     Ok(items)
 }
 
 /// Leaves out as much as it can: first of the passes over the messages alone, since each delivers what an earlier one
 /// would have; then of all events.
-fn searched(alloc: Global, task: Task<'_>, first: Vec<Item>) -> Result<Vec<Item>, Fault>
+fn searched(task: Task<'_>, first: Vec<Item>) -> Result<Vec<Item>, Fault>
     requires { IsWithinLimits task.setup.now }
 {
-    let course = in_pieces(alloc, task, first, true)?;
-    let mut course = in_pieces(alloc, task, course, false)?;
+    let course = in_pieces(task, first, true)?;
+    let mut course = in_pieces(task, course, false)?;
     for _ in 0..=course.len() {
         let before = course.len();
-        course = thinned(alloc, task, course, 1, false)?;
+        course = thinned(task, course, 1, false)?;
         if course.len() == before {
             break;
         }
@@ -81,12 +80,7 @@ fn searched(alloc: Global, task: Task<'_>, first: Vec<Item>) -> Result<Vec<Item>
 
 /// Leaves out halves of what is left, then quarters and so on, or of them only the passes over the messages; but no
 /// small pieces, and no such passes, where of two larger sizes in turn none could go.
-fn in_pieces(
-    alloc: Global,
-    task: Task<'_>,
-    first: Vec<Item>,
-    settles: bool,
-) -> Result<Vec<Item>, Fault>
+fn in_pieces(task: Task<'_>, first: Vec<Item>, settles: bool) -> Result<Vec<Item>, Fault>
     requires { IsWithinLimits task.setup.now }
 {
     let mut course = first;
@@ -97,7 +91,7 @@ fn in_pieces(
         size /= 2;
         if size > large || (size >= least && vain < MOST_VAIN) {
             let before = course.len();
-            course = thinned(alloc, task, course, size, settles)?;
+            course = thinned(task, course, size, settles)?;
             let is_vain = course.len() == before;
             vain = if is_vain { vain.saturating_add(1) } else { 0 };
         }
@@ -107,13 +101,7 @@ fn in_pieces(
 
 /// Leaves out as many pieces of this size as it can, from the last one to the first; of each only its passes over the
 /// messages, where `settles` says so.
-fn thinned(
-    alloc: Global,
-    task: Task<'_>,
-    first: Vec<Item>,
-    size: usize,
-    settles: bool,
-) -> Result<Vec<Item>, Fault>
+fn thinned(task: Task<'_>, first: Vec<Item>, size: usize, settles: bool) -> Result<Vec<Item>, Fault>
     requires { IsWithinLimits task.setup.now }
 {
     let mut course = first;
@@ -129,7 +117,7 @@ fn thinned(
             settles,
             moves: true,
         };
-        if let Some(next) = shorter(alloc, task, course.as_slice(), cut)? {
+        if let Some(next) = shorter(task, course.as_slice(), cut)? {
             course = next;
         }
     }
@@ -138,31 +126,20 @@ fn thinned(
 
 /// What is left after this cut, or, of a single event before a delivery, after one after which deliveries keep their
 /// numbers, if the report still has such a line.
-fn shorter(
-    alloc: Global,
-    task: Task<'_>,
-    course: &[Item],
-    cut: Cut,
-) -> Result<Option<Vec<Item>>, Fault>
+fn shorter(task: Task<'_>, course: &[Item], cut: Cut) -> Result<Option<Vec<Item>>, Fault>
     requires { IsWithinLimits task.setup.now }
 {
     let mut items = course.iter().enumerate();
     if !items.any(|(at, item)| cut.has(task, at, *item)) {
         return Ok(None);
     }
-    let next = without(alloc, task, course, cut)?;
+    let next = without(task, course, cut)?;
     let is_single = cut.to == cut.from.saturating_add(1);
     let mut rest = course.iter().skip(cut.to);
     if next.is_none() && is_single && rest.any(|item| task.is_delivery(*item)) {
-        return without(
-            alloc,
-            task,
-            course,
-            Cut {
-                moves: false,
-                ..cut
-            },
-        );
+        let mut stays = cut;
+        stays.moves = false;
+        return without(task, course, stays);
     }
     Ok(next)
 }

@@ -13,6 +13,7 @@ use std::slice;
 /// A scenario, and the line that its report is to have.
 #[derive(Clone, Copy)]
 pub(crate) struct Task<'a> {
+    pub(crate) alloc: Global,
     pub(crate) setup: &'a Setup,
     pub(crate) events: &'a [ScenarioEvent],
     pub(crate) goal: Goal<'a>,
@@ -26,21 +27,19 @@ impl Task<'_> {
 
     /// Whether this item is a delivery.
     pub(crate) fn is_delivery(&self, item: Item) -> bool {
-        matches!(
-            self.event(item),
-            Some(ScenarioEvent::Core(Event::Deliver(_)))
-        )
+        let event = self.event(item);
+        matches!(event, Some(ScenarioEvent::Core(Event::Deliver(_))))
     }
 
-    /// Whether this item is a write.
-    fn is_write(&self, item: Item) -> bool {
-        matches!(
-            self.event(item),
-            Some(ScenarioEvent::Core(Event::Ask {
-                body: Body::Write { .. },
-                ..
-            }))
-        )
+    /// Whether this item is a write or a delivery.
+    fn is_write_or_delivery(&self, item: Item) -> bool {
+        match self.event(item) {
+            Some(ScenarioEvent::Core(Event::Ask { body, .. })) => matches!(
+                body,
+                Body::Write { .. }
+            ),
+            _ => self.is_delivery(item),
+        }
     }
 }
 
@@ -64,19 +63,14 @@ impl Cut {
 }
 
 /// What is left after this cut, if the report still has such a line.
-pub(crate) fn without(
-    alloc: Global,
-    task: Task<'_>,
-    course: &[Item],
-    cut: Cut,
-) -> Result<Option<Vec<Item>>, Fault>
+pub(crate) fn without(task: Task<'_>, course: &[Item], cut: Cut) -> Result<Option<Vec<Item>>, Fault>
     requires { IsWithinLimits task.setup.now }
 {
     if !is_in_reach(task, course, cut) {
         return Ok(None);
     }
-    let mut moved = Move::new(alloc);
-    if keeps_line(alloc, task, course, cut, &mut moved)? {
+    let mut moved = Move::new(task.alloc);
+    if keeps_line(task, course, cut, &mut moved)? {
         return Ok(Some(moved.next));
     }
     Ok(None)
@@ -84,76 +78,57 @@ pub(crate) fn without(
 
 /// Whether what is left after this cut may have such a line, as far as its writes tell.
 fn is_in_reach(task: Task<'_>, course: &[Item], cut: Cut) -> bool {
-    let counts = |at: usize, item: Item| {
-        !cut.has(task, at, item) && (task.is_write(item) || task.is_delivery(item))
-    };
     let items = course.iter().enumerate();
-    task.goal
-        .is_in_reach(items.filter(|(at, item)| counts(*at, **item)).count())
+    let played = items.filter(|(at, item)| !cut.has(task, *at, **item));
+    let counted = played.filter(|(_, item)| task.is_write_or_delivery(**item));
+    task.goal.is_in_reach(counted.count())
 }
 
 /// Plays what is left after this cut: whether the report still has such a line.
-fn keeps_line(
-    alloc: Global,
-    task: Task<'_>,
-    course: &[Item],
-    cut: Cut,
-    moved: &mut Move,
-) -> Result<bool, Fault>
+fn keeps_line(task: Task<'_>, course: &[Item], cut: Cut, moved: &mut Move) -> Result<bool, Fault>
     requires { IsWithinLimits task.setup.now }
 {
-    let setup = task.setup.try_clone(alloc)?;
-    let mut run = Run::new(alloc, setup, alloc);
-    let stopped = match play_left(alloc, task, course, cut, &mut run, moved)? {
-        Reached::Told => return Ok(true),
-        Reached::Through => None,
-        Reached::Stopped(place) => Some(place),
-    };
-    task.goal.is_reported(alloc, run.world().sent(), stopped)
+    let setup = task.setup.try_clone(task.alloc)?;
+    let mut run = Run::new(task.alloc, setup, task.alloc);
+    if play_left(task, course, cut, &mut run, moved)? {
+        return Ok(true);
+    }
+    let last = moved.next.len().saturating_sub(1);
+    let stopped = moved.is_stopped.then_some(last);
+    task.goal
+        .is_reported(task.alloc, run.world().sent(), stopped)
 }
 
-/// How far a run was played.
-#[derive(Clone, Copy)]
-enum Reached {
-    /// To a message that has such a line.
-    Told,
-    /// To its end.
-    Through,
-    /// To this event, which is not possible.
-    Stopped(usize),
-}
-
-/// Plays what is left after this cut, until a message has such a line.
+/// Plays what is left after this cut, until a message has such a line, or an event is not possible: whether a message
+/// has one.
 fn play_left(
-    alloc: Global,
     task: Task<'_>,
     course: &[Item],
     cut: Cut,
     run: &mut Run<Global>,
     moved: &mut Move,
-) -> Result<Reached, Fault> {
+) -> Result<bool, Fault> {
     let mut seen = 0usize;
     for (at, item) in course.iter().enumerate() {
         let item = *item;
-        if !cut.has(task, at, item) && go_on(alloc, task, run, moved, item, cut.moves)? {
+        if !cut.has(task, at, item) && go_on(task, run, moved, item, cut.moves)? {
             let sent = run.world().sent();
             moved.sent(sent.len())?;
-            if seen < sent.len() && task.goal.is_told(alloc, &sent[seen..])? {
-                return Ok(Reached::Told);
+            if seen < sent.len() && task.goal.is_told(task.alloc, &sent[seen..])? {
+                return Ok(true);
             }
             seen = sent.len();
         } else if moved.is_stopped {
-            return Ok(Reached::Stopped(moved.next.len().saturating_sub(1)));
+            return Ok(false);
         } else {
             moved.leave_out()?;
         }
     }
-    Ok(Reached::Through)
+    Ok(false)
 }
 
 /// Plays this event, if it is not a delivery of a message that is gone: whether it has happened.
 fn go_on(
-    alloc: Global,
     task: Task<'_>,
     run: &mut Run<Global>,
     moved: &mut Move,
@@ -164,19 +139,18 @@ fn go_on(
         return Ok(false);
     };
     let mut message = item.left.message;
-    if let (ScenarioEvent::Core(Event::Deliver(_)), true) = (event, moves) {
+    if moves && task.is_delivery(item) {
         match moved.message(item.origin) {
             Some(number) => message = number,
             None => return Ok(false),
         }
     }
     moved.keep(item.left.place, message)?;
-    match played(alloc, run, event, message) {
-        Ok(()) => Ok(true),
+    match played(task.alloc, run, event, message) {
         Err(Fault::OutOfMemory) => Err(Fault::OutOfMemory),
-        Err(_) => {
-            moved.is_stopped = true;
-            Ok(false)
+        played => {
+            moved.is_stopped = played.is_err();
+            Ok(played.is_ok())
         }
     }
 }

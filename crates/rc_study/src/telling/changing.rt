@@ -2,14 +2,29 @@
 
 use crate::telling::standing::{newest, replica_at};
 use rc_backup::Held;
-use rc_telling::{Changes, ReplicaStanding};
+use rc_telling::Changes;
 use rc_types::{Addr, Body, Event, Message, ServerId};
 use rc_world::World;
 use std::alloc::{AllocError, Global};
 
+/// The event of this number, which has happened at this host of the world.
+#[derive(Clone, Copy)]
+struct Place<'a> {
+    at: usize,
+    host: u8,
+    world: &'a World<Global>,
+}
+
+impl Place<'_> {
+    /// What the host keeps of a master, if anything.
+    fn held(&self, master: ServerId) -> Option<&Held> {
+        self.world.backup(self.host)?.kept().get(&master)
+    }
+}
+
 /// Notes what the event of this number has changed, which has happened in the world.
 pub(crate) fn note_change(
-    number: usize,
+    at: usize,
     event: &Event,
     world: &World<Global>,
     changes: &mut Changes,
@@ -17,16 +32,17 @@ pub(crate) fn note_change(
     let Some(host) = host_of(event, world.sent()) else {
         return Ok(());
     };
+    let place = Place { at, host, world };
     if let Some(master) = world.master(host) {
         let phase = master.log().phase();
-        changes.note_phase(number, master.id(), phase, master.is_deposed())?;
+        changes.note_phase(at, master.id(), phase, master.is_deposed())?;
     }
     match event {
-        Event::Deliver(message) => note_delivery(number, host, *message, world, changes)?,
+        Event::Deliver(message) => note_delivery(place, *message, changes)?,
         Event::Start { .. } => {
             if let Some(backup) = world.backup(host) {
-                for (master, held) in backup.kept() {
-                    note_held(number, newest(host, world), *master, held, changes)?;
+                for master in backup.kept().keys() {
+                    note_all(place, *master, changes)?;
                 }
             }
         }
@@ -50,18 +66,15 @@ fn host_of(event: &Event, messages: &[Message]) -> Option<u8> {
     }
 }
 
-/// Notes what a delivery has changed in the replicas of this host.
+/// Notes what the delivery of this message has changed in the replicas of the host.
 fn note_delivery(
-    number: usize,
-    host: u8,
+    place: Place<'_>,
     message: usize,
-    world: &World<Global>,
     changes: &mut Changes,
 ) -> Result<(), AllocError> {
-    let Some(delivered) = world.sent().get(message) else {
+    let Some(delivered) = place.world.sent().get(message) else {
         return Ok(());
     };
-    let holder = newest(host, world);
     match (delivered.from, &delivered.body) {
         (
             Addr::Server(master),
@@ -69,62 +82,34 @@ fn note_delivery(
             | Body::Append { seg, .. }
             | Body::Close { seg, .. }
             | Body::Free { seg },
-        ) => {
-            if let Some(held) = held_of(host, master, world) {
-                note_one(number, holder, master, *seg, held, changes)?;
-            }
-        }
-        (_, Body::Gather { master, .. }) => {
-            if let Some(held) = held_of(host, *master, world) {
-                note_held(number, holder, *master, held, changes)?;
-            }
-        }
-        _ => {}
+        ) => note_one(place, master, *seg, changes),
+        (_, Body::Gather { master, .. }) => note_all(place, *master, changes),
+        _ => Ok(()),
     }
-    Ok(())
 }
 
-/// What the host keeps of a master, if anything.
-fn held_of(host: u8, master: ServerId, world: &World<Global>) -> Option<&Held> {
-    world.backup(host)?.kept().get(&master)
-}
-
-/// Notes how one replica stands, or that it is gone.
+/// Notes how one replica stands, or that it is gone, where the host has kept something of the master.
 fn note_one(
-    number: usize,
-    holder: ServerId,
+    place: Place<'_>,
     master: ServerId,
     seg: u16,
-    held: &Held,
     changes: &mut Changes,
 ) -> Result<(), AllocError> {
-    if let Some(replica) = held.replicas().get(&seg) {
-        let standing = replica_at(holder, master, seg, replica, held);
-        return changes.note_replica(number, standing, false);
-    }
-    let nothing = ReplicaStanding {
-        holder,
-        master,
-        seg,
-        epoch: 0,
-        len: 0,
-        is_closed: false,
-        is_fenced: false,
+    let Some(held) = place.held(master) else {
+        return Ok(());
     };
-    changes.note_replica(number, nothing, true)
+    let standing = replica_at(newest(place.host, place.world), master, seg, held);
+    let is_gone = held.replicas().get(&seg).is_none();
+    changes.note_replica(place.at, standing, is_gone)
 }
 
 /// Notes how all replicas of a master stand that the host keeps.
-fn note_held(
-    number: usize,
-    holder: ServerId,
-    master: ServerId,
-    held: &Held,
-    changes: &mut Changes,
-) -> Result<(), AllocError> {
-    for (seg, replica) in held.replicas() {
-        let standing = replica_at(holder, master, *seg, replica, held);
-        changes.note_replica(number, standing, false)?;
+fn note_all(place: Place<'_>, master: ServerId, changes: &mut Changes) -> Result<(), AllocError> {
+    let Some(held) = place.held(master) else {
+        return Ok(());
+    };
+    for seg in held.replicas().keys() {
+        note_one(place, master, *seg, changes)?;
     }
     Ok(())
 }

@@ -2,7 +2,6 @@
 
 use rc_backup::Held;
 use rc_master::Master;
-use rc_replica::Replica;
 use rc_telling::{MasterStanding, ReplicaStanding, SegmentStanding, Standing};
 use rc_types::ServerId;
 use rc_types::limits::MAX_HOSTS;
@@ -19,9 +18,10 @@ pub(crate) fn standing_in(alloc: Global, world: &World<Global>) -> Result<Standi
         if let Some(backup) = world.backup(host) {
             let holder = newest(host, world);
             for (master, held) in backup.kept() {
-                for (seg, replica) in held.replicas() {
-                    let replica = replica_at(holder, *master, *seg, replica, held);
-                    standing.replicas.push(replica)?;
+                for seg in held.replicas().keys() {
+                    standing
+                        .replicas
+                        .push(replica_at(holder, *master, *seg, held))?;
                 }
             }
         }
@@ -34,21 +34,17 @@ fn add_master(alloc: Global, master: &Master, standing: &mut Standing) -> Result
     let log = master.log();
     let first = standing.segments.len();
     for seg in 1..=log.head() {
-        let Some(segment) = log.segment(seg) else {
-            continue;
-        };
-        if segment.is_freed() {
-            continue;
+        if let Some(segment) = log.segment(seg).filter(|segment| !segment.is_freed()) {
+            let config = segment.config();
+            standing.segments.push(SegmentStanding {
+                seg,
+                epoch: config.epoch(),
+                is_committed: config.is_committed(),
+                len: segment.len(),
+                is_shut: segment.is_shut(),
+                members: config.members().to_vec(alloc)?,
+            })?;
         }
-        let config = segment.config();
-        standing.segments.push(SegmentStanding {
-            seg,
-            epoch: config.epoch(),
-            is_committed: config.is_committed(),
-            len: segment.len(),
-            is_shut: segment.is_shut(),
-            members: config.members().to_vec(alloc)?,
-        })?;
     }
     standing.masters.push(MasterStanding {
         id: log.own(),
@@ -63,28 +59,26 @@ fn add_master(alloc: Global, master: &Master, standing: &mut Standing) -> Result
 }
 
 /// The newest server of a host.
-pub(crate) fn newest(host: u8, world: &World<Global>) -> ServerId {
-    ServerId {
-        index: host,
-        generation: world.newest(host),
-    }
+pub(crate) fn newest(index: u8, world: &World<Global>) -> ServerId {
+    let generation = world.newest(index);
+    ServerId { index, generation }
 }
 
-/// How a replica stands that a backup holds of a master.
+/// How a replica stands that a backup holds of a master; with nothing in it, where it is gone.
 pub(crate) fn replica_at(
     holder: ServerId,
     master: ServerId,
     seg: u16,
-    replica: &Replica,
     held: &Held,
 ) -> ReplicaStanding {
+    let replica = held.replicas().get(&seg);
     ReplicaStanding {
         holder,
         master,
         seg,
-        epoch: replica.epoch(),
-        len: replica.len(),
-        is_closed: replica.is_closed(),
-        is_fenced: held.is_fenced(),
+        epoch: replica.map_or(0, |replica| replica.epoch()),
+        len: replica.map_or(0, |replica| replica.len()),
+        is_closed: replica.is_some_and(|replica| replica.is_closed()),
+        is_fenced: replica.is_some() && held.is_fenced(),
     }
 }

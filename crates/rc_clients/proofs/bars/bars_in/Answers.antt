@@ -3,8 +3,8 @@ use Rattle.rc_clients.proofs.bars.bars_in.Goals as goal
 
 pub loop-moment-init : goal.loop-moment-init
 loop-moment-init c = (
-  tops_begin c.args.history.now c.new-tops.result c.new-tops.ensures.empty,
-  bars_begin c.args.history.now c.new-bars.result.items c.new-bars.ensures.items,
+  tops_begin c.new-tops.ensures.empty,
+  bars_begin c.new-bars.ensures.items,
 )
 
 pub newest_bar-requires : goal.newest_bar-requires
@@ -13,6 +13,5 @@ newest_bar-requires c = c.loop-moment.invariant.0
 pub loop-moment-preserved : goal.loop-moment-preserved
 loop-moment-preserved c = (
   c.in_ok-note_top.ensures,
-  bars_more c.args.history.now c.loop-moment.moment c.loop-moment.bars.items c.push.new.self.items c.newest_bar.result
-      c.in_ok-push.ensures.items c.newest_bar.ensures c.loop-moment.invariant.1,
+  bars_more c.newest_bar.result c.in_ok-push.ensures.items c.newest_bar.ensures c.loop-moment.invariant.1,
 )

@@ -10,10 +10,8 @@ pub loop-moment-preserved-in_ok-insert-2 : goal.loop-moment-preserved-in_ok-inse
 loop-moment-preserved-in_ok-insert-2 c =
     let before : c.loop-moment.moment ≡ c.loop-moment.moment - 1 + 1 =
     first_of (omega (arith, c.loop-moment-test.true), grind (arith, nat_tests)) in
-    chains_more c.args.history.now (c.loop-moment.moment - 1) c.loop-moment.heads c.insert-in-Some.new.self
-    c.loop-moment.nexts c.insert.new.self c.in-Some.name c.in-Some.ensures
+    chains_more c.in-Some.ensures
     (subst (λ n. AreChains c.args.history.now n c.loop-moment.heads c.loop-moment.nexts) before c.loop-moment.invariant)
-    c.in_ok-insert-2.ensures.updates.0
-    (λ i. c.in_ok-insert.ensures.updates.0 i
+    c.in_ok-insert-2.ensures.updates.0 (λ i. c.in_ok-insert.ensures.updates.0 i
     ∙ ap (λ o. cond (is_at (nat_cmp (c.loop-moment.moment - 1)) i) (Some o) (get nat_cmp c.loop-moment.nexts i))
     (c.copied.ensures ∙ c.get.ensures.value))

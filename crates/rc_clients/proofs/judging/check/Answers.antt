@@ -8,7 +8,6 @@ pub returns : goal.returns
 returns c =
     let writes = subst (ElseTwoWrites c.args.history.now) c.in-Ok.is c.in_ok-writes.ensures in
     let firsts = subst (ElseTwoValues c.args.history.now) c.in-Ok-2.is c.in_ok-firsts.ensures in
-    IfOk-weaker c.unmatched_version.result _ _
-    (λ found h. all_found c.args.history.now c.in-Ok.writes c.in-Ok-2.firsts found c.in_default.ensures
+    IfOk-weaker c.unmatched_version.result _ _ (λ found h. all_found found c.in_default.ensures
     c.in_default-wrong_beginning.ensures writes firsts h)
     c.unmatched_version.ensures

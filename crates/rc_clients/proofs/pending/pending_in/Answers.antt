@@ -5,16 +5,13 @@ use Rattle.rc_clients.proofs.PendingLemmas.{pending_begin, pending_more, pending
 use Rattle.rc_clients.proofs.pending.pending_in.Goals as goal
 
 pub loop-moment-init : goal.loop-moment-init
-loop-moment-init c = pending_begin c.args.history.now c.new-pending.result c.new-pending.ensures.empty
+loop-moment-init c = pending_begin c.new-pending.ensures.empty
 
 pub loop-moment-preserved-in_default : goal.loop-moment-preserved-in_default
-loop-moment-preserved-in_default c =
-    pending_skip c.args.history.now c.loop-moment.moment c.loop-moment.pending c.in_default.ensures c.loop-moment.invariant
+loop-moment-preserved-in_default c = pending_skip c.in_default.ensures c.loop-moment.invariant
 
 pub loop-moment-preserved : goal.loop-moment-preserved
-loop-moment-preserved c =
-    pending_more c.args.history.now c.loop-moment.moment c.loop-moment.pending c.note_pending.new.pending c.in-Some.name
-    c.in-Some.ensures c.loop-moment.invariant c.in_ok-note_pending.ensures
+loop-moment-preserved c = pending_more c.in-Some.ensures c.loop-moment.invariant c.in_ok-note_pending.ensures
 
 pub returns : goal.returns
 returns c =

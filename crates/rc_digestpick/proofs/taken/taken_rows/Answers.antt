@@ -12,7 +12,7 @@ returns-in_default-clause-err c =
     let head = held_row c.args.head in
     let inside : c.loop-seg.seg-index < length c.deref-seg-items.result.now = omega arith in
     let taken : taken_row c.args.min c.args.replies.now head seg ≡ option_map held_row c.taken_row.result =
-    taken_row_from c.args.min c.args.replies.now head seg _ _ c.taken_row.ensures.own c.taken_row.ensures.other
+    taken_row_from c.args.min c.args.replies.now head c.taken_row.ensures.own c.taken_row.ensures.other
     (c.in_ok-best.ensures.ok seg) in
     let none : taken_row c.args.min c.args.replies.now head seg ≡ None = taken ∙ ap (option_map held_row) c.in_default.is in
     let segs : c.deref-seg-items.result.now ≡ ascending head.row.digest =
@@ -26,7 +26,7 @@ loop-seg-preserved c =
     let head = held_row c.args.head in
     let inside : c.loop-seg.seg-index < length c.deref-seg-items.result.now = omega arith in
     let taken : taken_row c.args.min c.args.replies.now head seg ≡ option_map held_row c.taken_row.result =
-    taken_row_from c.args.min c.args.replies.now head seg _ _ c.taken_row.ensures.own c.taken_row.ensures.other
+    taken_row_from c.args.min c.args.replies.now head c.taken_row.ensures.own c.taken_row.ensures.other
     (c.in_ok-best.ensures.ok seg) in
     let some : taken_row c.args.min c.args.replies.now head seg ≡ Some (held_row c.in-Some.held) =
     taken ∙ ap (option_map held_row) c.in-Some.is in

@@ -5,4 +5,4 @@ pub returns-clause-head : goal.returns-clause-head
 returns-clause-head c = λ min replies. (head_missing min replies, missing_head min replies)
 
 pub returns-clause-segment : goal.returns-clause-segment
-returns-clause-segment c = λ min replies seg. (segment_missing min replies seg, missing_segment min replies seg)
+returns-clause-segment c = λ min replies seg. (segment_missing min replies, missing_segment min replies)

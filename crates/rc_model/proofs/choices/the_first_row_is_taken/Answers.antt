@@ -8,20 +8,20 @@ use Rattle.rc_model.proofs.choices.the_first_row_is_taken.Goals as goal
 
 pub returns-clause-longer : goal.returns-clause-longer
 returns-clause-longer c = λ rows first. (
-  first_by_first longer_first IsLonger tells_longer apart_longer split_longer rows first,
-  fold_better_IsFirst longer_first IsLonger tells_longer apart_longer split_longer rows first,
+  first_by_first longer_first IsLonger tells_longer apart_longer split_longer rows,
+  fold_better_IsFirst longer_first IsLonger tells_longer apart_longer split_longer rows,
 )
 
 pub returns-clause-higher : goal.returns-clause-higher
 returns-clause-higher c = λ rows first. (
-  first_by_first head_first IsHigher tells_higher apart_higher split_higher rows first,
-  fold_better_IsFirst head_first IsHigher tells_higher apart_higher split_higher rows first,
+  first_by_first head_first IsHigher tells_higher apart_higher split_higher rows,
+  fold_better_IsFirst head_first IsHigher tells_higher apart_higher split_higher rows,
 )
 
 pub returns-clause-better : goal.returns-clause-better
 returns-clause-better c = λ rows first. (
-  first_by_first closed_first IsBetter tells_better apart_better split_better rows first,
-  fold_better_IsFirst closed_first IsBetter tells_better apart_better split_better rows first,
+  first_by_first closed_first IsBetter tells_better apart_better split_better rows,
+  fold_better_IsFirst closed_first IsBetter tells_better apart_better split_better rows,
 )
 
 pub returns-clause-longer_of_none : goal.returns-clause-longer_of_none

@@ -9,4 +9,4 @@ pub returns-clause-dropped : goal.returns-clause-dropped
 returns-clause-dropped c = dropped_is_missing
 
 pub returns-clause-before : goal.returns-clause-before
-returns-clause-before c = λ grants earlier later. (is_before-finds grants earlier later, is_before-found grants earlier later)
+returns-clause-before c = λ grants earlier later. (is_before-finds grants, is_before-found grants)

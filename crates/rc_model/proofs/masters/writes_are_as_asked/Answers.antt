@@ -8,6 +8,5 @@ returns-clause-above c = written-above
 pub returns-clause-asked : goal.returns-clause-asked
 returns-clause-asked c master term table key value some short owned writing room = (
   (written master term table key value).version,
-  writes-places master term table key value some short owned writing
-      room,
+  writes-places master table key value some short owned writing room,
 )
