@@ -116,6 +116,12 @@ impl Options {
         Ok(options)
     }
 
+    /// The same, where an option that is not given has its value in these.
+    pub fn with_defaults(&self, defaults: Options) -> Options {
+        let values = [defaults.values, self.values.clone()].concat();
+        Options { values, flags: self.flags.clone(), words: self.words.clone() }
+    }
+
     /// The value of an option, or this; the last one, where it is given twice.
     pub fn get<T: FromStr>(&self, name: &str, other: T) -> Result<T, String>
     where

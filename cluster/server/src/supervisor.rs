@@ -2,7 +2,7 @@
 
 use crate::client::{Client, Target};
 use crate::core::{Config, tell};
-use crate::options::Options;
+use crate::options::{self, Options};
 use crate::protocol::Op;
 use crate::{coordinator, host};
 use std::fs::{self, File, OpenOptions, TryLockError};
@@ -16,6 +16,10 @@ use std::time::{Duration, Instant};
 
 /// How many bytes a secret has.
 const SECRET: usize = 32;
+
+/// What a folder's cluster has again where nothing else is said, and the file that keeps it.
+const KEPT: [&str; 3] = ["--hosts", "--factor", "--segment"];
+const KEPT_IN: &str = "options";
 
 /// A node takes and frees as many pieces of memory of a size as it is given messages at once. Where there is no
 /// mimalloc the C library keeps but seven of them at hand for a thread, unless it is told otherwise. Queues hand pieces
@@ -224,9 +228,31 @@ impl Drop for Cluster {
     }
 }
 
+/// What was said last time of the cluster in this folder.
+fn kept_options(folder: &Path) -> Result<Options, String> {
+    let file = folder.join(KEPT_IN);
+    let told = |why: &dyn std::fmt::Display| format!("{}: {why}", file.display());
+    match fs::read_to_string(&file) {
+        Ok(text) => {
+            let words = text.split_whitespace().map(String::from);
+            options::Command::named("up").and_then(|up| Options::read(up, words)).map_err(|why| told(&why))
+        }
+        Err(error) if error.kind() == ErrorKind::NotFound => Ok(Options::default()),
+        Err(error) => Err(told(&error)),
+    }
+}
+
+/// Keeps what is said of the cluster in this folder.
+fn keep_options(options: &Options, folder: &Path) -> Result<(), String> {
+    let said = KEPT.iter().filter_map(|name| options.given(name).map(|value| format!("{name} {value}\n")));
+    let file = folder.join(KEPT_IN);
+    fs::write(&file, said.collect::<String>()).map_err(|error| format!("{}: {error}", file.display()))
+}
+
 /// Runs a cluster: starts it, shows what changes, and starts again what ends.
 pub fn up(options: &Options) -> Result<(), String> {
     let folder: PathBuf = options.get("--folder", "cluster-data".to_string())?.into();
+    let options = &options.with_defaults(kept_options(&folder)?);
     let target = crate::target(options)?;
     let factor = config(options, target.clone(), PathBuf::new(), None, Vec::new())?.factor;
     if target.hosts <= factor {
@@ -242,6 +268,7 @@ pub fn up(options: &Options) -> Result<(), String> {
     more.extend(["--record", "--faults"].iter().filter(|flag| options.has(flag)).map(|flag| flag.to_string()));
     let mut cluster = Cluster::new(target, &folder, more)?;
     cluster.try_ports()?;
+    keep_options(options, &folder)?;
     cluster.start_all()?;
     (0..cluster.places()).for_each(|place| show_process(&cluster, place));
     let mut shown = String::new();
@@ -314,6 +341,11 @@ mod tests {
         let target = Target { address: "127.0.0.1".to_string(), port, hosts: 4 };
         let _other = Cluster::new(target, &folder, Vec::new())?;
         assert!(why(&line).ends_with(": a cluster runs in this folder already"));
+        fs::write(folder.join(KEPT_IN), "--factor 4").map_err(|error| error.to_string())?;
+        assert_eq!(why(&line), "factor 4 needs 5 hosts, a master and 4 backups, and --hosts is 4");
+        assert!(why(&format!("{line} --factor 3")).ends_with(": a cluster runs in this folder already"));
+        fs::write(folder.join(KEPT_IN), "--hots 4").map_err(|error| error.to_string())?;
+        assert!(why(&line).ends_with("options: up has no option --hots"));
         fs::remove_dir_all(&folder).map_err(|error| error.to_string())
     }
 }
