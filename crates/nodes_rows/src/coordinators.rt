@@ -3,7 +3,7 @@
 use crate::cases::unknown;
 use crate::{bodies, told};
 use rc_coordinator::Coordinator;
-use rc_types::{Addr, Fault, Message, NodeWork};
+use rc_types::{Addr, Fault, Message, NodeWork, Order};
 use rows::{Numbers, Page};
 use std::alloc::{AllocError, Global};
 
@@ -59,17 +59,17 @@ fn work_of(
 ) -> Result<Option<NodeWork>, AllocError> {
     Ok(match command {
         "tick" => Some(NodeWork::Tick),
-        "suspect" => Some(NodeWork::Suspect(numbers.id())),
-        "decide" => Some(NodeWork::Decide(numbers.id())),
+        "suspect" => Some(NodeWork::Order(Order::Suspect(numbers.id()))),
+        "decide" => Some(NodeWork::Order(Order::Decide(numbers.id()))),
         "create" => {
             let table = numbers.long();
             let owner = numbers.id();
-            Some(NodeWork::Create { table, owner })
+            Some(NodeWork::Order(Order::Create { table, owner }))
         }
         "split" => {
             let table = numbers.long();
             let at = numbers.next();
-            Some(NodeWork::Split { table, at })
+            Some(NodeWork::Order(Order::Split { table, at }))
         }
         _ => message_of(alloc, command, numbers)?,
     })
@@ -105,7 +105,7 @@ fn split_upwards(
     let mut sent: Vec<Message> = Vec::new(alloc);
     for at in first..=last.min(u64::from(u16::MAX)) {
         if book.has_room() {
-            book.step_into(&NodeWork::Split { table, at }, &mut sent)?;
+            book.step_into(&NodeWork::Order(Order::Split { table, at }), &mut sent)?;
         }
     }
     page.size("\n    ", sent.len());

@@ -3,7 +3,7 @@
 use crate::cases::unknown;
 use crate::{bodies, hosts, looks, masters, told};
 use rc_types::limits::{MAX_EVENTS, MAX_HOSTS};
-use rc_types::{Addr, Body, Event, Fault, Message, Seq, ServerId};
+use rc_types::{Addr, Body, Event, Fault, Message, Order, Seq, ServerId};
 use rc_world::World;
 use rows::{Numbers, Page};
 use std::alloc::{AllocError, Global};
@@ -100,17 +100,17 @@ fn event_of(
         "tick" => Some(Event::Tick(Addr::Server(numbers.id()))),
         "tick-coordinator" => Some(Event::Tick(Addr::Coordinator)),
         "stop" => Some(Event::Stop(numbers.id())),
-        "suspect" => Some(Event::Suspect(numbers.id())),
-        "decide" => Some(Event::Decide(numbers.id())),
+        "suspect" => Some(Event::Order(Order::Suspect(numbers.id()))),
+        "decide" => Some(Event::Order(Order::Decide(numbers.id()))),
         "create" => {
             let table = numbers.long();
             let owner = numbers.id();
-            Some(Event::Create { table, owner })
+            Some(Event::Order(Order::Create { table, owner }))
         }
         "split" => {
             let table = numbers.long();
             let at = numbers.next();
-            Some(Event::Split { table, at })
+            Some(Event::Order(Order::Split { table, at }))
         }
         _ => ask(alloc, command, numbers)?,
     })

@@ -1,7 +1,10 @@
--- A first byte that names no kind.
-use Rattle.std.proofs.Common.{◌≡◌, ℕ, zero, suc, ◌≤◌, List, [], ◌∷◌, length, None, refl, arith}
-use Rattle.std.specs.Prelude.{slice_get}
-use Rattle.rc_codec.specs.Readers.{chosen_at, bodies, events}
+-- A first byte that names no kind, or that of an order.
+use Rattle.std.proofs.Common.{◌≡◌, ℕ, zero, suc, ◌-◌, ◌≤◌, List, [], ◌∷◌, length, None, refl, arith}
+use Rattle.std.specs.Prelude.{slice_get, map}
+use Rattle.rc_types.specs.declared.events.Event.TheVariants as event
+use Rattle.rc_types.specs.declared.events.Order.{Order}
+use Rattle.rc_codec.specs.Reading.{◌>>=◌, Reader, made}
+use Rattle.rc_codec.specs.Readers.{chosen_at, bodies, events, orders, ordered, order_at}
 
 pub past : {A : Type 0} (table : List A) (k : ℕ) → length table ≤ k → slice_get table k ≡ None
 past [] k h = refl
@@ -11,5 +14,26 @@ past (x ∷ table) (suc k) h = past table k (omega arith)
 pub past_bodies : (k : ℕ) (rest : List ℕ) → length bodies ≤ k → chosen_at bodies (k ∷ rest) ≡ None
 past_bodies k rest h = rw (past bodies k h) refl
 
-pub past_events : (k : ℕ) (rest : List ℕ) → length events ≤ k → chosen_at events (k ∷ rest) ≡ None
-past_events k rest h = rw (past events k h) refl
+pub past_orders : (k : ℕ) (rest : List ℕ) → 9 ≤ k → order_at k rest ≡ None
+past_orders k rest h = rw (past orders (k - 5) (omega arith)) refl
+
+-- what is made of a reader at its place in a table
+made-of-each : {A : Type 0} (f : Order → A) (table : List (Reader Order)) (n : ℕ) (xs : List ℕ) →
+    (slice_get (map (λ (read : Reader Order). made read f) table) n >>= λ read. read xs) ≡
+    made (λ ys. slice_get table n >>= λ read. read ys) f xs
+made-of-each f [] n xs = refl
+made-of-each f (read ∷ table) zero xs = refl
+made-of-each f (read ∷ table) (suc n) xs = made-of-each f table n xs
+
+-- after a first byte of 5 and more, by a table in which the orders stand behind five others
+pub after_five : {A : Type 0} (f : Order → A) {a b c d e : Reader A} (k : ℕ) (xs : List ℕ) → 5 ≤ k →
+    chosen_at (a ∷ b ∷ c ∷ d ∷ e ∷ ordered f) (k ∷ xs) ≡ made (order_at k) f xs
+after_five f zero xs h = absurd (omega arith)
+after_five f (suc zero) xs h = absurd (omega arith)
+after_five f (suc (suc zero)) xs h = absurd (omega arith)
+after_five f (suc (suc (suc zero))) xs h = absurd (omega arith)
+after_five f (suc (suc (suc (suc zero)))) xs h = absurd (omega arith)
+after_five f (suc (suc (suc (suc (suc k))))) xs h = made-of-each f orders k xs
+
+pub event_orders : (k : ℕ) (rest : List ℕ) → 5 ≤ k → chosen_at events (k ∷ rest) ≡ made (order_at k) event.Order rest
+event_orders = after_five event.Order

@@ -4,7 +4,7 @@ use rc_backup::Backup;
 use rc_codec::DecodeFault;
 use rc_keeping::{SaveFault, load, save_into};
 use rc_types::{
-    Addr, Body, Entry, Fault, MasterSetup, Message, NodeWork, Seq, ServerId, Setup, Shared,
+    Addr, Body, Entry, Fault, MasterSetup, Message, NodeWork, Order, Seq, ServerId, Setup, Shared,
 };
 use rc_world::{HostHead, NodeState};
 use std::alloc::{AllocError, Global};
@@ -273,14 +273,19 @@ fn a_loaded_coordinator_goes_on(rt: std::rt::HostRuntime) -> Result<(), Fail> {
     take(
         &rt,
         &mut node,
-        &NodeWork::Create {
+        &NodeWork::Order(Order::Create {
             table: 7,
             owner: MASTER,
-        },
+        }),
     )?;
-    take(&rt, &mut node, &NodeWork::Suspect(MASTER))?;
+    take(&rt, &mut node, &NodeWork::Order(Order::Suspect(MASTER)))?;
     let mut other = loaded(&rt, saved(&rt, &node).as_slice())?;
-    take_both(&rt, &mut node, &mut other, NodeWork::Suspect(OWN))?;
+    take_both(
+        &rt,
+        &mut node,
+        &mut other,
+        NodeWork::Order(Order::Suspect(OWN)),
+    )?;
     take_both(&rt, &mut node, &mut other, enlist(4))?;
     take_both(&rt, &mut node, &mut other, NodeWork::Tick)?;
     assert!(rt; has_save(&rt, &node, saved(&rt, &other).as_slice()));

@@ -6,6 +6,7 @@ use Rattle.rc_types.specs.declared.messages.Body.TheVariants as body
 use Rattle.rc_model.specs.World.{TheOutside, TheCoordinator, TheHost}
 use Rattle.rc_wire.specs.declared.work.Work.{Work}
 use Rattle.rc_wire.specs.declared.work.Work.TheVariants as work
+use Rattle.rc_types.specs.declared.events.Order.TheVariants as order
 use Rattle.rc_wire.specs.declared.steps.Step.{Step}
 use Rattle.rc_wire.specs.declared.steps.Step.TheVariants.{Do, Settle}
 
@@ -27,7 +28,7 @@ starts (suc host) = push (starts host) (Do (TheHost host) (work.Start []))
 
 -- the table is made
 abbrev pub created : ℕ → List Step
-created hosts = push (push (push (starts hosts) Settle) (Do TheCoordinator (work.Create 1 owner))) Settle
+created hosts = push (push (push (starts hosts) Settle) (Do TheCoordinator (work.Order (order.Create 1 owner)))) Settle
 
 -- the outside asks for a write of this key: the value is `w`
 abbrev pub write_of : ℕ → Work
@@ -41,5 +42,5 @@ asks hosts (suc key) = push (asks hosts key) (Do TheOutside (write_of key))
 -- then the owner is suspected and decided about
 abbrev pub workload : ℕ → ℕ → List Step
 workload hosts writes =
-    push (push (push (push (push (asks hosts writes) Settle) (Do TheCoordinator (work.Suspect owner))) Settle)
-    (Do TheCoordinator (work.Decide owner))) Settle
+    push (push (push (push (push (asks hosts writes) Settle) (Do TheCoordinator (work.Order (order.Suspect owner)))) Settle)
+    (Do TheCoordinator (work.Order (order.Decide owner)))) Settle

@@ -1,7 +1,7 @@
 //! The calls of a wire, each made once more where memory is refused: then the seat is as it was, and the second
 //! answers as if nothing had been refused.
 
-use rc_types::{Addr, Body, Fault, Message, Seq, ServerId, Shared};
+use rc_types::{Addr, Body, Fault, Message, Order, Seq, ServerId, Shared};
 use rc_wire::{Naming, Seat, Wire, Work};
 use rc_world::World;
 use std::alloc::Global;
@@ -29,7 +29,7 @@ fn work_of(alloc: Global, given: Given) -> Result<Work, Fault> {
         Given::Start => Work::Start {
             kept: Seq::new(alloc),
         },
-        Given::Create(owner) => Work::Create { table: 7, owner },
+        Given::Create(owner) => Work::Order(Order::Create { table: 7, owner }),
         Given::Write(to) => Work::Ask {
             to,
             body: write(alloc)?,

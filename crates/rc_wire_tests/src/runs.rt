@@ -7,7 +7,7 @@ ghost use Rattle.rc_world.specs.HostView.{IsWithinLimits};
 ghost use Rattle.rc_wire.specs.Runs.{is_fetched, none_fetched};
 
 use rc_audit::audit;
-use rc_types::{Addr, Body, Code, Fault, Message, NodeName, Seq, ServerId, Setup, Shared};
+use rc_types::{Addr, Body, Code, Fault, Message, NodeName, Order, Seq, ServerId, Setup, Shared};
 use rc_wire::{Gate, Naming, Opening, Seat, Step, Wire, Work, run_nodes};
 use rc_world::World;
 use std::alloc::{AllocError, Global};
@@ -97,7 +97,7 @@ fn add_writes(alloc: Global, steps: &mut Vec<Step>, writes: usize) -> Result<(),
     add(
         steps,
         NodeName::Coordinator,
-        Work::Create { table: 7, owner },
+        Work::Order(Order::Create { table: 7, owner }),
     )?;
     settle(steps)?;
     for _ in 0..writes {
