@@ -39,7 +39,8 @@ settled = scene.Settle no_kinds no_hosts
 abbrev pub beginning : List ScenarioEvent
 beginning =
     scene.Core (Start 0 []) ∷ scene.Core (Start 1 []) ∷ scene.Core (Start 2 []) ∷ scene.Core (Start 3 [])
-    ∷ scene.Core (Start 4 []) ∷ settled ∷ scene.Core (Order (Create 1 (record { index = 0; generation = 1 }))) ∷ settled ∷ []
+    ∷ scene.Core (Start 4 []) ∷ settled
+    ∷ scene.Core (Order (Create 1 (record { index = 0; generation = 1 }))) ∷ settled ∷ []
 
 -- the world after these events of a scenario
 unfoldable pub played : World → List ScenarioEvent → World
