@@ -1,10 +1,10 @@
 -- A first byte that names no kind, or that of an order.
-use Rattle.std.proofs.Common.{◌≡◌, ℕ, zero, suc, ◌-◌, ◌≤◌, List, [], ◌∷◌, length, None, refl, arith}
+use Rattle.std.proofs.Common.{◌≡◌, ℕ, zero, suc, ◌-◌, ◌≤◌, List, [], ◌∷◌, length, None, refl, ap, ◌∙◌, arith}
 use Rattle.std.specs.Prelude.{slice_get, map}
 use Rattle.rc_types.specs.declared.events.Event.TheVariants as event
 use Rattle.rc_types.specs.declared.events.Order.{Order}
 use Rattle.rc_codec.specs.Reading.{◌>>=◌, Reader, made}
-use Rattle.rc_codec.specs.Readers.{chosen_at, bodies, events, orders, ordered, order_at}
+use Rattle.rc_codec.specs.Readers.{chosen_at, bodies, ask_at, deliver_at, tick_at, stop_at, start_at, events, orders, ordered, order_at}
 
 pub past : {A : Type 0} (table : List A) (k : ℕ) → length table ≤ k → slice_get table k ≡ None
 past [] k h = refl
@@ -26,14 +26,16 @@ made-of-each f (read ∷ table) zero xs = refl
 made-of-each f (read ∷ table) (suc n) xs = made-of-each f table n xs
 
 -- after a first byte of 5 and more, by a table in which the orders stand behind five others
-pub after_five : {A : Type 0} (f : Order → A) {a b c d e : Reader A} (k : ℕ) (xs : List ℕ) → 5 ≤ k →
+pub after_five : {A : Type 0} (f : Order → A) (a b c d e : Reader A) (k : ℕ) (xs : List ℕ) → 5 ≤ k →
     chosen_at (a ∷ b ∷ c ∷ d ∷ e ∷ ordered f) (k ∷ xs) ≡ made (order_at k) f xs
-after_five f zero xs h = absurd (omega arith)
-after_five f (suc zero) xs h = absurd (omega arith)
-after_five f (suc (suc zero)) xs h = absurd (omega arith)
-after_five f (suc (suc (suc zero))) xs h = absurd (omega arith)
-after_five f (suc (suc (suc (suc zero)))) xs h = absurd (omega arith)
-after_five f (suc (suc (suc (suc (suc k))))) xs h = made-of-each f orders k xs
+after_five f a b c d e zero xs h = absurd (omega arith)
+after_five f a b c d e (suc zero) xs h = absurd (omega arith)
+after_five f a b c d e (suc (suc zero)) xs h = absurd (omega arith)
+after_five f a b c d e (suc (suc (suc zero))) xs h = absurd (omega arith)
+after_five f a b c d e (suc (suc (suc (suc zero)))) xs h = absurd (omega arith)
+after_five f a b c d e (suc (suc (suc (suc (suc k))))) xs h =
+    let same : k ≡ suc (suc (suc (suc (suc k)))) - 5 = omega arith in
+    made-of-each f orders k xs ∙ ap (λ (n : ℕ). made (λ ys. slice_get orders n >>= λ read. read ys) f xs) same
 
 pub event_orders : (k : ℕ) (rest : List ℕ) → 5 ≤ k → chosen_at events (k ∷ rest) ≡ made (order_at k) event.Order rest
-event_orders = after_five event.Order
+event_orders = after_five event.Order ask_at deliver_at tick_at stop_at start_at

@@ -215,7 +215,7 @@ message_law = made_lawful (three_lawful addr_law addr_law body_law) (λ p. recor
 
 -- the orders
 
-order_read : Reader Order
+abbrev order_read : Reader Order
 order_read [] = None
 order_read (kind ∷ rest) = order_at kind rest
 
@@ -240,20 +240,20 @@ IsMadeBy f table = (k : ℕ) (xs : List ℕ) → 5 ≤ k → chosen_at table (k 
 abbrev with_order : {A : Type 0} → (Order → A) → Option (Order × List ℕ) → Option (A × List ℕ)
 with_order f read = read >>= λ x. Some (f x.0, x.1)
 
-pub ordered_again : {A : Type 0} (f : Order → A) {table : List (Reader A)} → IsMadeBy f table → (x : Order) (rest : List ℕ) →
-    chosen_at table (order_code x ++ rest) ≡ Some (f x, rest)
-ordered_again f made_by (order.Suspect id) rest =
+pub ordered_again : {A : Type 0} (f : Order → A) (readers : List (Reader A)) → IsMadeBy f readers → (x : Order) (rest : List ℕ) →
+    chosen_at readers (order_code x ++ rest) ≡ Some (f x, rest)
+ordered_again f readers made_by (order.Suspect id) rest =
     made_by 5 (id_code id ++ rest) (omega arith) ∙ ap (with_order f) (order_again (order.Suspect id) rest)
-ordered_again f made_by (order.Decide id) rest =
+ordered_again f readers made_by (order.Decide id) rest =
     made_by 6 (id_code id ++ rest) (omega arith) ∙ ap (with_order f) (order_again (order.Decide id) rest)
-ordered_again f made_by (order.Create table owner) rest =
+ordered_again f readers made_by (order.Create table owner) rest =
     made_by 7 ((four_bytes table ++ id_code owner) ++ rest) (omega arith) ∙ ap (with_order f) (order_again (order.Create table owner) rest)
-ordered_again f made_by (order.Split table at) rest =
+ordered_again f readers made_by (order.Split table at) rest =
     made_by 8 ((four_bytes table ++ eight_bytes at) ++ rest) (omega arith) ∙ ap (with_order f) (order_again (order.Split table at) rest)
 
 pub ordered_right : {A : Type 0} (f : Order → A) (code : A → List ℕ) → ((x : Order) → code (f x) ≡ order_code x) →
     AreRight code 5 (ordered f)
-ordered_right f code same = made_right f same order_right
+ordered_right f code same = made_right order_code code f same 5 orders order_right
 
 event_again : (x : Event) (rest : List ℕ) → chosen_at events (event_code x ++ rest) ≡ Some (x, rest)
 event_again (event.Ask to body) rest = made_again (pair_lawful id_law body_law) (λ p. event.Ask p.0 p.1) (to, body) rest
@@ -262,7 +262,7 @@ event_again (event.Tick addr) rest = made_again addr_law event.Tick addr rest
 event_again (event.Stop id) rest = made_again id_law event.Stop id rest
 event_again (event.Start host kept) rest = made_again (pair_lawful u8_law (listed_lawful kept_law)) (λ p. event.Start p.0 p.1)
     (host, kept) rest
-event_again (event.Order x) rest = ordered_again event.Order event_orders x rest
+event_again (event.Order x) rest = ordered_again event.Order events event_orders x rest
 
 event_right : AreRight event_code 0 events
 event_right = (

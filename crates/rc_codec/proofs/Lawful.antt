@@ -285,16 +285,16 @@ kind_right {A} {B} {c} {read} l f code k same xs y rest fits e =
     ap (λ (zs : List ℕ). k ∷ zs) t.2 ∙ ap (λ (zs : List ℕ). zs ++ rest) (sym (same t.0) ∙ ap code t.1)
 
 -- something that is made of each
-pub made_right : {A B : Type 0} {code : A → List ℕ} {other : B → List ℕ} (f : A → B) → ((x : A) → other (f x) ≡ code x) →
-    {k : ℕ} {table : List (Reader A)} → AreRight code k table → AreRight other k (map (λ (read : Reader A). made read f) table)
-made_right f same {table = []} right = tt
-made_right {A} {B} {code} {other} f same {table = read ∷ table} right = (
+pub made_right : {A B : Type 0} (code : A → List ℕ) (other : B → List ℕ) (f : A → B) → ((x : A) → other (f x) ≡ code x) →
+    (k : ℕ) (table : List (Reader A)) → AreRight code k table → AreRight other k (map (λ (read : Reader A). made read f) table)
+made_right code other f same k [] right = tt
+made_right {A} {B} code other f same k (read ∷ table) right = (
   λ xs y rest fits e.
       let b = bind_some (read xs) (λ x. Some (f x.0, x.1)) (y, rest) e in
       let one = some_is (f b.0.0, b.0.1) (y, rest) b.2 in
       right.0 xs b.0.0 b.0.1 fits b.1 ∙ ap (λ (zs : List ℕ). zs ++ b.0.1) (sym (same b.0.0))
       ∙ ap (λ (p : B × List ℕ). other p.0 ++ p.1) one,
-  made_right f same right.1,
+  made_right code other f same (suc k) table right.1,
 )
 
 table_right : {B : Type 0} (code : B → List ℕ) (k : ℕ) (table : List (Reader B)) → AreRight code k table → (n m : ℕ) (read : Reader B)

@@ -16,7 +16,7 @@ work_again (work.Deliver message) rest = made_again message_law work.Deliver mes
 work_again work.Tick rest = made_again nothing_lawful (λ _. work.Tick) tt rest
 work_again work.Stop rest = made_again nothing_lawful (λ _. work.Stop) tt rest
 work_again (work.Start kept) rest = made_again (listed_lawful kept_law) work.Start kept rest
-work_again (work.Order order) rest = ordered_again work.Order work_orders order rest
+work_again (work.Order order) rest = ordered_again work.Order works work_orders order rest
 
 work_right : AreRight work_code 0 works
 work_right = (
