@@ -61,26 +61,17 @@ fn suspecting(alloc: Global) -> Result<Coordinator<Global>, Fault> {
 
 /// The two others answer: the holder has the one segment of the log, open and empty.
 fn answer(alloc: Global, coordinator: &mut Coordinator<Global>) -> Result<(), Fault> {
-    let mut digest = Vec::new(alloc);
-    digest.push(1)?;
-    let mut rows = Vec::new(alloc);
-    rows.push(Row {
+    let row = Row {
         seg: 1,
         epoch: 0,
         closed: false,
         len: 0,
-        digest: Shared::from_vec(alloc, digest)?,
-    })?;
-    let held = Body::Replicas {
-        attempt: 1,
-        rows: Seq::from_vec(rows),
+        digest: Shared::from_vec(alloc, vec![in alloc; 1]?)?,
     };
-    tell(coordinator, HOLDER, held)?;
-    let none = Body::Replicas {
-        attempt: 1,
-        rows: Seq::new(alloc),
-    };
-    tell(coordinator, OTHER, none)
+    let rows = Seq::from_vec(vec![in alloc; row]?);
+    tell(coordinator, HOLDER, Body::Replicas { attempt: 1, rows })?;
+    let rows = Seq::new(alloc);
+    tell(coordinator, OTHER, Body::Replicas { attempt: 1, rows })
 }
 
 /// What is due where these were heard, silent and stuck.
