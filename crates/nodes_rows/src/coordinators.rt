@@ -37,21 +37,13 @@ fn tell(book: &mut Book, command: &str, desk: &mut Desk) -> Result<(), Fault> {
 
 /// What a command gives the coordinator.
 fn work_of(command: &str, desk: &mut Desk) -> Result<Option<NodeWork>, AllocError> {
-    let numbers = &mut desk.numbers;
-    Ok(Some(match command {
-        "tick" => NodeWork::Tick,
-        "suspect" => NodeWork::Order(Order::Suspect(numbers.id())),
-        "decide" => NodeWork::Order(Order::Decide(numbers.id())),
-        "create" => NodeWork::Order(Order::Create {
-            table: numbers.long(),
-            owner: numbers.id(),
-        }),
-        "split" => NodeWork::Order(Order::Split {
-            table: numbers.long(),
-            at: numbers.next(),
-        }),
-        _ => return message_of(command, desk),
-    }))
+    if command == "tick" {
+        return Ok(Some(NodeWork::Tick));
+    }
+    match told::order(command, &mut desk.numbers) {
+        Some(order) => Ok(Some(NodeWork::Order(order))),
+        None => message_of(command, desk),
+    }
 }
 
 /// What a server tells the coordinator.

@@ -1,6 +1,6 @@
 //! What a node is told: a message, by the command of a line and its numbers.
 
-use rc_types::{Addr, Body, Code, Part, PlanRow, Row, Seq, Shared};
+use rc_types::{Addr, Body, Code, Order, Part, PlanRow, Row, Seq, Shared};
 use rows::{Desk, Numbers};
 use std::alloc::{AllocError, Global};
 
@@ -23,6 +23,23 @@ pub fn to_server(command: &str, desk: &mut Desk) -> Result<Option<Told>, AllocEr
 pub fn to_coordinator(command: &str, desk: &mut Desk) -> Result<Option<Told>, AllocError> {
     let from = Addr::Server(desk.numbers.id());
     Ok(coordinator_hears(command, desk)?.map(|body| (from, body)))
+}
+
+/// What the coordinator is told by who runs the cluster.
+pub fn order(command: &str, numbers: &mut Numbers) -> Option<Order> {
+    Some(match command {
+        "suspect" => Order::Suspect(numbers.id()),
+        "decide" => Order::Decide(numbers.id()),
+        "create" => Order::Create {
+            table: numbers.long(),
+            owner: numbers.id(),
+        },
+        "split" => Order::Split {
+            table: numbers.long(),
+            at: numbers.next(),
+        },
+        _ => return None,
+    })
 }
 
 /// What a client asks.

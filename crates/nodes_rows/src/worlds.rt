@@ -4,7 +4,7 @@ use crate::cases::unknown;
 use crate::{bodies, hosts, looks, masters, told};
 use rc_master::Master;
 use rc_types::limits::{MAX_EVENTS, MAX_HOSTS};
-use rc_types::{Addr, Body, Event, Fault, Message, Order, Seq, ServerId};
+use rc_types::{Addr, Body, Event, Fault, Message, Seq, ServerId};
 use rc_world::World;
 use rows::{Desk, Numbers, Page};
 use std::alloc::{AllocError, Global};
@@ -93,17 +93,10 @@ fn event_of(command: &str, desk: &mut Desk) -> Result<Option<Event>, AllocError>
         "tick" => Event::Tick(Addr::Server(numbers.id())),
         "tick-coordinator" => Event::Tick(Addr::Coordinator),
         "stop" => Event::Stop(numbers.id()),
-        "suspect" => Event::Order(Order::Suspect(numbers.id())),
-        "decide" => Event::Order(Order::Decide(numbers.id())),
-        "create" => Event::Order(Order::Create {
-            table: numbers.long(),
-            owner: numbers.id(),
-        }),
-        "split" => Event::Order(Order::Split {
-            table: numbers.long(),
-            at: numbers.next(),
-        }),
-        _ => return ask(command, desk),
+        _ => match told::order(command, numbers) {
+            Some(order) => Event::Order(order),
+            None => return ask(command, desk),
+        },
     }))
 }
 
