@@ -1,10 +1,13 @@
 -- A first byte that names no kind, or that of an order.
-use Rattle.std.proofs.Common.{◌≡◌, ℕ, zero, suc, ◌-◌, ◌≤◌, List, [], ◌∷◌, length, None, refl, ap, ◌∙◌, arith}
+use Rattle.std.proofs.Common.{◌≡◌, ℕ, zero, suc, ◌-◌, ◌≤◌, List, [], ◌∷◌, length, Option, Some, None, refl, ap, ◌∙◌, arith}
 use Rattle.std.specs.Prelude.{slice_get, map}
 use Rattle.rc_types.specs.declared.events.Event.TheVariants as event
 use Rattle.rc_types.specs.declared.events.Order.{Order}
-use Rattle.rc_codec.specs.Reading.{◌>>=◌, Reader, made}
+use Rattle.rc_codec.specs.Reading.{◌>>=◌, Reader, made, Fails}
+use Rattle.rc_codec.specs.declared.faults.DecodeFault.{DecodeFault}
+use Rattle.rc_codec.specs.declared.faults.DecodeFault.TheVariants.{OutOfMemory, Malformed}
 use Rattle.rc_codec.specs.Readers.{chosen_at, bodies, ask_at, deliver_at, tick_at, stop_at, start_at, events, orders, ordered, order_at}
+use Rattle.rc_codec.specs.Readers.{event_at}
 
 pub past : {A : Type 0} (table : List A) (k : ℕ) → length table ≤ k → slice_get table k ≡ None
 past [] k h = refl
@@ -39,3 +42,18 @@ after_five f a b c d e (suc (suc (suc (suc (suc k))))) xs h =
 
 pub event_orders : (k : ℕ) (rest : List ℕ) → 5 ≤ k → chosen_at events (k ∷ rest) ≡ made (order_at k) event.Order rest
 event_orders = after_five event.Order ask_at deliver_at tick_at stop_at start_at
+
+-- as what is read of an event
+
+abbrev with_order : {A : Type 0} → (Order → A) → Option (Order × List ℕ) → Option (A × List ℕ)
+with_order f read = read >>= λ x. Some (f x.0, x.1)
+
+pub event_ordered : (k : ℕ) (xs : List ℕ) (x : Order) (rest : List ℕ) → 5 ≤ k → order_at k xs ≡ Some (x, rest) →
+    event_at (k ∷ xs) ≡ Some (event.Order x, rest)
+unfolding event_at
+event_ordered k xs x rest far read = event_orders k xs far ∙ ap (with_order event.Order) read
+
+pub event_fails : (k : ℕ) (xs : List ℕ) (fault : DecodeFault) → 5 ≤ k → Fails fault (order_at k xs) → Fails fault (event_at (k ∷ xs))
+unfolding event_at
+event_fails k xs OutOfMemory far read = tt
+event_fails k xs Malformed far read = event_orders k xs far ∙ ap (with_order event.Order) read

@@ -39,7 +39,7 @@ impl Take for Event {
 }
 
 /// What stands behind a kind.
-#[tactic(auto, unfolding(crate::specs::Readers::event_at), using(crate::proofs::Choices::event_orders))]
+#[tactic(auto, unfolding(crate::specs::Readers::event_at))]
 fn take_kind(alloc: Global, kind: u8, bytes: &[u8]) -> Result<(Event, &[u8]), DecodeFault>
     ensures { Gives (λ x. (x.0, x.1.now)) result (event_at (kind ∷ bytes.now)) }
 {
@@ -58,11 +58,17 @@ fn take_kind(alloc: Global, kind: u8, bytes: &[u8]) -> Result<(Event, &[u8]), De
             Err(fault) => Err(fault),
         },
         4 => take_start(alloc, bytes),
-        _ => match take_order(alloc, kind, bytes) {
-            Ok((order, rest)) => Ok((Event::Order(order), rest)),
-            Err(fault) => Err(fault),
-        },
+        _ => take_told(alloc, kind, bytes),
     }
+}
+
+#[tactic(auto, using(crate::proofs::Choices::event_ordered, crate::proofs::Choices::event_fails))]
+fn take_told(alloc: Global, kind: u8, bytes: &[u8]) -> Result<(Event, &[u8]), DecodeFault>
+    requires { 5 ≤ kind }
+    ensures { Gives (λ x. (x.0, x.1.now)) result (event_at (kind ∷ bytes.now)) }
+{
+    let (order, rest) = take_order(alloc, kind, bytes)?;
+    Ok((Event::Order(order), rest))
 }
 
 fn take_ask(alloc: Global, bytes: &[u8]) -> Result<(Event, &[u8]), DecodeFault>

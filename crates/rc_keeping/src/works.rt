@@ -1,6 +1,6 @@
 //! A work as bytes: its kind in one byte, and its fields, behind the version of the format.
 
-ghost use Rattle.std.specs.Prelude.{◌≡◌, ◌++◌, ◌∷◌, IfOk, IfErr, OnOk, OnErr};
+ghost use Rattle.std.specs.Prelude.{◌≡◌, ◌≤◌, ◌++◌, ◌∷◌, IfOk, IfErr, OnOk, OnErr};
 ghost use Rattle.rc_codec.specs.Claims.{IsFront, DecodesFront, BeginsWithNone};
 ghost use Rattle.rc_codec.specs.Parts.{Begins};
 ghost use Rattle.rc_codec.specs.Reading.{Gives};
@@ -94,7 +94,7 @@ fn take_work(alloc: Global, bytes: &[u8]) -> Result<(NodeWork, &[u8]), DecodeFau
 }
 
 /// What stands behind a kind.
-#[tactic(auto, unfolding(crate::specs::Readers::node_work_at), using(crate::proofs::WorkOrders::work_orders))]
+#[tactic(auto, unfolding(crate::specs::Readers::node_work_at))]
 fn take_kind(alloc: Global, kind: u8, bytes: &[u8]) -> Result<(NodeWork, &[u8]), DecodeFault>
     ensures { Gives (λ x. (x.0, x.1.now)) result (node_work_at (kind ∷ bytes.now)) }
 {
@@ -104,11 +104,17 @@ fn take_kind(alloc: Global, kind: u8, bytes: &[u8]) -> Result<(NodeWork, &[u8]),
         2 => Ok((NodeWork::Tick, bytes)),
         3 => Ok((NodeWork::Stop, bytes)),
         4 => take_start(alloc, bytes),
-        _ => match take_order(alloc, kind, bytes) {
-            Ok((order, rest)) => Ok((NodeWork::Order(order), rest)),
-            Err(fault) => Err(fault),
-        },
+        _ => take_told(alloc, kind, bytes),
     }
+}
+
+#[tactic(auto, using(crate::proofs::WorkOrders::work_ordered, crate::proofs::WorkOrders::work_fails))]
+fn take_told(alloc: Global, kind: u8, bytes: &[u8]) -> Result<(NodeWork, &[u8]), DecodeFault>
+    requires { 5 ≤ kind }
+    ensures { Gives (λ x. (x.0, x.1.now)) result (node_work_at (kind ∷ bytes.now)) }
+{
+    let (order, rest) = take_order(alloc, kind, bytes)?;
+    Ok((NodeWork::Order(order), rest))
 }
 
 fn take_ask(alloc: Global, bytes: &[u8]) -> Result<(NodeWork, &[u8]), DecodeFault>
