@@ -4,7 +4,7 @@ use crate::client::{KEYS, TABLE, read_of};
 use crate::cluster::{COORDINATOR, Cluster, HOSTS, NODES};
 use crate::outcome::Outcome;
 use rc_audit::audit;
-use rc_types::{Fault, NodeWork, ServerId};
+use rc_types::{Fault, NodeWork, Order, ServerId};
 use std::alloc::Global;
 
 /// How many steps are drawn.
@@ -50,10 +50,10 @@ fn begin(alloc: Global, cluster: &mut Cluster) -> Result<(), Fault> {
     }
     settle(alloc, cluster)?;
     let owner = cluster.newest(0);
-    let create = NodeWork::Create {
+    let create = NodeWork::Order(Order::Create {
         table: TABLE,
         owner,
-    };
+    });
     cluster.give(alloc, COORDINATOR, &create)?;
     settle(alloc, cluster)
 }
@@ -86,7 +86,10 @@ fn step(alloc: Global, cluster: &mut Cluster) -> Result<(), Fault> {
         151..=160 => cluster.come_back(alloc, host),
         161..=168 => cluster.come_back(alloc, COORDINATOR),
         169..=172 => suspect(alloc, cluster, host),
-        173..=178 => sync(alloc, cluster),
+        173..=178 => {
+            let place = cluster.dice.below(NODES);
+            cluster.sync(alloc, place)
+        }
         179..=180 => cluster.start(alloc, host),
         _ => decide(alloc, cluster, host),
     }
@@ -96,12 +99,6 @@ fn step(alloc: Global, cluster: &mut Cluster) -> Result<(), Fault> {
 fn crash(cluster: &mut Cluster, place: usize) -> Result<(), Fault> {
     cluster.crash(place);
     Ok(())
-}
-
-/// What a node has written is synced.
-fn sync(alloc: Global, cluster: &mut Cluster) -> Result<(), Fault> {
-    let place = cluster.dice.below(NODES);
-    cluster.sync(alloc, place)
 }
 
 /// The outside asks for a write.
@@ -128,7 +125,7 @@ fn asked(cluster: &mut Cluster) -> ServerId {
 fn suspect(alloc: Global, cluster: &mut Cluster, host: usize) -> Result<(), Fault> {
     if cluster.is_down(host) || cluster.dice.once_in(30) {
         let id = cluster.newest(host);
-        return cluster.give(alloc, COORDINATOR, &NodeWork::Suspect(id));
+        return cluster.give(alloc, COORDINATOR, &NodeWork::Order(Order::Suspect(id)));
     }
     Ok(())
 }
@@ -137,13 +134,9 @@ fn suspect(alloc: Global, cluster: &mut Cluster, host: usize) -> Result<(), Faul
 /// does no harm.
 fn decide(alloc: Global, cluster: &mut Cluster, host: usize) -> Result<(), Fault> {
     let mut id = cluster.newest(host);
-    let back = match cluster.dice.below(3) {
-        0 => 0,
-        1 => 1,
-        _ => 2,
-    };
+    let back = cluster.dice.below(3).min(2) as u32;
     id.generation = id.generation.saturating_sub(back);
-    cluster.give(alloc, COORDINATOR, &NodeWork::Decide(id))
+    cluster.give(alloc, COORDINATOR, &NodeWork::Order(Order::Decide(id)))
 }
 
 /// All processes are back, what was lost is sent again, and then the hosts are begun anew, one after another: also
@@ -194,9 +187,9 @@ fn recover(alloc: Global, cluster: &mut Cluster, host: usize) -> Result<(), Faul
             index: newest.index,
             generation,
         };
-        cluster.give(alloc, COORDINATOR, &NodeWork::Suspect(id))?;
+        cluster.give(alloc, COORDINATOR, &NodeWork::Order(Order::Suspect(id)))?;
         settle(alloc, cluster)?;
-        cluster.give(alloc, COORDINATOR, &NodeWork::Decide(id))?;
+        cluster.give(alloc, COORDINATOR, &NodeWork::Order(Order::Decide(id)))?;
         tick(alloc, cluster)?;
     }
     Ok(())
@@ -221,8 +214,8 @@ fn look(alloc: Global, cluster: &mut Cluster) -> Result<(), Fault> {
 
 /// The recovery of a crashed owner is decided once more.
 fn decide_again(alloc: Global, cluster: &mut Cluster, owner: ServerId) -> Result<(), Fault> {
-    cluster.give(alloc, COORDINATOR, &NodeWork::Suspect(owner))?;
+    cluster.give(alloc, COORDINATOR, &NodeWork::Order(Order::Suspect(owner)))?;
     tick(alloc, cluster)?;
-    cluster.give(alloc, COORDINATOR, &NodeWork::Decide(owner))?;
+    cluster.give(alloc, COORDINATOR, &NodeWork::Order(Order::Decide(owner)))?;
     tick(alloc, cluster)
 }

@@ -35,19 +35,15 @@ use std::rt::Env;
 
 fn main(rt: HostRuntime) -> io::Result<()> {
     let Some((first, count)) = seeds(&rt)? else {
-        println!(rt; "usage: embed FIRST COUNT")?;
-        return Ok(());
+        return println!(rt; "usage: embed FIRST COUNT");
     };
-    let mut totals = Totals::new();
+    let mut totals = Totals::default();
     for number in 0..count {
         let outcome = outcome_of(rt.alloc(), first.saturating_add(number))?;
         totals.add(&outcome);
-        let line = outcome.line(rt.alloc())?;
-        println!(rt; "{line}")?;
+        println!(rt; "{outcome}")?;
     }
-    let line = totals.line(rt.alloc())?;
-    println!(rt; "{line}")?;
-    Ok(())
+    println!(rt; "{totals}")
 }
 
 /// What came of a seed.

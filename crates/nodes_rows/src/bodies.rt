@@ -1,7 +1,7 @@
 //! How messages are written: who sends whom what.
 
-use rc_types::{Body, Entry, Message, Part, PlanRow, Row, ServerId, Shared};
-use rows::Page;
+use rc_types::{Body, Entry, KeyRange, Kind, Message, Part, PlanRow, Row, ServerId, Shared};
+use rows::{Page, closed_or_open, up_or_crashed};
 
 /// How many bytes of a value are written out; of a longer one, how many it has.
 const SHORT: usize = 8;
@@ -23,41 +23,25 @@ pub fn write_numbered(sent: &[Message], first: usize, page: &mut Page) {
         page.put("\n    nothing");
     }
     for (number, message) in sent.iter().enumerate().skip(first) {
-        page.size("\n    ", number);
-        page.put(". ");
+        write!(page, "\n    {number}. ");
         write_message(message, page);
     }
 }
 
 fn write_message(message: &Message, page: &mut Page) {
-    page.node("", message.from);
-    page.node(" to ", message.to);
-    page.put(": ");
+    let kind = Kind::of(&message.body).name();
+    write!(page, "{} to {}: {kind}", message.from, message.to);
     write_body(&message.body, page);
 }
 
-/// A short number behind these words.
-fn short(page: &mut Page, words: &str, number: u16) {
-    page.number(words, u64::from(number));
-}
-
-/// A number of four bytes behind these words.
-fn long(page: &mut Page, words: &str, number: u32) {
-    page.number(words, u64::from(number));
-}
-
-/// What it says: the kinds of clients first, then those of the log.
+/// What it says besides its kind: the kinds of clients first, then those of the log.
 fn write_body(body: &Body, page: &mut Page) {
     match body {
         Body::Write { table, key, value } => {
-            long(page, "Write table ", *table);
-            page.number(" key ", *key);
+            write!(page, " table {table} key {key}");
             write_value(value, page);
         }
-        Body::Read { table, key } => {
-            long(page, "Read table ", *table);
-            page.number(" key ", *key);
-        }
+        Body::Read { table, key } => write!(page, " table {table} key {key}"),
         Body::WriteOk {
             seg,
             offset,
@@ -66,12 +50,8 @@ fn write_body(body: &Body, page: &mut Page) {
             key,
             version,
         } => {
-            short(page, "WriteOk seg ", *seg);
-            page.size(" offset ", *offset);
-            long(page, " term ", *term);
-            long(page, " table ", *table);
-            page.number(" key ", *key);
-            page.number(" version ", *version);
+            write!(page, " seg {seg} offset {offset} term {term}");
+            write!(page, " table {table} key {key} version {version}");
         }
         Body::ReadOk {
             table,
@@ -79,16 +59,11 @@ fn write_body(body: &Body, page: &mut Page) {
             version,
             value,
         } => {
-            long(page, "ReadOk table ", *table);
-            page.number(" key ", *key);
-            page.number(" version ", *version);
+            write!(page, " table {table} key {key} version {version}");
             write_value(value, page);
         }
-        Body::Refused { code } => page.code("Refused ", *code),
-        Body::SplitOk { table, at } => {
-            long(page, "SplitOk table ", *table);
-            page.number(" at ", *at);
-        }
+        Body::Refused { code } => write!(page, " {code}"),
+        Body::SplitOk { table, at } => write!(page, " table {table} at {at}"),
         body => write_of_log(body, page),
     }
 }
@@ -103,10 +78,9 @@ fn write_of_log(body: &Body, page: &mut Page) {
             entries,
             closed,
         } => {
-            short(page, "Place seg ", *seg);
-            short(page, " epoch ", *epoch);
-            page.closed(" ", *closed);
-            page.numbers(" digest", digest.as_slice());
+            let closed = closed_or_open(*closed);
+            write!(page, " seg {seg} epoch {epoch} {closed}");
+            page.list(" digest", digest.as_slice());
             write_entries(entries.as_slice(), page);
         }
         Body::Append {
@@ -114,75 +88,56 @@ fn write_of_log(body: &Body, page: &mut Page) {
             offset,
             entries,
         } => {
-            short(page, "Append seg ", *seg);
-            page.size(" offset ", *offset);
+            write!(page, " seg {seg} offset {offset}");
             write_entries(entries.as_slice(), page);
         }
-        Body::Close { seg, len } => {
-            short(page, "Close seg ", *seg);
-            page.size(" length ", *len);
-        }
+        Body::Close { seg, len } => write!(page, " seg {seg} length {len}"),
         Body::Stored {
             seg,
             epoch,
             len,
             closed,
         } => {
-            short(page, "Stored seg ", *seg);
-            short(page, " epoch ", *epoch);
-            page.size(" length ", *len);
-            page.closed(" ", *closed);
+            let closed = closed_or_open(*closed);
+            write!(page, " seg {seg} epoch {epoch} length {len} {closed}");
         }
-        Body::Commit { seg, epoch } => {
-            short(page, "Commit seg ", *seg);
-            short(page, " epoch ", *epoch);
+        Body::Commit { seg, epoch } | Body::CommitOk { seg, epoch } => {
+            write!(page, " seg {seg} epoch {epoch}");
         }
-        Body::CommitOk { seg, epoch } => {
-            short(page, "CommitOk seg ", *seg);
-            short(page, " epoch ", *epoch);
-        }
-        Body::Free { seg } => short(page, "Free seg ", *seg),
+        Body::Free { seg } => write!(page, " seg {seg}"),
         body => write_of_servers(body, page),
     }
 }
 
-/// What servers and the coordinator say of each other; then the kinds of recoveries.
+/// What servers and the coordinator say of each other; then the kinds that are of a crashed master's log.
 fn write_of_servers(body: &Body, page: &mut Page) {
     match body {
-        Body::Enlist => page.put("Enlist"),
-        Body::Ready => page.put("Ready"),
         Body::List { version, rows } => {
-            long(page, "List version ", *version);
+            write!(page, " version {version}");
             write_servers(rows.as_slice(), page);
         }
         Body::Own {
-            range,
+            range: KeyRange { table, lo, hi },
             term,
             previous,
             attempt,
         } => {
-            long(page, "Own table ", range.table);
-            page.number(" from ", range.lo);
-            page.number(" to ", range.hi);
-            long(page, " term ", *term);
-            long(page, " previous ", *previous);
-            long(page, " attempt ", *attempt);
+            write!(page, " table {table} from {lo} to {hi}");
+            write!(page, " term {term} previous {previous} attempt {attempt}");
         }
-        body => write_of_recovery(body, page),
+        Body::Gather { attempt, master } => write!(page, " attempt {attempt} of {master}"),
+        Body::Replicas { attempt, rows } => {
+            write!(page, " attempt {attempt}");
+            write_rows(rows.as_slice(), page);
+        }
+        Body::Recovered { attempt, term } => write!(page, " attempt {attempt} term {term}"),
+        body => write_of_crashed(body, page),
     }
 }
 
-/// What is said in a recovery.
-fn write_of_recovery(body: &Body, page: &mut Page) {
+/// What is said of a crashed master's log.
+fn write_of_crashed(body: &Body, page: &mut Page) {
     match body {
-        Body::Gather { attempt, master } => {
-            long(page, "Gather attempt ", *attempt);
-            page.id(" of ", *master);
-        }
-        Body::Replicas { attempt, rows } => {
-            long(page, "Replicas attempt ", *attempt);
-            write_rows(rows.as_slice(), page);
-        }
         Body::Plan {
             attempt,
             master,
@@ -190,17 +145,13 @@ fn write_of_recovery(body: &Body, page: &mut Page) {
             rows,
             parts,
         } => {
-            long(page, "Plan attempt ", *attempt);
-            page.id(" of ", *master);
-            short(page, " head ", *head);
-            write_plan_rows(rows.as_slice(), page);
+            write!(page, " attempt {attempt} of {master} head {head}");
+            for PlanRow { seg, holder, len } in rows.as_slice() {
+                write!(page, " (seg {seg} at {holder} length {len})");
+            }
             for part in parts.as_slice() {
                 write_part(part, page);
             }
-        }
-        Body::Recovered { attempt, term } => {
-            long(page, "Recovered attempt ", *attempt);
-            long(page, " term ", *term);
         }
         Body::Fetch {
             attempt,
@@ -209,10 +160,8 @@ fn write_of_recovery(body: &Body, page: &mut Page) {
             len,
             part,
         } => {
-            long(page, "Fetch attempt ", *attempt);
-            page.id(" of ", *master);
-            short(page, " seg ", *seg);
-            page.size(" length ", *len);
+            write!(page, " attempt {attempt} of {master}");
+            write!(page, " seg {seg} length {len}");
             write_part(part, page);
         }
         Body::Data {
@@ -221,9 +170,7 @@ fn write_of_recovery(body: &Body, page: &mut Page) {
             term,
             entries,
         } => {
-            long(page, "Data attempt ", *attempt);
-            short(page, " seg ", *seg);
-            long(page, " term ", *term);
+            write!(page, " attempt {attempt} seg {seg} term {term}");
             write_entries(entries.as_slice(), page);
         }
         _ => {}
@@ -232,8 +179,7 @@ fn write_of_recovery(body: &Body, page: &mut Page) {
 
 fn write_servers(rows: &[(ServerId, bool)], page: &mut Page) {
     for (id, up) in rows {
-        page.id(" ", *id);
-        page.either(" ", *up, "up", "crashed");
+        write!(page, " {id} {}", up_or_crashed(*up));
     }
 }
 
@@ -241,11 +187,8 @@ fn write_servers(rows: &[(ServerId, bool)], page: &mut Page) {
 fn write_value(value: &Option<Shared<u8>>, page: &mut Page) {
     match value {
         None => page.put(" value none"),
-        Some(bytes) if bytes.len() > SHORT => {
-            page.size(" value of ", bytes.len());
-            page.put(" bytes");
-        }
-        Some(bytes) => page.bytes(" value", bytes.as_slice()),
+        Some(bytes) if bytes.len() > SHORT => write!(page, " value of {} bytes", bytes.len()),
+        Some(bytes) => page.list(" value", bytes.as_slice()),
     }
 }
 
@@ -260,10 +203,8 @@ fn write_entries(entries: &[Entry], page: &mut Page) {
 
 /// An entry in brackets.
 pub fn write_entry(entry: &Entry, page: &mut Page) {
-    long(page, " (term ", entry.term);
-    long(page, " table ", entry.table);
-    page.number(" key ", entry.key);
-    page.number(" version ", entry.version);
+    write!(page, " (term {} table {}", entry.term, entry.table);
+    write!(page, " key {} version {}", entry.key, entry.version);
     write_value(&entry.value, page);
     page.put(")");
 }
@@ -273,29 +214,15 @@ fn write_rows(rows: &[Row], page: &mut Page) {
         page.put(" no rows");
     }
     for row in rows {
-        short(page, " (seg ", row.seg);
-        short(page, " epoch ", row.epoch);
-        page.closed(" ", row.closed);
-        page.size(" length ", row.len);
-        page.numbers(" digest", row.digest.as_slice());
-        page.put(")");
-    }
-}
-
-fn write_plan_rows(rows: &[PlanRow], page: &mut Page) {
-    for row in rows {
-        short(page, " (seg ", row.seg);
-        page.id(" at ", row.holder);
-        page.size(" length ", row.len);
+        write!(page, " (seg {} epoch {}", row.seg, row.epoch);
+        write!(page, " {} length {}", closed_or_open(row.closed), row.len);
+        page.list(" digest", row.digest.as_slice());
         page.put(")");
     }
 }
 
 fn write_part(part: &Part, page: &mut Page) {
-    long(page, " (table ", part.range.table);
-    page.number(" from ", part.range.lo);
-    page.number(" to ", part.range.hi);
-    long(page, " previous ", part.previous);
-    long(page, " term ", part.term);
-    page.put(")");
+    let KeyRange { table, lo, hi } = part.range;
+    write!(page, " (table {table} from {lo} to {hi}");
+    write!(page, " previous {} term {})", part.previous, part.term);
 }

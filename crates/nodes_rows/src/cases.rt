@@ -8,8 +8,8 @@ use rc_coordinator::Coordinator;
 use rc_master::Master;
 use rc_ownership::Ownership;
 use rc_types::Fault;
-use rows::{Commands, Numbers, Page};
-use std::alloc::{AllocError, Global};
+use rows::{Commands, Desk, Page};
+use std::alloc::AllocError;
 
 /// The node that the present case is about.
 #[derive(Drop)]
@@ -24,56 +24,39 @@ pub enum Case {
 
 impl Commands for Case {
     /// A command: it begins a case, or is for the present one.
-    fn take(
-        &mut self,
-        alloc: Global,
-        command: &str,
-        numbers: &mut Numbers,
-        page: &mut Page,
-    ) -> Result<(), Fault> {
-        match begun(alloc, command, numbers)? {
-            Some(new) => {
-                *self = new;
+    fn take(&mut self, command: &str, desk: &mut Desk) -> Result<(), Fault> {
+        if let Some(new) = begun(command, desk)? {
+            *self = new;
+            return Ok(());
+        }
+        match self {
+            Case::None => {
+                unknown(&mut desk.page);
                 Ok(())
             }
-            None => go_on(alloc, self, command, numbers, page),
+            Case::Master(master) => masters::take(master, command, desk),
+            Case::Coordinator(book) => coordinators::take(book, command, desk),
+            Case::Host(host) => hosts::take(host, command, desk),
+            Case::Owner(owner) => owners::take(owner, command, desk),
+            Case::World(world) => worlds::take(world, command, desk),
         }
     }
 }
 
 /// The case that a command begins, if it does.
-fn begun(alloc: Global, command: &str, numbers: &mut Numbers) -> Result<Option<Case>, AllocError> {
-    Ok(match command {
-        "master" => Some(Case::Master(masters::new(alloc, numbers, false))),
-        "master-that-frees" => Some(Case::Master(masters::new(alloc, numbers, true))),
-        "coordinator" => Some(Case::Coordinator(Coordinator::new(alloc, alloc))),
-        "host" => Some(Case::Host(hosts::new(alloc, numbers)?)),
-        "owner" => Some(Case::Owner(Ownership::new(alloc))),
-        "world" => Some(Case::World(worlds::new(alloc, numbers, false)?)),
-        "world-that-frees" => Some(Case::World(worlds::new(alloc, numbers, true)?)),
-        _ => None,
-    })
-}
-
-/// A command for the present case.
-fn go_on(
-    alloc: Global,
-    case: &mut Case,
-    command: &str,
-    numbers: &mut Numbers,
-    page: &mut Page,
-) -> Result<(), Fault> {
-    match case {
-        Case::None => {
-            unknown(page);
-            Ok(())
-        }
-        Case::Master(master) => masters::take(alloc, master, command, numbers, page),
-        Case::Coordinator(book) => coordinators::take(alloc, book, command, numbers, page),
-        Case::Host(host) => hosts::take(alloc, host, command, numbers, page),
-        Case::Owner(owner) => owners::take(alloc, owner, command, numbers, page),
-        Case::World(world) => worlds::take(alloc, world, command, numbers, page),
-    }
+fn begun(command: &str, desk: &mut Desk) -> Result<Option<Case>, AllocError> {
+    let alloc = desk.alloc;
+    let numbers = &mut desk.numbers;
+    Ok(Some(match command {
+        "master" => Case::Master(masters::new(alloc, numbers, false)),
+        "master-that-frees" => Case::Master(masters::new(alloc, numbers, true)),
+        "coordinator" => Case::Coordinator(Coordinator::new(alloc, alloc)),
+        "host" => Case::Host(hosts::new(alloc, numbers)?),
+        "owner" => Case::Owner(Ownership::new(alloc)),
+        "world" => Case::World(worlds::new(alloc, numbers, false)?),
+        "world-that-frees" => Case::World(worlds::new(alloc, numbers, true)?),
+        _ => return Ok(None),
+    }))
 }
 
 /// A line that is no command of the case.

@@ -3,114 +3,71 @@
 use crate::cases::unknown;
 use crate::{bodies, told};
 use rc_coordinator::Coordinator;
-use rc_types::{Addr, Fault, Message, NodeWork};
-use rows::{Numbers, Page};
+use rc_types::{Addr, Fault, Message, NodeWork, Order};
+use rows::Desk;
 use std::alloc::{AllocError, Global};
 
 /// A coordinator whose tablets lie in ordinary memory.
 pub type Book = Coordinator<Global>;
 
 /// One command for the coordinator.
-pub fn take(
-    alloc: Global,
-    book: &mut Book,
-    command: &str,
-    numbers: &mut Numbers,
-    page: &mut Page,
-) -> Result<(), Fault> {
+pub fn take(book: &mut Book, command: &str, desk: &mut Desk) -> Result<(), Fault> {
     match command {
-        "look" => look(book, page),
-        "splits" => split_upwards(alloc, book, numbers, page)?,
-        _ => tell(alloc, book, command, numbers, page)?,
+        "look" => {
+            write!(desk.page, "\n    {book:?}");
+            Ok(())
+        }
+        "splits" => split_upwards(book, desk),
+        _ => tell(book, command, desk),
     }
-    Ok(())
-}
-
-/// What is shown of the coordinator.
-fn look(book: &Book, page: &mut Page) {
-    page.put("\n    ");
-    page.shown(book);
 }
 
 /// The coordinator is given something.
-fn tell(
-    alloc: Global,
-    book: &mut Book,
-    command: &str,
-    numbers: &mut Numbers,
-    page: &mut Page,
-) -> Result<(), Fault> {
-    match work_of(alloc, command, numbers)? {
-        Some(work) if numbers.are_taken() && book.has_room() => {
-            let mut sent = Vec::new(alloc);
+fn tell(book: &mut Book, command: &str, desk: &mut Desk) -> Result<(), Fault> {
+    match work_of(command, desk)? {
+        Some(work) if desk.numbers.are_taken() && book.has_room() => {
+            let mut sent = Vec::new(desk.alloc);
             book.step_into(&work, &mut sent)?;
-            bodies::write_all(sent.as_slice(), page);
+            bodies::write_all(sent.as_slice(), &mut desk.page);
         }
-        _ => unknown(page),
+        _ => unknown(&mut desk.page),
     }
     Ok(())
 }
 
 /// What a command gives the coordinator.
-fn work_of(
-    alloc: Global,
-    command: &str,
-    numbers: &mut Numbers,
-) -> Result<Option<NodeWork>, AllocError> {
-    Ok(match command {
-        "tick" => Some(NodeWork::Tick),
-        "suspect" => Some(NodeWork::Suspect(numbers.id())),
-        "decide" => Some(NodeWork::Decide(numbers.id())),
-        "create" => {
-            let table = numbers.long();
-            let owner = numbers.id();
-            Some(NodeWork::Create { table, owner })
-        }
-        "split" => {
-            let table = numbers.long();
-            let at = numbers.next();
-            Some(NodeWork::Split { table, at })
-        }
-        _ => message_of(alloc, command, numbers)?,
-    })
+fn work_of(command: &str, desk: &mut Desk) -> Result<Option<NodeWork>, AllocError> {
+    if command == "tick" {
+        return Ok(Some(NodeWork::Tick));
+    }
+    match told::order(command, &mut desk.numbers) {
+        Some(order) => Ok(Some(NodeWork::Order(order))),
+        None => message_of(command, desk),
+    }
 }
 
 /// What a server tells the coordinator.
-fn message_of(
-    alloc: Global,
-    command: &str,
-    numbers: &mut Numbers,
-) -> Result<Option<NodeWork>, AllocError> {
-    let told = told::to_coordinator(alloc, command, numbers)?;
-    Ok(told.map(|(from, body)| {
-        NodeWork::Deliver(Message {
-            from,
-            to: Addr::Coordinator,
-            body,
-        })
-    }))
+fn message_of(command: &str, desk: &mut Desk) -> Result<Option<NodeWork>, AllocError> {
+    let to = Addr::Coordinator;
+    let told = told::to_coordinator(command, desk)?;
+    Ok(told.map(|(from, body)| NodeWork::Deliver(Message { from, to, body })))
 }
 
 /// Splits a table at each of these keys, and tells how many messages were sent, and the last of them. Keys at which a
 /// tablet begins already are passed over.
-fn split_upwards(
-    alloc: Global,
-    book: &mut Book,
-    numbers: &mut Numbers,
-    page: &mut Page,
-) -> Result<(), Fault> {
-    let table = numbers.long();
-    let first = numbers.next();
-    let last = numbers.next();
-    let mut sent: Vec<Message> = Vec::new(alloc);
+fn split_upwards(book: &mut Book, desk: &mut Desk) -> Result<(), Fault> {
+    let table = desk.numbers.long();
+    let first = desk.numbers.next();
+    let last = desk.numbers.next();
+    let mut sent: Vec<Message> = Vec::new(desk.alloc);
     for at in first..=last.min(u64::from(u16::MAX)) {
         if book.has_room() {
-            book.step_into(&NodeWork::Split { table, at }, &mut sent)?;
+            book.step_into(&NodeWork::Order(Order::Split { table, at }), &mut sent)?;
         }
     }
-    page.size("\n    ", sent.len());
-    page.put(" messages, of which the last is");
-    let last = sent.as_slice().get(sent.len().saturating_sub(1)..);
-    bodies::write_all(last.unwrap_or(&[]), page);
+    let count = sent.len();
+    write!(desk.page, "\n    {count} messages, of which the last is");
+    let last = sent.as_slice().get(count.saturating_sub(1)..);
+    bodies::write_all(last.unwrap_or(&[]), &mut desk.page);
     Ok(())
 }

@@ -9,7 +9,7 @@ use rc_backup::Backup;
 use rc_types::limits::{MAX_FACTOR, MAX_HOSTS, MAX_SEGMENT};
 use rc_types::{Addr, Fault, Message, NodeWork, Seq, ServerId, Setup};
 use rc_world::NodeState;
-use rows::{Numbers, Page};
+use rows::{Desk, Numbers, Page};
 use std::alloc::{AllocError, Global};
 
 /// A host, whose tablets, of which it has none, would lie in ordinary memory.
@@ -55,23 +55,15 @@ fn next_factor(numbers: &mut Numbers) -> u8
 }
 
 /// One command for the host.
-pub fn take(
-    alloc: Global,
-    host: &mut Host,
-    command: &str,
-    numbers: &mut Numbers,
-    page: &mut Page,
-) -> Result<(), Fault> {
+pub fn take(host: &mut Host, command: &str, desk: &mut Desk) -> Result<(), Fault> {
+    let Desk { numbers, page, .. } = desk;
     match (command, host.master()) {
         ("replicas", _) => write_replicas(host.backup(), page)?,
         ("looks", _) => write_looks(host, page),
         ("state", Some(master)) => masters::write_state(master, page),
-        ("state", None) => {
-            page.put("\n    ");
-            page.shown(host);
-        }
+        ("state", None) => write!(page, "\n    {host:?}"),
         ("segment", Some(master)) => masters::write_segment(master.log(), numbers.short(), page),
-        _ => work(alloc, host, command, numbers, page)?,
+        _ => work(host, command, desk)?,
     }
     Ok(())
 }
@@ -90,15 +82,13 @@ pub fn write_names(names: &[(ServerId, u16)], page: &mut Page) {
     page.put("\n    open replicas:");
     page.put(if names.is_empty() { " none" } else { "" });
     for (master, seg) in names {
-        page.id(" (", *master);
-        page.number(" seg ", u64::from(*seg));
-        page.put(")");
+        write!(page, " ({master} seg {seg})");
     }
 }
 
 /// Whether a server runs on the host, and which; its master, where it does; and what the host holds as a backup.
 fn write_looks(host: &Host, page: &mut Page) {
-    page.id("\n    ", host.server());
+    write!(page, "\n    {}", host.server());
     page.yes(" runs ", host.runs());
     if let Some(master) = host.master() {
         looks::write_master(master, page);
@@ -110,61 +100,38 @@ fn write_looks(host: &Host, page: &mut Page) {
 }
 
 /// The host is given something.
-fn work(
-    alloc: Global,
-    host: &mut Host,
-    command: &str,
-    numbers: &mut Numbers,
-    page: &mut Page,
-) -> Result<(), Fault> {
-    match work_of(alloc, host.server(), command, numbers)? {
-        Some(work) if numbers.are_taken() && host.has_room() => {
-            let mut sent = Vec::new(alloc);
-            let answer = host.step_into(&work, &mut sent);
-            write_sent(answer, sent.as_slice(), page)
+fn work(host: &mut Host, command: &str, desk: &mut Desk) -> Result<(), Fault> {
+    match work_of(host.server(), command, desk)? {
+        Some(work) if desk.numbers.are_taken() && host.has_room() => {
+            let mut sent = Vec::new(desk.alloc);
+            match host.step_into(&work, &mut sent) {
+                Ok(()) => bodies::write_all(sent.as_slice(), &mut desk.page),
+                Err(Fault::OutOfMemory) => return Err(Fault::OutOfMemory),
+                Err(fault) => write!(desk.page, "\n    {}", fault.code()),
+            }
         }
-        _ => {
-            unknown(page);
-            Ok(())
-        }
-    }
-}
-
-/// What is sent in a step, or why there was none.
-fn write_sent(answer: Result<(), Fault>, sent: &[Message], page: &mut Page) -> Result<(), Fault> {
-    match answer {
-        Ok(()) => bodies::write_all(sent, page),
-        Err(Fault::OutOfMemory) => return Err(Fault::OutOfMemory),
-        Err(fault) => page.code("\n    ", fault.code()),
+        _ => unknown(&mut desk.page),
     }
     Ok(())
 }
 
 /// What a command gives the host: a message is addressed to the server of its last start.
 fn work_of(
-    alloc: Global,
     server: ServerId,
     command: &str,
-    numbers: &mut Numbers,
+    desk: &mut Desk,
 ) -> Result<Option<NodeWork>, AllocError> {
     Ok(match command {
         "start" => {
-            let kept = Seq::from_vec(numbers.names(alloc)?);
+            let kept = Seq::from_vec(desk.numbers.names(desk.alloc)?);
             Some(NodeWork::Start { kept })
         }
         "stop" => Some(NodeWork::Stop),
         "tick" => Some(NodeWork::Tick),
-        _ => message_of(alloc, server, command, numbers)?,
+        _ => {
+            let to = Addr::Server(server);
+            let told = told::to_server(command, desk)?;
+            told.map(|(from, body)| NodeWork::Deliver(Message { from, to, body }))
+        }
     })
-}
-
-fn message_of(
-    alloc: Global,
-    server: ServerId,
-    command: &str,
-    numbers: &mut Numbers,
-) -> Result<Option<NodeWork>, AllocError> {
-    let told = told::to_server(alloc, command, numbers)?;
-    let to = Addr::Server(server);
-    Ok(told.map(|(from, body)| NodeWork::Deliver(Message { from, to, body })))
 }

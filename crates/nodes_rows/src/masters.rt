@@ -2,11 +2,11 @@
 
 use crate::cases::unknown;
 use crate::{bodies, looks, told};
-use rc_headroll::{LogHead, Segment};
+use rc_headroll::LogHead;
 use rc_master::Master;
 use rc_types::limits::{MAX_FACTOR, MAX_SEGMENT};
 use rc_types::{Fault, MasterSetup, Member, Message, Phase, Told};
-use rows::{Numbers, Page};
+use rows::{Desk, Numbers, Page, closed_or_open};
 use std::alloc::Global;
 
 /// The master of this server, with so many replicas of each segment and so many entries in it.
@@ -18,45 +18,31 @@ pub fn new(alloc: Global, numbers: &mut Numbers, free: bool) -> Master {
 }
 
 /// One command for the master.
-pub fn take(
-    alloc: Global,
-    master: &mut Master,
-    command: &str,
-    numbers: &mut Numbers,
-    page: &mut Page,
-) -> Result<(), Fault> {
+pub fn take(master: &mut Master, command: &str, desk: &mut Desk) -> Result<(), Fault> {
+    let Desk { numbers, page, .. } = desk;
     match command {
-        "tick" => tick(alloc, master, page)?,
+        "tick" => {
+            let mut sent = Vec::new(desk.alloc);
+            master.tick(&mut sent)?;
+            bodies::write_all(sent.as_slice(), page);
+        }
         "state" => write_state(master, page),
         "segment" => write_segment(master.log(), numbers.short(), page),
         "looks" => looks::write_master(master, page),
-        _ => tell(alloc, master, command, numbers, page)?,
+        _ => tell(master, command, desk)?,
     }
     Ok(())
 }
 
-fn tick(alloc: Global, master: &mut Master, page: &mut Page) -> Result<(), Fault> {
-    let mut sent = Vec::new(alloc);
-    master.tick(&mut sent)?;
-    bodies::write_all(sent.as_slice(), page);
-    Ok(())
-}
-
 /// The master is told something.
-fn tell(
-    alloc: Global,
-    master: &mut Master,
-    command: &str,
-    numbers: &mut Numbers,
-    page: &mut Page,
-) -> Result<(), Fault> {
-    match told::to_server(alloc, command, numbers)? {
-        Some((from, body)) if numbers.are_taken() && master.has_room() => {
-            let mut sent: Vec<Message> = Vec::new(alloc);
+fn tell(master: &mut Master, command: &str, desk: &mut Desk) -> Result<(), Fault> {
+    match told::to_server(command, desk)? {
+        Some((from, body)) if desk.numbers.are_taken() && master.has_room() => {
+            let mut sent: Vec<Message> = Vec::new(desk.alloc);
             master.take(from, &body, &mut sent)?;
-            bodies::write_all(sent.as_slice(), page);
+            bodies::write_all(sent.as_slice(), &mut desk.page);
         }
-        _ => unknown(page),
+        _ => unknown(&mut desk.page),
     }
     Ok(())
 }
@@ -64,17 +50,15 @@ fn tell(
 /// The phase, the newest segment with its length, how many places are durable, and whether it is deposed.
 pub fn write_state(master: &Master, page: &mut Page) {
     let log = master.log();
-    page.put(match log.phase() {
-        Phase::Opening => "\n    phase Opening",
-        Phase::Closing => "\n    phase Closing",
-        Phase::Writing => "\n    phase Writing",
-    });
-    page.number(", head ", u64::from(log.head()));
-    page.size(
-        " of length ",
-        log.segment(log.head()).map_or(0, |head| head.len()),
-    );
-    page.size(", durable ", log.durable());
+    let head = log.head();
+    let length = log.segment(head).map_or(0, |segment| segment.len());
+    let phase = match log.phase() {
+        Phase::Opening => "Opening",
+        Phase::Closing => "Closing",
+        Phase::Writing => "Writing",
+    };
+    write!(page, "\n    phase {phase}, head {head} of length {length}");
+    write!(page, ", durable {}", log.durable());
     page.yes(", deposed ", master.is_deposed());
 }
 
@@ -84,10 +68,13 @@ pub fn write_segment(log: &LogHead, seg: u16, page: &mut Page) {
         return page.put("\n    no such segment");
     };
     let config = segment.config();
-    page.put(standing(segment));
-    page.numbers(", digest", segment.digest());
-    page.size(", length ", segment.len());
-    page.number(", epoch ", u64::from(config.epoch()));
+    page.put(match (segment.is_freed(), segment.is_shut()) {
+        (true, _) => "\n    freed",
+        (false, true) => "\n    shut",
+        (false, false) => "\n    open",
+    });
+    page.list(", digest", segment.digest());
+    write!(page, ", length {}, epoch {}", segment.len(), config.epoch());
     page.yes(" committed ", config.is_committed());
     page.put(":");
     for member in config.members() {
@@ -95,24 +82,12 @@ pub fn write_segment(log: &LogHead, seg: u16, page: &mut Page) {
     }
 }
 
-fn standing(segment: &Segment) -> &'static str {
-    match (segment.is_freed(), segment.is_shut()) {
-        (true, _) => "\n    freed",
-        (false, true) => "\n    shut",
-        (false, false) => "\n    open",
-    }
-}
-
 /// A member, and what it has told under the epoch.
 fn write_member(member: &Member, page: &mut Page) {
-    page.id(" (", member.id);
-    page.put(if member.lost { " lost" } else { "" });
+    let lost = if member.lost { " lost" } else { "" };
+    write!(page, " ({}{lost}", member.id);
     match member.told {
-        Some(Told { len, closed }) => {
-            page.size(" told ", len);
-            page.closed(" ", closed);
-        }
-        None => page.put(" told nothing"),
+        Some(Told { len, closed }) => write!(page, " told {len} {})", closed_or_open(closed)),
+        None => page.put(" told nothing)"),
     }
-    page.put(")");
 }

@@ -4,7 +4,7 @@ use crate::bodies;
 use crate::cases::unknown;
 use rc_ownership::Ownership;
 use rc_types::{Entry, Fault, KeyRange, Part, ServerId};
-use rows::{Numbers, Page};
+use rows::{Desk, Page};
 use std::alloc::{AllocError, Global};
 
 /// Who holds the rows of a long part.
@@ -25,23 +25,23 @@ const WHOLE: Part = Part {
 };
 
 /// One command for the owner.
-pub fn take(
-    alloc: Global,
-    owner: &mut Ownership,
-    command: &str,
-    numbers: &mut Numbers,
-    page: &mut Page,
-) -> Result<(), Fault> {
+pub fn take(owner: &mut Ownership, command: &str, desk: &mut Desk) -> Result<(), Fault> {
+    let Desk { numbers, page, .. } = desk;
     match command {
-        "part" => begin_part(alloc, owner, numbers, page)?,
-        "data" => put_data(alloc, owner, numbers, page)?,
-        "replay" => replay(alloc, owner, page)?,
+        "part" => begin_part(owner, desk)?,
+        "data" => put_data(owner, desk)?,
+        "replay" => replay(owner, desk)?,
         "durable" => durable(owner, numbers.size(), page),
-        "complete" => complete(owner, page),
-        "awaiting" => awaiting(alloc, owner, page)?,
+        "complete" => match owner.complete() {
+            Some(term) => write!(page, "\n    term {term}"),
+            None => page.put("\n    none"),
+        },
+        "awaiting" => {
+            let terms = owner.awaiting_grant(desk.alloc)?;
+            page.list("\n    terms:", terms.as_slice());
+        }
         "grant" => {
-            let range = numbers.range();
-            owner.grant(range, numbers.long())?;
+            owner.grant(numbers.range(), numbers.long())?;
             page.put("\n    ok");
         }
         "knows" => page.yes("\n    ", owner.knows_term(numbers.long())),
@@ -51,45 +51,35 @@ pub fn take(
         }
         "restore" => {
             owner.restore();
-            page.size("\n    ", owner.count_noted());
-            page.put(" noted");
+            write!(page, "\n    {} noted", owner.count_noted());
         }
-        "part-in-reverse" => in_reverse(alloc, owner, numbers, page)?,
+        "part-in-reverse" => in_reverse(owner, desk)?,
         _ => unknown(page),
     }
     Ok(())
 }
 
 /// A part is begun, which waits for these rows: of each the segment and the holder.
-fn begin_part(
-    alloc: Global,
-    owner: &mut Ownership,
-    numbers: &mut Numbers,
-    page: &mut Page,
-) -> Result<(), Fault> {
+fn begin_part(owner: &mut Ownership, desk: &mut Desk) -> Result<(), Fault> {
+    let Desk { numbers, page, .. } = desk;
     let part = numbers.part();
-    let mut rows = Vec::new(alloc);
+    let mut rows = Vec::new(desk.alloc);
     for _ in 0..numbers.left() / 3 {
-        let seg = numbers.short();
-        rows.push((seg, numbers.id()))?;
+        rows.push((numbers.short(), numbers.id()))?;
     }
-    let begun = owner.begin_part(alloc, part, rows.as_slice())?;
+    let begun = owner.begin_part(desk.alloc, part, rows.as_slice())?;
     page.yes("\n    begun ", begun);
     Ok(())
 }
 
 /// The entries of a row come.
-fn put_data(
-    alloc: Global,
-    owner: &mut Ownership,
-    numbers: &mut Numbers,
-    page: &mut Page,
-) -> Result<(), Fault> {
+fn put_data(owner: &mut Ownership, desk: &mut Desk) -> Result<(), Fault> {
+    let Desk { numbers, page, .. } = desk;
     let from = numbers.id();
     let seg = numbers.short();
     let term = numbers.long();
-    let entries = numbers.entries(alloc)?;
-    let noted = owner.put_data(alloc, term, seg, from, entries.as_slice())?;
+    let entries = numbers.entries(desk.alloc)?;
+    let noted = owner.put_data(desk.alloc, term, seg, from, entries.as_slice())?;
     page.yes("\n    noted ", noted);
     Ok(())
 }
@@ -105,13 +95,13 @@ fn next(alloc: Global, owner: &mut Ownership) -> Result<Option<Entry>, Fault> {
     Ok(Some(entry))
 }
 
-fn replay(alloc: Global, owner: &mut Ownership, page: &mut Page) -> Result<(), Fault> {
-    match next(alloc, owner)? {
+fn replay(owner: &mut Ownership, desk: &mut Desk) -> Result<(), Fault> {
+    match next(desk.alloc, owner)? {
         Some(entry) => {
-            page.put("\n   ");
-            bodies::write_entry(&entry, page);
+            desk.page.put("\n   ");
+            bodies::write_entry(&entry, &mut desk.page);
         }
-        None => page.put("\n    none waits"),
+        None => desk.page.put("\n    none waits"),
     }
     Ok(())
 }
@@ -125,43 +115,20 @@ fn durable(owner: &mut Ownership, count: usize, page: &mut Page) {
     page.put("\n    ok");
 }
 
-/// The part whose end is to be told.
-fn complete(owner: &mut Ownership, page: &mut Page) {
-    match owner.complete() {
-        Some(term) => page.number("\n    term ", u64::from(term)),
-        None => page.put("\n    none"),
-    }
-}
-
-/// The parts whose end was told, and that were not granted.
-fn awaiting(alloc: Global, owner: &Ownership, page: &mut Page) -> Result<(), Fault> {
-    let terms = owner.awaiting_grant(alloc)?;
-    page.put("\n    terms:");
-    for term in terms.as_slice() {
-        page.number(" ", u64::from(*term));
-    }
-    Ok(())
-}
-
 /// A part of so many rows of so many entries, whose keys rise from 1 on, comes from the last row to the first. It tells
 /// after how many rows nothing waited, and which keys came then, and in what order.
-fn in_reverse(
-    alloc: Global,
-    owner: &mut Ownership,
-    numbers: &mut Numbers,
-    page: &mut Page,
-) -> Result<(), Fault> {
-    let rows = numbers.short();
-    let width = numbers.long();
-    begin_many(alloc, owner, rows)?;
+fn in_reverse(owner: &mut Ownership, desk: &mut Desk) -> Result<(), Fault> {
+    let rows = desk.numbers.short();
+    let width = desk.numbers.long();
+    begin_many(desk.alloc, owner, rows)?;
     let mut waited = 0u64;
     for seg in (1..=rows).rev() {
-        let entries = row(alloc, seg, width)?;
-        owner.put_data(alloc, WHOLE.term, seg, HOLDER, entries.as_slice())?;
+        let entries = row(desk.alloc, seg, width)?;
+        owner.put_data(desk.alloc, WHOLE.term, seg, HOLDER, entries.as_slice())?;
         waited = waited.saturating_add(u64::from(!owner.has_replay()));
     }
-    page.number("\n    nothing after ", waited);
-    write_order(alloc, owner, page)
+    write!(desk.page, "\n    nothing after {waited} rows");
+    write_order(owner, desk)
 }
 
 /// The long part, of which these segments are rows.
@@ -192,15 +159,16 @@ fn row(alloc: Global, seg: u16, width: u32) -> Result<Vec<Entry>, AllocError> {
 }
 
 /// How many entries wait, and whether their keys are the numbers from 1 on.
-fn write_order(alloc: Global, owner: &mut Ownership, page: &mut Page) -> Result<(), Fault> {
+fn write_order(owner: &mut Ownership, desk: &mut Desk) -> Result<(), Fault> {
     let mut ordered = true;
     for _ in 0..=u16::MAX {
-        let Some(entry) = next(alloc, owner)? else {
+        let Some(entry) = next(desk.alloc, owner)? else {
             break;
         };
         ordered = ordered && entry.key == owner.count_noted() as u64 && entry.term == WHOLE.term;
     }
-    page.size(" rows, then ", owner.count_noted());
-    page.yes(" entries, keys from 1 upwards under term 2 ", ordered);
+    write!(desk.page, ", then {} entries", owner.count_noted());
+    desk.page
+        .yes(", keys from 1 upwards under term 2 ", ordered);
     Ok(())
 }

@@ -1,60 +1,62 @@
 //! What a node is told: a message, by the command of a line and its numbers.
 
-use rc_types::{Addr, Body, Code, PlanRow, Row, Seq, Shared};
-use rows::Numbers;
+use rc_types::{Addr, Body, Code, Order, Part, PlanRow, Row, Seq, Shared};
+use rows::{Desk, Numbers};
 use std::alloc::{AllocError, Global};
 
 /// The sender of a message, and what it says.
 pub type Told = (Addr, Body);
 
 /// What a command tells a server.
-pub fn to_server(
-    alloc: Global,
-    command: &str,
-    numbers: &mut Numbers,
-) -> Result<Option<Told>, AllocError> {
-    if let Some(body) = client_asks(alloc, command, numbers)? {
+pub fn to_server(command: &str, desk: &mut Desk) -> Result<Option<Told>, AllocError> {
+    if let Some(body) = client_asks(command, desk)? {
         return Ok(Some((Addr::Outside, body)));
     }
-    if let Some(body) = coordinator_tells(alloc, command, numbers)? {
+    if let Some(body) = coordinator_tells(command, desk)? {
         return Ok(Some((Addr::Coordinator, body)));
     }
-    let from = Addr::Server(numbers.id());
-    let body = server_tells(alloc, command, numbers)?;
-    Ok(body.map(|body| (from, body)))
+    let from = Addr::Server(desk.numbers.id());
+    Ok(server_tells(command, desk)?.map(|body| (from, body)))
 }
 
 /// What a command tells the coordinator.
-pub fn to_coordinator(
-    alloc: Global,
-    command: &str,
-    numbers: &mut Numbers,
-) -> Result<Option<Told>, AllocError> {
-    let from = Addr::Server(numbers.id());
-    let body = coordinator_hears(alloc, command, numbers)?;
-    Ok(body.map(|body| (from, body)))
+pub fn to_coordinator(command: &str, desk: &mut Desk) -> Result<Option<Told>, AllocError> {
+    let from = Addr::Server(desk.numbers.id());
+    Ok(coordinator_hears(command, desk)?.map(|body| (from, body)))
+}
+
+/// What the coordinator is told by who runs the cluster.
+pub fn order(command: &str, numbers: &mut Numbers) -> Option<Order> {
+    Some(match command {
+        "suspect" => Order::Suspect(numbers.id()),
+        "decide" => Order::Decide(numbers.id()),
+        "create" => Order::Create {
+            table: numbers.long(),
+            owner: numbers.id(),
+        },
+        "split" => Order::Split {
+            table: numbers.long(),
+            at: numbers.next(),
+        },
+        _ => return None,
+    })
 }
 
 /// What a client asks.
-pub fn client_asks(
-    alloc: Global,
-    command: &str,
-    numbers: &mut Numbers,
-) -> Result<Option<Body>, AllocError> {
-    Ok(match command {
-        "write" | "write-long" | "delete" => {
-            let table = numbers.long();
-            let key = numbers.next();
-            let value = value_of(alloc, command, numbers)?;
-            Some(Body::Write { table, key, value })
-        }
-        "read" => {
-            let table = numbers.long();
-            let key = numbers.next();
-            Some(Body::Read { table, key })
-        }
-        _ => None,
-    })
+pub fn client_asks(command: &str, desk: &mut Desk) -> Result<Option<Body>, AllocError> {
+    let Desk { alloc, numbers, .. } = desk;
+    Ok(Some(match command {
+        "write" | "write-long" | "delete" => Body::Write {
+            table: numbers.long(),
+            key: numbers.next(),
+            value: value_of(*alloc, command, numbers)?,
+        },
+        "read" => Body::Read {
+            table: numbers.long(),
+            key: numbers.next(),
+        },
+        _ => return Ok(None),
+    }))
 }
 
 /// The value that a client writes: the byte that is named; as many bytes as are named; or none.
@@ -73,152 +75,122 @@ fn value_of(
     }
 }
 
-/// What the coordinator tells a server.
-fn coordinator_tells(
-    alloc: Global,
-    command: &str,
-    numbers: &mut Numbers,
-) -> Result<Option<Body>, AllocError> {
-    Ok(match command {
-        "list" => Some(list(alloc, numbers)?),
-        "own" => Some(own(numbers)),
-        "plan" => Some(plan(alloc, numbers)?),
-        "commit-ok" => {
-            let seg = numbers.short();
-            let epoch = numbers.short();
-            Some(Body::CommitOk { seg, epoch })
-        }
-        "deposed" => Some(refused(Code::Deposed)),
-        "stale" => Some(refused(Code::StaleAttempt)),
-        "gather" => {
-            let attempt = numbers.long();
-            let master = numbers.id();
-            Some(Body::Gather { attempt, master })
-        }
-        _ => None,
-    })
+/// What the coordinator tells a server. A list names its version, and each id with a mark; a grant the range, the term,
+/// the term before, and the attempt; a plan the attempt, the crashed master, its head, how many rows there are, and
+/// these, and then the parts.
+fn coordinator_tells(command: &str, desk: &mut Desk) -> Result<Option<Body>, AllocError> {
+    let alloc = desk.alloc;
+    let numbers = &mut desk.numbers;
+    Ok(Some(match command {
+        "list" => Body::List {
+            version: numbers.long(),
+            rows: Shared::from_vec(alloc, numbers.servers(alloc)?)?,
+        },
+        "own" => Body::Own {
+            range: numbers.range(),
+            term: numbers.long(),
+            previous: numbers.long(),
+            attempt: numbers.long(),
+        },
+        "plan" => Body::Plan {
+            attempt: numbers.long(),
+            master: numbers.id(),
+            head: numbers.short(),
+            rows: plan_rows(alloc, numbers)?,
+            parts: parts(alloc, numbers)?,
+        },
+        "commit-ok" => Body::CommitOk {
+            seg: numbers.short(),
+            epoch: numbers.short(),
+        },
+        "deposed" => refused(Code::Deposed),
+        "stale" => refused(Code::StaleAttempt),
+        "gather" => Body::Gather {
+            attempt: numbers.long(),
+            master: numbers.id(),
+        },
+        _ => return Ok(None),
+    }))
 }
 
 fn refused(code: Code) -> Body {
     Body::Refused { code }
 }
 
-/// A list: its version, and each id with a mark.
-fn list(alloc: Global, numbers: &mut Numbers) -> Result<Body, AllocError> {
-    let version = numbers.long();
-    let rows = Shared::from_vec(alloc, numbers.servers(alloc)?)?;
-    Ok(Body::List { version, rows })
-}
-
-/// A grant: the range, the term, the term before, and the attempt.
-fn own(numbers: &mut Numbers) -> Body {
-    let range = numbers.range();
-    let term = numbers.long();
-    let previous = numbers.long();
-    let attempt = numbers.long();
-    Body::Own {
-        range,
-        term,
-        previous,
-        attempt,
-    }
-}
-
-/// A plan: the attempt, the crashed master, its head, how many rows there are, and these; then the parts.
-fn plan(alloc: Global, numbers: &mut Numbers) -> Result<Body, AllocError> {
-    let attempt = numbers.long();
-    let master = numbers.id();
-    let head = numbers.short();
-    let rows = plan_rows(alloc, numbers)?;
-    let mut parts = Vec::new(alloc);
-    for _ in 0..numbers.left() / 5 {
-        parts.push(numbers.part())?;
-    }
-    Ok(Body::Plan {
-        attempt,
-        master,
-        head,
-        rows,
-        parts: Seq::from_vec(parts),
-    })
-}
-
 fn plan_rows(alloc: Global, numbers: &mut Numbers) -> Result<Seq<PlanRow>, AllocError> {
     let mut rows = Vec::new(alloc);
     for _ in 0..numbers.byte() {
-        let seg = numbers.short();
-        let holder = numbers.id();
-        let len = numbers.size();
-        rows.push(PlanRow { seg, holder, len })?;
+        rows.push(PlanRow {
+            seg: numbers.short(),
+            holder: numbers.id(),
+            len: numbers.size(),
+        })?;
     }
     Ok(Seq::from_vec(rows))
 }
 
-/// What a server tells a server.
-fn server_tells(
-    alloc: Global,
-    command: &str,
-    numbers: &mut Numbers,
-) -> Result<Option<Body>, AllocError> {
-    Ok(match command {
-        "stored" => Some(stored(numbers)),
-        "data" => Some(data(alloc, numbers)?),
-        "place" => Some(place(alloc, numbers)?),
-        "append" => Some(append(alloc, numbers)?),
-        "close" => {
-            let seg = numbers.short();
-            let len = numbers.size();
-            Some(Body::Close { seg, len })
-        }
-        "fetch" => Some(fetch(numbers)),
-        "free" => {
-            let seg = numbers.short();
-            Some(Body::Free { seg })
-        }
-        "deposed-by" => Some(refused(Code::Deposed)),
-        _ => None,
-    })
-}
-
-fn stored(numbers: &mut Numbers) -> Body {
-    let seg = numbers.short();
-    let epoch = numbers.short();
-    let len = numbers.size();
-    let closed = numbers.mark();
-    Body::Stored {
-        seg,
-        epoch,
-        len,
-        closed,
+fn parts(alloc: Global, numbers: &mut Numbers) -> Result<Seq<Part>, AllocError> {
+    let mut parts = Vec::new(alloc);
+    for _ in 0..numbers.left() / 5 {
+        parts.push(numbers.part())?;
     }
+    Ok(Seq::from_vec(parts))
 }
 
-fn data(alloc: Global, numbers: &mut Numbers) -> Result<Body, AllocError> {
-    let attempt = numbers.long();
-    let seg = numbers.short();
-    let term = numbers.long();
-    let entries = numbers.entries(alloc)?;
-    Ok(Body::Data {
-        attempt,
-        seg,
-        term,
-        entries,
-    })
+/// What a server tells a server.
+fn server_tells(command: &str, desk: &mut Desk) -> Result<Option<Body>, AllocError> {
+    let numbers = &mut desk.numbers;
+    Ok(Some(match command {
+        "stored" => Body::Stored {
+            seg: numbers.short(),
+            epoch: numbers.short(),
+            len: numbers.size(),
+            closed: numbers.mark(),
+        },
+        "close" => Body::Close {
+            seg: numbers.short(),
+            len: numbers.size(),
+        },
+        "fetch" => Body::Fetch {
+            attempt: numbers.long(),
+            master: numbers.id(),
+            seg: numbers.short(),
+            len: numbers.size(),
+            part: numbers.part(),
+        },
+        "free" => Body::Free {
+            seg: numbers.short(),
+        },
+        "deposed-by" => refused(Code::Deposed),
+        _ => return server_tells_entries(command, desk),
+    }))
 }
 
-fn place(alloc: Global, numbers: &mut Numbers) -> Result<Body, AllocError> {
-    let seg = numbers.short();
-    let epoch = numbers.short();
-    let closed = numbers.mark();
-    let digest = digest(alloc, numbers)?;
-    let entries = numbers.entries(alloc)?;
-    Ok(Body::Place {
-        seg,
-        epoch,
-        digest,
-        entries,
-        closed,
-    })
+/// What a server tells a server that has entries.
+fn server_tells_entries(command: &str, desk: &mut Desk) -> Result<Option<Body>, AllocError> {
+    let alloc = desk.alloc;
+    let numbers = &mut desk.numbers;
+    Ok(Some(match command {
+        "data" => Body::Data {
+            attempt: numbers.long(),
+            seg: numbers.short(),
+            term: numbers.long(),
+            entries: numbers.entries(alloc)?,
+        },
+        "place" => Body::Place {
+            seg: numbers.short(),
+            epoch: numbers.short(),
+            closed: numbers.mark(),
+            digest: digest(alloc, numbers)?,
+            entries: numbers.entries(alloc)?,
+        },
+        "append" => Body::Append {
+            seg: numbers.short(),
+            offset: numbers.size(),
+            entries: numbers.entries(alloc)?,
+        },
+        _ => return Ok(None),
+    }))
 }
 
 /// So many segments as the next number says.
@@ -227,58 +199,26 @@ fn digest(alloc: Global, numbers: &mut Numbers) -> Result<Shared<u16>, AllocErro
     Shared::from_vec(alloc, numbers.segments(alloc, count)?)
 }
 
-fn append(alloc: Global, numbers: &mut Numbers) -> Result<Body, AllocError> {
-    let seg = numbers.short();
-    let offset = numbers.size();
-    let entries = numbers.entries(alloc)?;
-    Ok(Body::Append {
-        seg,
-        offset,
-        entries,
-    })
-}
-
-fn fetch(numbers: &mut Numbers) -> Body {
-    let attempt = numbers.long();
-    let master = numbers.id();
-    let seg = numbers.short();
-    let len = numbers.size();
-    let part = numbers.part();
-    Body::Fetch {
-        attempt,
-        master,
-        seg,
-        len,
-        part,
-    }
-}
-
 /// What the coordinator is told by a server.
-fn coordinator_hears(
-    alloc: Global,
-    command: &str,
-    numbers: &mut Numbers,
-) -> Result<Option<Body>, AllocError> {
-    Ok(match command {
-        "enlist" => Some(Body::Enlist),
-        "ready" => Some(Body::Ready),
-        "commit" => {
-            let seg = numbers.short();
-            let epoch = numbers.short();
-            Some(Body::Commit { seg, epoch })
-        }
-        "replicas" => {
-            let attempt = numbers.long();
-            let rows = rows(alloc, numbers)?;
-            Some(Body::Replicas { attempt, rows })
-        }
-        "recovered" => {
-            let attempt = numbers.long();
-            let term = numbers.long();
-            Some(Body::Recovered { attempt, term })
-        }
-        _ => None,
-    })
+fn coordinator_hears(command: &str, desk: &mut Desk) -> Result<Option<Body>, AllocError> {
+    let numbers = &mut desk.numbers;
+    Ok(Some(match command {
+        "enlist" => Body::Enlist,
+        "ready" => Body::Ready,
+        "commit" => Body::Commit {
+            seg: numbers.short(),
+            epoch: numbers.short(),
+        },
+        "replicas" => Body::Replicas {
+            attempt: numbers.long(),
+            rows: rows(desk.alloc, numbers)?,
+        },
+        "recovered" => Body::Recovered {
+            attempt: numbers.long(),
+            term: numbers.long(),
+        },
+        _ => return Ok(None),
+    }))
 }
 
 /// The rows of an answer: how many, and of each the segment, the epoch, whether it is closed, its length, and how many
@@ -286,22 +226,13 @@ fn coordinator_hears(
 fn rows(alloc: Global, numbers: &mut Numbers) -> Result<Seq<Row>, AllocError> {
     let mut rows = Vec::new(alloc);
     for _ in 0..numbers.byte() {
-        rows.push(row(alloc, numbers)?)?;
+        rows.push(Row {
+            seg: numbers.short(),
+            epoch: numbers.short(),
+            closed: numbers.mark(),
+            len: numbers.size(),
+            digest: digest(alloc, numbers)?,
+        })?;
     }
     Ok(Seq::from_vec(rows))
-}
-
-fn row(alloc: Global, numbers: &mut Numbers) -> Result<Row, AllocError> {
-    let seg = numbers.short();
-    let epoch = numbers.short();
-    let closed = numbers.mark();
-    let len = numbers.size();
-    let digest = digest(alloc, numbers)?;
-    Ok(Row {
-        seg,
-        epoch,
-        closed,
-        len,
-        digest,
-    })
 }

@@ -2,10 +2,11 @@
 
 use crate::cases::unknown;
 use crate::{bodies, hosts, looks, masters, told};
+use rc_master::Master;
 use rc_types::limits::{MAX_EVENTS, MAX_HOSTS};
 use rc_types::{Addr, Body, Event, Fault, Message, Seq, ServerId};
 use rc_world::World;
-use rows::{Numbers, Page};
+use rows::{Desk, Numbers, Page};
 use std::alloc::{AllocError, Global};
 
 /// A world; of each message whether it was delivered; and how many were written.
@@ -35,91 +36,74 @@ pub fn new(alloc: Global, numbers: &mut Numbers, free: bool) -> Result<Whole, Al
 }
 
 /// One command for the world.
-pub fn take(
-    alloc: Global,
-    whole: &mut Whole,
-    command: &str,
-    numbers: &mut Numbers,
-    page: &mut Page,
-) -> Result<(), Fault> {
+pub fn take(whole: &mut Whole, command: &str, desk: &mut Desk) -> Result<(), Fault> {
+    let Desk { numbers, page, .. } = desk;
     match command {
         "replicas" => write_replicas(&whole.world, numbers.byte(), page)?,
         "looks" => write_looks(&whole.world, numbers.byte(), page),
-        "state" => write_state(&whole.world, numbers.id(), page),
-        "segment" => write_segment(&whole.world, numbers, page),
+        "state" => {
+            if let Some(master) = master_of(&whole.world, numbers.id(), page) {
+                masters::write_state(master, page);
+            }
+        }
+        "segment" => {
+            if let Some(master) = master_of(&whole.world, numbers.id(), page) {
+                masters::write_segment(master.log(), numbers.short(), page);
+            }
+        }
         "hosts" => {
-            start_hosts(alloc, whole, numbers.byte())?;
+            start_hosts(desk.alloc, whole, numbers.byte())?;
             whole.write(page);
         }
-        "settle" => settle(alloc, whole, Spared::Nothing, page)?,
-        "settle-but-ready" => settle(alloc, whole, Spared::Readies, page)?,
-        "settle-but-host" => settle(alloc, whole, Spared::Host(numbers.byte()), page)?,
+        "settle" => settle(whole, Spared::Nothing, desk)?,
+        "settle-but-ready" => settle(whole, Spared::Readies, desk)?,
+        "settle-but-host" => settle(whole, Spared::Host(numbers.byte()), desk)?,
         "settle-quietly" => {
-            whole.settle(alloc, Spared::Nothing)?;
+            whole.settle(desk.alloc, Spared::Nothing)?;
             whole.written = whole.world.sent().len();
-            page.size("\n    ", whole.written);
-            page.put(" messages in all");
+            write!(page, "\n    {} messages in all", whole.written);
         }
-        _ => happen(alloc, whole, command, numbers, page)?,
+        _ => happen(whole, command, desk)?,
     }
     Ok(())
 }
 
 /// One event, and what it sends.
-fn happen(
-    alloc: Global,
-    whole: &mut Whole,
-    command: &str,
-    numbers: &mut Numbers,
-    page: &mut Page,
-) -> Result<(), Fault> {
-    match event_of(alloc, command, numbers)? {
-        Some(event) if numbers.are_taken() => match whole.take(alloc, &event) {
-            Ok(()) => whole.write(page),
+fn happen(whole: &mut Whole, command: &str, desk: &mut Desk) -> Result<(), Fault> {
+    match event_of(command, desk)? {
+        Some(event) if desk.numbers.are_taken() => match whole.take(desk.alloc, &event) {
+            Ok(()) => whole.write(&mut desk.page),
             Err(Fault::OutOfMemory) => return Err(Fault::OutOfMemory),
-            Err(fault) => page.code("\n    ", fault.code()),
+            Err(fault) => write!(desk.page, "\n    {}", fault.code()),
         },
-        _ => unknown(page),
+        _ => unknown(&mut desk.page),
     }
     Ok(())
 }
 
 /// The event that a command names.
-fn event_of(
-    alloc: Global,
-    command: &str,
-    numbers: &mut Numbers,
-) -> Result<Option<Event>, AllocError> {
-    Ok(match command {
-        "start" => {
-            let host = numbers.byte();
-            let kept = Seq::from_vec(numbers.names(alloc)?);
-            Some(Event::Start { host, kept })
-        }
-        "deliver" => Some(Event::Deliver(numbers.size())),
-        "tick" => Some(Event::Tick(Addr::Server(numbers.id()))),
-        "tick-coordinator" => Some(Event::Tick(Addr::Coordinator)),
-        "stop" => Some(Event::Stop(numbers.id())),
-        "suspect" => Some(Event::Suspect(numbers.id())),
-        "decide" => Some(Event::Decide(numbers.id())),
-        "create" => {
-            let table = numbers.long();
-            let owner = numbers.id();
-            Some(Event::Create { table, owner })
-        }
-        "split" => {
-            let table = numbers.long();
-            let at = numbers.next();
-            Some(Event::Split { table, at })
-        }
-        _ => ask(alloc, command, numbers)?,
-    })
+fn event_of(command: &str, desk: &mut Desk) -> Result<Option<Event>, AllocError> {
+    let numbers = &mut desk.numbers;
+    Ok(Some(match command {
+        "start" => Event::Start {
+            host: numbers.byte(),
+            kept: Seq::from_vec(numbers.names(desk.alloc)?),
+        },
+        "deliver" => Event::Deliver(numbers.size()),
+        "tick" => Event::Tick(Addr::Server(numbers.id())),
+        "tick-coordinator" => Event::Tick(Addr::Coordinator),
+        "stop" => Event::Stop(numbers.id()),
+        _ => match told::order(command, numbers) {
+            Some(order) => Event::Order(order),
+            None => return ask(command, desk),
+        },
+    }))
 }
 
 /// A server is asked.
-fn ask(alloc: Global, command: &str, numbers: &mut Numbers) -> Result<Option<Event>, AllocError> {
-    let to = numbers.id();
-    let body = told::client_asks(alloc, command, numbers)?;
+fn ask(command: &str, desk: &mut Desk) -> Result<Option<Event>, AllocError> {
+    let to = desk.numbers.id();
+    let body = told::client_asks(command, desk)?;
     Ok(body.map(|body| Event::Ask { to, body }))
 }
 
@@ -188,9 +172,9 @@ fn start_hosts(alloc: Global, whole: &mut Whole, count: u8) -> Result<(), Fault>
     Ok(())
 }
 
-fn settle(alloc: Global, whole: &mut Whole, spared: Spared, page: &mut Page) -> Result<(), Fault> {
-    whole.settle(alloc, spared)?;
-    whole.write(page);
+fn settle(whole: &mut Whole, spared: Spared, desk: &mut Desk) -> Result<(), Fault> {
+    whole.settle(desk.alloc, spared)?;
+    whole.write(&mut desk.page);
     Ok(())
 }
 
@@ -206,7 +190,7 @@ fn write_looks(world: &World<Global>, host: u8, page: &mut Page) {
     let index = host.min(MAX_HOSTS - 1);
     let generation = world.newest(index);
     let id = ServerId { index, generation };
-    page.id("\n    ", id);
+    write!(page, "\n    {id}");
     page.yes(" runs ", world.is_running(id));
     if let Some(master) = world.master(index) {
         looks::write_master(master, page);
@@ -217,26 +201,13 @@ fn write_looks(world: &World<Global>, host: u8, page: &mut Page) {
     }
 }
 
-/// How the master of a server stands.
-fn write_state(world: &World<Global>, id: ServerId, page: &mut Page) {
+/// The master of a server; if that does not run, it is written so.
+fn master_of<'a>(world: &'a World<Global>, id: ServerId, page: &mut Page) -> Option<&'a Master> {
     match world.master(id.index) {
-        Some(master) if master.id() == id => masters::write_state(master, page),
-        _ => write_no_master(id, page),
-    }
-}
-
-/// A segment of a server's log.
-fn write_segment(world: &World<Global>, numbers: &mut Numbers, page: &mut Page) {
-    let id = numbers.id();
-    match world.master(id.index) {
-        Some(master) if master.id() == id => {
-            masters::write_segment(master.log(), numbers.short(), page);
+        Some(master) if master.id() == id => Some(master),
+        _ => {
+            write!(page, "\n    {id} does not run");
+            None
         }
-        _ => write_no_master(id, page),
     }
-}
-
-fn write_no_master(id: ServerId, page: &mut Page) {
-    page.id("\n    ", id);
-    page.put(" does not run");
 }

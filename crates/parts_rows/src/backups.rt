@@ -2,133 +2,99 @@
 
 use crate::entries::write_keys;
 use rc_backup::Backup;
-use rc_types::{Addr, Body, Entry, Fault, KeyRange, Message, Part, Row, Seq, ServerId, Shared};
-use rows::{Numbers, Page};
+use rc_types::{Addr, Body, Entry, Fault, KeyRange, Message, Part, Row, Seq, Shared};
+use rows::{Desk, FIRST, Numbers, Page, closed_or_open};
 use std::alloc::{AllocError, Global};
 use std::mem;
 
+/// The keys 2 to 5 of table 7 and term 1, which are recovered under term 9.
+const PART: Part = Part {
+    range: KeyRange {
+        table: 7,
+        lo: 2,
+        hi: 5,
+    },
+    previous: 1,
+    term: 9,
+};
+
 /// One command for the backup.
-pub fn take(
-    alloc: Global,
-    backup: &mut Backup,
-    command: &str,
-    numbers: &mut Numbers,
-    page: &mut Page,
-) -> Result<(), Fault> {
+pub fn take(backup: &mut Backup, command: &str, desk: &mut Desk) -> Result<(), Fault> {
+    let Desk { numbers, page, .. } = desk;
     match command {
         "fenced" => page.yes(" ", backup.is_fenced(numbers.id())),
         "names" => names(backup, page)?,
-        "restart" => restart(alloc, backup, numbers, page)?,
+        "restart" => restart(backup, desk)?,
         "gather" => {
             let master = numbers.id();
             let body = Body::Gather { attempt: 3, master };
             step(backup, Addr::Coordinator, body, page)?;
         }
         "from-coordinator" => {
-            let body = place(alloc, numbers, false)?;
+            let body = place(desk.alloc, numbers, false)?;
             step(backup, Addr::Coordinator, body, page)?;
         }
         "from-outside" => {
-            let body = place(alloc, numbers, false)?;
+            let body = place(desk.alloc, numbers, false)?;
             step(backup, Addr::Outside, body, page)?;
         }
-        _ => from_server(alloc, backup, command, numbers, page)?,
+        _ => from_server(backup, command, desk)?,
     }
     Ok(())
 }
 
-/// A server tells the backup something.
-fn from_server(
-    alloc: Global,
-    backup: &mut Backup,
-    command: &str,
-    numbers: &mut Numbers,
-    page: &mut Page,
-) -> Result<(), Fault> {
-    let sender = Addr::Server(numbers.id());
-    match body_of(alloc, command, numbers)? {
-        Some(body) => step_into(alloc, backup, sender, body, page),
-        None => {
-            page.put(" no such command");
-            Ok(())
+/// A server tells the backup something, and the answers join those that were sent.
+fn from_server(backup: &mut Backup, command: &str, desk: &mut Desk) -> Result<(), Fault> {
+    let from = Addr::Server(desk.numbers.id());
+    match body_of(command, desk)? {
+        Some(body) => {
+            let mut sent = Vec::new(desk.alloc);
+            backup.step_into(&to_backup(from, body), &mut sent)?;
+            write_answers(sent.as_slice(), &mut desk.page);
         }
+        None => desk.page.put(" no such command"),
     }
+    Ok(())
 }
 
-/// What a server tells the backup.
-fn body_of(
-    alloc: Global,
-    command: &str,
-    numbers: &mut Numbers,
-) -> Result<Option<Body>, AllocError> {
-    Ok(match command {
-        "place" => Some(place(alloc, numbers, true)?),
-        "append" => Some(append(alloc, numbers)?),
-        "close" => {
-            let seg = numbers.short();
-            let len = numbers.size();
-            Some(Body::Close { seg, len })
-        }
-        "free" => {
-            let seg = numbers.short();
-            Some(Body::Free { seg })
-        }
-        "fetch" => Some(fetch(numbers)),
-        _ => None,
-    })
+/// What a server tells the backup. A Fetch is of some of the entries of 0.1's segment.
+fn body_of(command: &str, desk: &mut Desk) -> Result<Option<Body>, AllocError> {
+    let Desk { alloc, numbers, .. } = desk;
+    Ok(Some(match command {
+        "place" => place(*alloc, numbers, true)?,
+        "append" => Body::Append {
+            seg: numbers.short(),
+            offset: numbers.size(),
+            entries: entries(*alloc, numbers)?,
+        },
+        "close" => Body::Close {
+            seg: numbers.short(),
+            len: numbers.size(),
+        },
+        "free" => Body::Free {
+            seg: numbers.short(),
+        },
+        "fetch" => Body::Fetch {
+            attempt: 3,
+            master: FIRST,
+            seg: numbers.short(),
+            len: numbers.size(),
+            part: PART,
+        },
+        _ => return Ok(None),
+    }))
 }
 
 /// A Place of a segment whose digest is the segment alone; of one that may be closed a mark says so.
 fn place(alloc: Global, numbers: &mut Numbers, is_marked: bool) -> Result<Body, AllocError> {
     let seg = numbers.short();
-    let epoch = numbers.short();
-    let closed = is_marked && numbers.mark();
-    let digest = vec![in alloc; seg]?;
-    let entries = entries(alloc, numbers)?;
     Ok(Body::Place {
         seg,
-        epoch,
-        digest: Shared::from_vec(alloc, digest)?,
-        entries,
-        closed,
+        epoch: numbers.short(),
+        closed: is_marked && numbers.mark(),
+        digest: Shared::from_vec(alloc, vec![in alloc; seg]?)?,
+        entries: entries(alloc, numbers)?,
     })
-}
-
-fn append(alloc: Global, numbers: &mut Numbers) -> Result<Body, AllocError> {
-    let seg = numbers.short();
-    let offset = numbers.size();
-    let entries = entries(alloc, numbers)?;
-    Ok(Body::Append {
-        seg,
-        offset,
-        entries,
-    })
-}
-
-/// A Fetch of the keys 2 to 5 of table 7 and term 1 among so many entries of 0.1's segment, under term 9.
-fn fetch(numbers: &mut Numbers) -> Body {
-    let master = ServerId {
-        index: 0,
-        generation: 1,
-    };
-    let part = Part {
-        range: KeyRange {
-            table: 7,
-            lo: 2,
-            hi: 5,
-        },
-        previous: 1,
-        term: 9,
-    };
-    let seg = numbers.short();
-    let len = numbers.size();
-    Body::Fetch {
-        attempt: 3,
-        master,
-        seg,
-        len,
-        part,
-    }
 }
 
 /// Entries of table 7 under term 1; those of keys from 100 on have term 2 and the key less 100, and those from 200 on
@@ -163,24 +129,18 @@ fn names(backup: &Backup, page: &mut Page) -> Result<(), Fault> {
         page.put(" nothing");
     }
     for (master, seg) in names.as_slice() {
-        page.id(" ", *master);
-        page.number(" segment ", u64::from(*seg));
+        write!(page, " {master} segment {seg}");
     }
     Ok(())
 }
 
 /// The backup of the next server, which keeps these open replicas.
-fn restart(
-    alloc: Global,
-    backup: &mut Backup,
-    numbers: &mut Numbers,
-    page: &mut Page,
-) -> Result<(), Fault> {
-    let next = numbers.id();
-    let kept = numbers.names(alloc)?;
-    let old = mem::replace(backup, Backup::new(alloc, next));
+fn restart(backup: &mut Backup, desk: &mut Desk) -> Result<(), Fault> {
+    let next = desk.numbers.id();
+    let kept = desk.numbers.names(desk.alloc)?;
+    let old = mem::replace(backup, Backup::new(desk.alloc, next));
     *backup = old.restart(next, kept.as_slice());
-    names(backup, page)
+    names(backup, &mut desk.page)
 }
 
 /// A message for the backup, which takes it whoever it is addressed to.
@@ -199,29 +159,13 @@ fn step(backup: &mut Backup, from: Addr, body: Body, page: &mut Page) -> Result<
     Ok(())
 }
 
-/// A step whose answers join those that were sent.
-fn step_into(
-    alloc: Global,
-    backup: &mut Backup,
-    from: Addr,
-    body: Body,
-    page: &mut Page,
-) -> Result<(), Fault> {
-    let mut sent = Vec::new(alloc);
-    backup.step_into(&to_backup(from, body), &mut sent)?;
-    write_answers(sent.as_slice(), page);
-    Ok(())
-}
-
 /// Writes who answers whom what, or that nobody answers.
 fn write_answers(answers: &[Message], page: &mut Page) {
     if answers.is_empty() {
         page.put(" nothing");
     }
     for answer in answers {
-        page.node(" ", answer.from);
-        page.node(" to ", answer.to);
-        page.put(":");
+        write!(page, " {} to {}:", answer.from, answer.to);
         write_body(&answer.body, page);
     }
 }
@@ -234,13 +178,11 @@ fn write_body(body: &Body, page: &mut Page) {
             len,
             closed,
         } => {
-            page.number(" segment ", u64::from(*seg));
-            page.number(" epoch ", u64::from(*epoch));
-            page.closed(" ", *closed);
-            page.size(" length ", *len);
+            let closed = closed_or_open(*closed);
+            write!(page, " segment {seg} epoch {epoch} {closed} length {len}");
         }
         Body::Replicas { attempt, rows } => {
-            page.number(" attempt ", u64::from(*attempt));
+            write!(page, " attempt {attempt}");
             for row in rows.as_slice() {
                 write_row(row, page);
             }
@@ -251,9 +193,7 @@ fn write_body(body: &Body, page: &mut Page) {
             term,
             entries,
         } => {
-            page.number(" attempt ", u64::from(*attempt));
-            page.number(" segment ", u64::from(*seg));
-            page.number(" term ", u64::from(*term));
+            write!(page, " attempt {attempt} segment {seg} term {term}");
             write_keys(page, entries.as_slice());
         }
         _ => page.put(" something else"),
@@ -261,10 +201,8 @@ fn write_body(body: &Body, page: &mut Page) {
 }
 
 fn write_row(row: &Row, page: &mut Page) {
-    page.number(" [segment ", u64::from(row.seg));
-    page.number(" epoch ", u64::from(row.epoch));
-    page.closed(" ", row.closed);
-    page.size(" length ", row.len);
-    page.numbers(" digest", row.digest.as_slice());
+    write!(page, " [segment {} epoch {}", row.seg, row.epoch);
+    write!(page, " {} length {}", closed_or_open(row.closed), row.len);
+    page.list(" digest", row.digest.as_slice());
     page.put("]");
 }

@@ -11,8 +11,8 @@ use rc_rangetree::RangeTree;
 use rc_replica::Replica;
 use rc_serverlist::ServerList;
 use rc_types::{Fault, Message};
-use rows::{Commands, Numbers, Page};
-use std::alloc::{AllocError, Global};
+use rows::{Commands, Desk};
+use std::alloc::AllocError;
 
 /// The part that the present case is about.
 #[derive(Drop)]
@@ -32,69 +32,45 @@ pub enum Case {
 
 impl Commands for Case {
     /// A command: it begins a case, or is for the present one.
-    fn take(
-        &mut self,
-        alloc: Global,
-        command: &str,
-        numbers: &mut Numbers,
-        page: &mut Page,
-    ) -> Result<(), Fault> {
-        page.put(" ->");
-        match begun(alloc, command, numbers)? {
-            Some(new) => {
-                *self = new;
-                page.put(" a new case");
-                Ok(())
-            }
-            None => go_on(alloc, self, command, numbers, page),
+    fn take(&mut self, command: &str, desk: &mut Desk) -> Result<(), Fault> {
+        desk.page.put(" ->");
+        if let Some(new) = begun(command, desk)? {
+            *self = new;
+            desk.page.put(" a new case");
+            return Ok(());
         }
+        match self {
+            Case::None => desk.page.put(" no such command"),
+            Case::Replica(replica) => replicas::take(replica, command, desk)?,
+            Case::List(list) => lists::take(list, command, desk)?,
+            Case::Members(members) => members::take(members, command, desk)?,
+            Case::Replies(replies) => picks::take(replies, command, desk)?,
+            Case::Tree(tree) => tablets::take(tree, command, desk)?,
+            Case::Backup(backup) => backups::take(backup, command, desk)?,
+            Case::Types => texts::take(command, desk),
+            Case::Messages(list) => audits::take(list, command, desk)?,
+            Case::Owner(owner) => owners::take(owner, command, desk)?,
+            Case::Head(head) => heads::take(head, command, desk)?,
+        }
+        Ok(())
     }
 }
 
 /// The case that a command begins, if it does.
-fn begun(alloc: Global, command: &str, numbers: &mut Numbers) -> Result<Option<Case>, AllocError> {
-    Ok(match command {
-        "replica" => Some(Case::Replica(replicas::new(alloc, numbers)?)),
-        "members" => Some(Case::Members(members::new(alloc, numbers)?)),
-        _ => empty(alloc, command, numbers),
-    })
-}
-
-/// A case that takes no memory from the first.
-fn empty(alloc: Global, command: &str, numbers: &mut Numbers) -> Option<Case> {
-    match command {
-        "servers" => Some(Case::List(ServerList::new(alloc))),
-        "replies" => Some(Case::Replies(picks::new(alloc))),
-        "tree" => Some(Case::Tree(RangeTree::new_in(alloc))),
-        "backup" => Some(Case::Backup(Backup::new(alloc, numbers.id()))),
-        "types" => Some(Case::Types),
-        "messages" => Some(Case::Messages(Vec::new(alloc))),
-        "owner" => Some(Case::Owner(Ownership::new(alloc))),
-        "log" => Some(Case::Head(heads::new(alloc, numbers))),
-        _ => None,
-    }
-}
-
-/// A command for the present case.
-fn go_on(
-    alloc: Global,
-    case: &mut Case,
-    command: &str,
-    numbers: &mut Numbers,
-    page: &mut Page,
-) -> Result<(), Fault> {
-    match case {
-        Case::None => page.put(" no such command"),
-        Case::Replica(replica) => replicas::take(alloc, replica, command, numbers, page)?,
-        Case::List(list) => lists::take(alloc, list, command, numbers, page)?,
-        Case::Members(members) => members::take(alloc, members, command, numbers, page)?,
-        Case::Replies(replies) => picks::take(alloc, replies, command, numbers, page)?,
-        Case::Tree(tree) => tablets::take(alloc, tree, command, numbers, page)?,
-        Case::Backup(backup) => backups::take(alloc, backup, command, numbers, page)?,
-        Case::Types => texts::take(command, numbers, page),
-        Case::Messages(list) => audits::take(alloc, list, command, numbers, page)?,
-        Case::Owner(owner) => owners::take(alloc, owner, command, numbers, page)?,
-        Case::Head(head) => heads::take(alloc, head, command, numbers, page)?,
-    }
-    Ok(())
+fn begun(command: &str, desk: &mut Desk) -> Result<Option<Case>, AllocError> {
+    let alloc = desk.alloc;
+    let numbers = &mut desk.numbers;
+    Ok(Some(match command {
+        "replica" => Case::Replica(replicas::new(alloc, numbers)?),
+        "members" => Case::Members(members::new(alloc, numbers)?),
+        "servers" => Case::List(ServerList::new(alloc)),
+        "replies" => Case::Replies(picks::new(alloc)),
+        "tree" => Case::Tree(RangeTree::new_in(alloc)),
+        "backup" => Case::Backup(Backup::new(alloc, numbers.id())),
+        "types" => Case::Types,
+        "messages" => Case::Messages(Vec::new(alloc)),
+        "owner" => Case::Owner(Ownership::new(alloc)),
+        "log" => Case::Head(heads::new(alloc, numbers)),
+        _ => return Ok(None),
+    }))
 }

@@ -58,6 +58,6 @@ pub fn whole_entries(alloc: Global, numbers: &mut Numbers) -> Result<Seq<Entry>,
 pub fn write_keys(page: &mut Page, entries: &[Entry]) {
     page.put(" keys");
     for entry in entries {
-        page.number(" ", entry.key);
+        write!(page, " {}", entry.key);
     }
 }

@@ -6,7 +6,7 @@ use rc_headroll::LogHead;
 use rc_serverlist::ServerList;
 use rc_types::limits::{MAX_FACTOR, MAX_SEGMENT};
 use rc_types::{Fault, Phase, ServerId};
-use rows::{Numbers, Page};
+use rows::{Desk, FIRST, Numbers, Page, first_of};
 use std::alloc::Global;
 
 /// A log, and the list of servers that its members are chosen from.
@@ -16,76 +16,58 @@ pub struct Head {
     servers: ServerList,
 }
 
-/// The first server of this host.
-fn host(index: u8) -> ServerId {
-    ServerId {
-        index,
-        generation: 1,
-    }
-}
-
 /// An empty log with so many replicas of each segment, and so many entries in it.
 pub fn new(alloc: Global, numbers: &mut Numbers) -> Head {
     let factor = numbers.byte().clamp(1, MAX_FACTOR);
     let size = numbers.short().clamp(1, MAX_SEGMENT);
     Head {
-        log: LogHead::new(alloc, host(0), factor, size),
+        log: LogHead::new(alloc, FIRST, factor, size),
         servers: ServerList::new(alloc),
     }
 }
 
 /// One command for the log.
-pub fn take(
-    alloc: Global,
-    head: &mut Head,
-    command: &str,
-    numbers: &mut Numbers,
-    page: &mut Page,
-) -> Result<(), Fault> {
+pub fn take(head: &mut Head, command: &str, desk: &mut Desk) -> Result<(), Fault> {
     let Head { log, servers } = head;
+    let Desk { numbers, page, .. } = desk;
     match command {
         "hosts" => {
-            *servers = members::hosts(alloc, numbers)?;
+            *servers = members::hosts(desk.alloc, numbers)?;
             page.put(" ok");
         }
         "list" => {
-            *servers = ServerList::from_rows(alloc, 1, numbers.servers(alloc)?.as_slice())?;
+            let rows = numbers.servers(desk.alloc)?;
+            *servers = ServerList::from_rows(desk.alloc, 1, rows.as_slice())?;
             page.put(" ok");
         }
-        "open-first" => open_first(alloc, log, servers, page)?,
-        "roll" => roll(alloc, log, servers, numbers, page)?,
-        "lose" => lose(alloc, log, servers, numbers.short(), page)?,
-        "fill" => fill(alloc, log, servers, numbers.short(), page)?,
+        "open-first" => open_first(log, servers, desk)?,
+        "roll" => roll(log, servers, desk)?,
+        "lose" => lose(log, servers, desk)?,
+        "fill" => fill(log, servers, desk)?,
         "write" => write(log, numbers.next(), page)?,
-        "stored" => {
+        "stored" => stored(log, numbers.short(), numbers.host(), desk),
+        "told" => stored(log, numbers.short(), numbers.id(), desk),
+        "commit" => {
             let seg = numbers.short();
-            let from = numbers.host();
-            stored(log, seg, from, numbers, page);
+            log.committed_at(seg, numbers.short());
+            segment(log, seg, page);
         }
-        "told" => {
-            let seg = numbers.short();
-            let from = numbers.id();
-            stored(log, seg, from, numbers, page);
-        }
-        "commit" => commit(log, numbers, page),
         "segment" => segment(log, numbers.short(), page),
-        "stood" => {
-            let seg = numbers.short();
-            page.yes(" ", log.stood(seg, numbers.id()));
-        }
-        _ => go_on(alloc, log, command, page)?,
+        "stood" => page.yes(" ", log.stood(numbers.short(), numbers.id())),
+        _ => go_on(log, command, desk)?,
     }
     Ok(())
 }
 
 /// A command that has no numbers. It writes how the log is afterwards.
-fn go_on(alloc: Global, log: &mut LogHead, command: &str, page: &mut Page) -> Result<(), Fault> {
+fn go_on(log: &mut LogHead, command: &str, desk: &mut Desk) -> Result<(), Fault> {
+    let page = &mut desk.page;
     match command {
         "state" => {}
         "begin" => log.begin(),
         "restore" => log.restore(),
         "shut" => log.mark_shut(),
-        "advance" => advance(alloc, log, page)?,
+        "advance" => advance(desk.alloc, log, page)?,
         "send-closes" => send_closes(log, page),
         "keep-durable" => keep_durable(log),
         _ => page.put(" no such command"),
@@ -96,56 +78,39 @@ fn go_on(alloc: Global, log: &mut LogHead, command: &str, page: &mut Page) -> Re
 
 /// The phase, the newest segment with its length, and how much is durable for good.
 fn write_state(log: &LogHead, page: &mut Page) {
+    let head = log.head();
+    let length = log.segment(head).map_or(0, |segment| segment.len());
     page.put(match log.phase() {
         Phase::Opening => " opening",
         Phase::Closing => " closing",
         Phase::Writing => " writing",
     });
-    page.number(", head ", u64::from(log.head()));
-    page.size(
-        " length ",
-        log.segment(log.head()).map_or(0, |head| head.len()),
-    );
-    page.size(", durable ", log.durable());
+    write!(page, ", head {head} length {length}");
+    write!(page, ", durable {}", log.durable());
 }
 
-fn stored(log: &mut LogHead, seg: u16, from: ServerId, numbers: &mut Numbers, page: &mut Page) {
+fn stored(log: &mut LogHead, seg: u16, from: ServerId, desk: &mut Desk) {
+    let Desk { numbers, page, .. } = desk;
     let epoch = numbers.short();
     let len = numbers.size();
     page.yes(" noted ", log.stored(seg, from, epoch, len, numbers.mark()));
 }
 
-fn commit(log: &mut LogHead, numbers: &mut Numbers, page: &mut Page) {
-    let seg = numbers.short();
-    log.committed_at(seg, numbers.short());
-    segment(log, seg, page);
-}
-
 /// The first head is opened.
-fn open_first(
-    alloc: Global,
-    log: &mut LogHead,
-    servers: &ServerList,
-    page: &mut Page,
-) -> Result<(), Fault> {
+fn open_first(log: &mut LogHead, servers: &ServerList, desk: &mut Desk) -> Result<(), Fault> {
     if log.head() == 0 {
-        return page.done(log.open_first(alloc, servers));
+        return desk.page.done(log.open_first(desk.alloc, servers));
     }
-    page.put(" not asked: there is a head");
+    desk.page.put(" not asked: there is a head");
     Ok(())
 }
 
 /// A roll begins, without these dead segments.
-fn roll(
-    alloc: Global,
-    log: &mut LogHead,
-    servers: &ServerList,
-    numbers: &mut Numbers,
-    page: &mut Page,
-) -> Result<(), Fault> {
+fn roll(log: &mut LogHead, servers: &ServerList, desk: &mut Desk) -> Result<(), Fault> {
+    let Desk { numbers, page, .. } = desk;
     if log.is_writing() {
-        let dead = numbers.segments(alloc, numbers.left())?;
-        return page.done(log.begin_roll(alloc, servers, dead.as_slice()));
+        let dead = numbers.segments(desk.alloc, numbers.left())?;
+        return page.done(log.begin_roll(desk.alloc, servers, dead.as_slice()));
     }
     page.put(" not asked: the log is not writing");
     Ok(())
@@ -154,25 +119,20 @@ fn roll(
 /// A client's write is appended. It writes the place.
 fn write(log: &mut LogHead, key: u64, page: &mut Page) -> Result<(), Fault> {
     if let Some((seg, offset)) = page.value(log.append_write(bare(key)))? {
-        page.number(" segment ", u64::from(seg));
-        page.size(" at ", offset);
+        write!(page, " segment {seg} at {offset}");
     }
     Ok(())
 }
 
 /// The members of a segment that have crashed are lost. It writes who is to be sent a Place.
-fn lose(
-    alloc: Global,
-    log: &mut LogHead,
-    servers: &ServerList,
-    seg: u16,
-    page: &mut Page,
-) -> Result<(), Fault> {
+fn lose(log: &mut LogHead, servers: &ServerList, desk: &mut Desk) -> Result<(), Fault> {
+    let seg = desk.numbers.short();
+    let page = &mut desk.page;
     if !log.has(seg) {
         page.put(" not asked: there is no such segment");
         return Ok(());
     }
-    if let Some(ids) = page.value(log.lose(alloc, seg, servers))? {
+    if let Some(ids) = page.value(log.lose(desk.alloc, seg, servers))? {
         page.put(" to");
         page.ids(ids.as_slice());
     }
@@ -199,10 +159,8 @@ fn advance(alloc: Global, log: &mut LogHead, page: &mut Page) -> Result<(), Faul
     let is_closing = matches!(log.phase(), Phase::Closing);
     if !log.advance() {
         page.put(" no,");
-        return Ok(());
-    }
-    if is_closing {
-        page.numbers(" frees", freed.as_slice());
+    } else if is_closing {
+        page.list(" frees", freed.as_slice());
         page.put(",");
     }
     Ok(())
@@ -227,39 +185,32 @@ fn keep_durable(log: &mut LogHead) {
 
 /// Rolls the log of one entry a segment, on host 1 alone, on to this segment: of the full ones each but the last is
 /// dead. Where memory is refused, the same command goes on from where it was.
-fn fill(
-    alloc: Global,
-    log: &mut LogHead,
-    servers: &ServerList,
-    last: u16,
-    page: &mut Page,
-) -> Result<(), Fault> {
-    let mut silent = Page::new(alloc)?;
+fn fill(log: &mut LogHead, servers: &ServerList, desk: &mut Desk) -> Result<(), Fault> {
+    let last = desk.numbers.short();
+    let mut silent = Page::new(desk.alloc)?;
     for _ in log.head()..last {
         let old = log.head();
         write(log, 1, &mut silent)?;
         if log.is_writing() {
             let dead = [old.saturating_sub(1)];
-            silent.done(log.begin_roll(alloc, servers, &dead))?;
+            silent.done(log.begin_roll(desk.alloc, servers, &dead))?;
         }
-        go_over(alloc, log, &mut silent)?;
+        go_over(desk.alloc, log, &mut silent)?;
         silent.clear();
     }
-    let digest = log
-        .segment(log.head())
-        .map_or(0, |head| head.digest().len());
-    page.size(" digest of ", digest);
-    page.put(",");
-    write_state(log, page);
+    let head = log.segment(log.head());
+    let digest = head.map_or(0, |head| head.digest().len());
+    write!(desk.page, " digest of {digest},");
+    write_state(log, &mut desk.page);
     Ok(())
 }
 
 /// The next head is placed, the old one is closed and shut, and the next one writes.
 fn go_over(alloc: Global, log: &mut LogHead, page: &mut Page) -> Result<(), Fault> {
     let next = log.head();
-    log.stored(next, host(1), 0, 0, false);
+    log.stored(next, first_of(1), 0, 0, false);
     advance(alloc, log, page)?;
-    log.stored(next.saturating_sub(1), host(1), 0, 1, true);
+    log.stored(next.saturating_sub(1), first_of(1), 0, 1, true);
     advance(alloc, log, page)?;
     keep_durable(log);
     Ok(())

@@ -2,41 +2,30 @@
 
 use rc_serverlist::ServerList;
 use rc_types::{Fault, ServerId};
-use rows::{Numbers, Page};
-use std::alloc::{AllocError, Global};
+use rows::{Desk, Page, up_or_crashed};
 
 /// One command for the list.
-pub fn take(
-    alloc: Global,
-    list: &mut ServerList,
-    command: &str,
-    numbers: &mut Numbers,
-    page: &mut Page,
-) -> Result<(), Fault> {
+pub fn take(list: &mut ServerList, command: &str, desk: &mut Desk) -> Result<(), Fault> {
+    let Desk { numbers, page, .. } = desk;
     match command {
         "enlist" => enlist(list, numbers.id(), page)?,
         "crash" => crash(list, numbers.id(), page),
         "about" => about(list, numbers.id(), page),
         "told" => {
-            *list = told(alloc, numbers)?;
-            page.number(" version ", u64::from(list.version()));
+            let version = numbers.long();
+            let rows = numbers.servers(desk.alloc)?;
+            *list = ServerList::from_rows(desk.alloc, version, rows.as_slice())?;
+            write!(page, " version {}", list.version());
         }
-        "list" => write_list(alloc, list, page)?,
+        "list" => write_list(list, desk)?,
         "copy" => {
-            *list = list.try_clone(alloc)?;
-            write_list(alloc, list, page)?;
+            *list = list.try_clone(desk.alloc)?;
+            write_list(list, desk)?;
         }
-        "compare" => compare(alloc, list, page),
+        "compare" => compare(list, desk),
         _ => page.put(" no such command"),
     }
     Ok(())
-}
-
-/// The list of this version and these servers.
-fn told(alloc: Global, numbers: &mut Numbers) -> Result<ServerList, AllocError> {
-    let version = numbers.long();
-    let rows = numbers.servers(alloc)?;
-    ServerList::from_rows(alloc, version, rows.as_slice())
 }
 
 /// Whether the id is the newest, what comes of enlisting it, and the version.
@@ -48,7 +37,7 @@ fn enlist(list: &mut ServerList, id: ServerId, page: &mut Page) -> Result<(), Fa
     page.yes(" newest ", list.is_newest(id));
     page.put(",");
     page.done(list.enlist(id))?;
-    page.number(", version ", u64::from(list.version()));
+    write!(page, ", version {}", list.version());
     Ok(())
 }
 
@@ -57,7 +46,7 @@ fn crash(list: &mut ServerList, id: ServerId, page: &mut Page) {
         return page.put(" not asked: no version is left");
     }
     page.yes(" ", list.crash(id));
-    page.number(", version ", u64::from(list.version()));
+    write!(page, ", version {}", list.version());
 }
 
 /// Whether the id is known, whether it is up, and whether it has crashed.
@@ -68,25 +57,24 @@ fn about(list: &ServerList, id: ServerId, page: &mut Page) {
 }
 
 /// The version, all ids with their marks, and then those that are up.
-fn write_list(alloc: Global, list: &ServerList, page: &mut Page) -> Result<(), Fault> {
-    page.number(" version ", u64::from(list.version()));
+fn write_list(list: &ServerList, desk: &mut Desk) -> Result<(), Fault> {
+    let page = &mut desk.page;
+    write!(page, " version {}", list.version());
     page.yes(", empty ", list.is_empty());
-    page.size(", ", list.len());
-    page.put(" ids");
-    let rows = list.rows(alloc)?;
+    write!(page, ", {} ids", list.len());
+    let rows = list.rows(desk.alloc)?;
     for (id, up) in rows.as_slice() {
-        page.id(" ", *id);
-        page.either(" ", *up, "up", "crashed");
+        write!(page, " {id} {}", up_or_crashed(*up));
     }
     page.put("; up");
-    page.ids(list.up(alloc)?.as_slice());
+    page.ids(list.up(desk.alloc)?.as_slice());
     Ok(())
 }
 
 /// Whether the list is newer than an empty one, an empty one than it, and it than itself.
-fn compare(alloc: Global, list: &ServerList, page: &mut Page) {
-    let empty = ServerList::new(alloc);
-    page.yes(" than none ", list.newer_than(&empty));
-    page.yes(", none than it ", empty.newer_than(list));
-    page.yes(", than itself ", list.newer_than(list));
+fn compare(list: &ServerList, desk: &mut Desk) {
+    let empty = ServerList::new(desk.alloc);
+    desk.page.yes(" than none ", list.newer_than(&empty));
+    desk.page.yes(", none than it ", empty.newer_than(list));
+    desk.page.yes(", than itself ", list.newer_than(list));
 }

@@ -4,14 +4,8 @@ use rc_config::{Config, MAX_MEMBERS, MemberIds, choose};
 use rc_serverlist::ServerList;
 use rc_types::limits::LAST_EPOCH;
 use rc_types::{Fault, ServerId, Told};
-use rows::{Numbers, Page};
+use rows::{Desk, FIRST, Numbers, Page, closed_or_open, first_of};
 use std::alloc::{AllocError, Global};
-
-/// Whose segment it is.
-const OWN: ServerId = ServerId {
-    index: 0,
-    generation: 1,
-};
 
 /// Members, and the list of servers that they are chosen from.
 #[derive(Drop)]
@@ -40,30 +34,25 @@ fn config_of(seg: u16, ids: &[ServerId]) -> Config {
 }
 
 /// One command for the members.
-pub fn take(
-    alloc: Global,
-    members: &mut Members,
-    command: &str,
-    numbers: &mut Numbers,
-    page: &mut Page,
-) -> Result<(), Fault> {
+pub fn take(members: &mut Members, command: &str, desk: &mut Desk) -> Result<(), Fault> {
     let Members { config, servers } = members;
+    let Desk { numbers, page, .. } = desk;
     match command {
         "hosts" => {
-            *servers = hosts(alloc, numbers)?;
+            *servers = hosts(desk.alloc, numbers)?;
             page.put(" ok");
         }
-        "choose" => choosing(alloc, servers, numbers, page)?,
-        "lose" => lose(alloc, config, servers, page)?,
-        "refill" => refill(alloc, config, servers, page)?,
-        "stored" => stored(config, numbers, page),
+        "choose" => choosing(servers, desk)?,
+        "lose" => lose(config, servers, desk)?,
+        "refill" => refill(config, servers, desk)?,
+        "stored" => stored(config, desk),
         "commit" => {
             config.committed_at(numbers.short());
             write_durable(config, page);
         }
         "write" => write_members(&config.copy(), page),
         "has" => has(config, numbers.host(), page),
-        "change" => change_until(alloc, config, numbers.short(), page)?,
+        "change" => change_until(config, desk)?,
         _ => page.put(" no such command"),
     }
     Ok(())
@@ -73,28 +62,24 @@ pub fn take(
 pub fn hosts(alloc: Global, numbers: &mut Numbers) -> Result<ServerList, AllocError> {
     let mut rows = Vec::new(alloc);
     for _ in 0..numbers.left() / 2 {
-        let id = numbers.host();
-        rows.push((id, !numbers.mark()))?;
+        rows.push((numbers.host(), !numbers.mark()))?;
     }
     ServerList::from_rows(alloc, 1, rows.as_slice())
 }
 
-fn choosing(
-    alloc: Global,
-    servers: &ServerList,
-    numbers: &mut Numbers,
-    page: &mut Page,
-) -> Result<(), Fault> {
+fn choosing(servers: &ServerList, desk: &mut Desk) -> Result<(), Fault> {
+    let Desk { numbers, page, .. } = desk;
     let seg = numbers.short();
-    let factor = numbers.byte();
-    if let Some(ids) = page.value(choose(alloc, seg, OWN, factor, servers))? {
+    let ids = choose(desk.alloc, seg, FIRST, numbers.byte(), servers);
+    if let Some(ids) = page.value(ids)? {
         page.ids(ids.as_slice());
     }
     Ok(())
 }
 
 /// Whether what a member tells is noted, and what is durable then.
-fn stored(config: &mut Config, numbers: &mut Numbers, page: &mut Page) {
+fn stored(config: &mut Config, desk: &mut Desk) {
+    let Desk { numbers, page, .. } = desk;
     let from = numbers.host();
     let epoch = numbers.short();
     let len = numbers.size();
@@ -105,18 +90,14 @@ fn stored(config: &mut Config, numbers: &mut Numbers, page: &mut Page) {
 
 /// How much is durable, and whether all members have told something, and that they are closed.
 fn write_durable(config: &Config, page: &mut Page) {
-    page.size(" durable ", config.durable_len());
+    write!(page, " durable {}", config.durable_len());
     page.yes(", placed ", config.all_placed());
     page.yes(", closed ", config.all_closed());
 }
 
-fn lose(
-    alloc: Global,
-    config: &mut Config,
-    servers: &ServerList,
-    page: &mut Page,
-) -> Result<(), Fault> {
-    if let Some(changed) = page.value(config.lose(alloc, OWN, servers))? {
+fn lose(config: &mut Config, servers: &ServerList, desk: &mut Desk) -> Result<(), Fault> {
+    let page = &mut desk.page;
+    if let Some(changed) = page.value(config.lose(desk.alloc, FIRST, servers))? {
         page.yes(" change ", changed);
     }
     page.put(",");
@@ -124,14 +105,10 @@ fn lose(
     Ok(())
 }
 
-fn refill(
-    alloc: Global,
-    config: &mut Config,
-    servers: &ServerList,
-    page: &mut Page,
-) -> Result<(), Fault> {
+fn refill(config: &mut Config, servers: &ServerList, desk: &mut Desk) -> Result<(), Fault> {
+    let page = &mut desk.page;
     page.put(" new");
-    if let Some(ids) = page.value(config.refill(alloc, OWN, servers))? {
+    if let Some(ids) = page.value(config.refill(desk.alloc, FIRST, servers))? {
         page.ids(ids.as_slice());
     }
     page.put(",");
@@ -147,15 +124,14 @@ fn has(config: &Config, id: ServerId, page: &mut Page) {
 
 /// The epoch, and each member with what it has told.
 pub fn write_members(config: &Config, page: &mut Page) {
-    page.number(" epoch ", u64::from(config.epoch()));
+    write!(page, " epoch {}", config.epoch());
     page.yes(" committed ", config.is_committed());
     page.put(":");
     for member in config.members() {
-        page.id(" [", member.id);
+        write!(page, " [{}", member.id);
         page.put(if member.lost { " lost" } else { "" });
         if let Some(Told { len, closed }) = member.told {
-            page.size(" ", len);
-            page.closed(" ", closed);
+            write!(page, " {len} {}", closed_or_open(closed));
         }
         page.put("]");
     }
@@ -163,44 +139,33 @@ pub fn write_members(config: &Config, page: &mut Page) {
 
 /// Changes from epoch to epoch, up to this one: the only member, on host 1 or 2, is lost to the other, who tells of 7
 /// entries, and the epoch is committed.
-fn change_until(
-    alloc: Global,
-    config: &mut Config,
-    last: u16,
-    page: &mut Page,
-) -> Result<(), Fault> {
-    let odd = turn(alloc, 1)?;
-    let even = turn(alloc, 2)?;
+fn change_until(config: &mut Config, desk: &mut Desk) -> Result<(), Fault> {
+    let last = desk.numbers.short();
+    let odd = turn(desk.alloc, 1)?;
+    let even = turn(desk.alloc, 2)?;
     for epoch in config.epoch()..last.min(LAST_EPOCH) {
         let (servers, next) = if epoch % 2 == 0 {
             (&odd, 2)
         } else {
             (&even, 1)
         };
-        change(alloc, config, servers, next)?;
+        change(desk.alloc, config, servers, next)?;
     }
-    write_members(config, page);
+    write_members(config, &mut desk.page);
     Ok(())
 }
 
 /// The list of hosts 1 and 2, of which this one has crashed.
 fn turn(alloc: Global, crashed: u8) -> Result<ServerList, AllocError> {
-    let rows = [(host(1), crashed != 1), (host(2), crashed != 2)];
+    let rows = [(first_of(1), crashed != 1), (first_of(2), crashed != 2)];
     ServerList::from_rows(alloc, 1, &rows)
-}
-
-fn host(index: u8) -> ServerId {
-    ServerId {
-        index,
-        generation: 1,
-    }
 }
 
 /// A loss begins a change, the next member tells, and the epoch is committed.
 fn change(alloc: Global, config: &mut Config, servers: &ServerList, next: u8) -> Result<(), Fault> {
-    if config.lose(alloc, OWN, servers)? {
+    if config.lose(alloc, FIRST, servers)? {
         let epoch = config.epoch();
-        config.stored(host(next), epoch, 7, false);
+        config.stored(first_of(next), epoch, 7, false);
         config.committed_at(epoch);
     }
     Ok(())

@@ -3,8 +3,7 @@
 use crate::entries::entry;
 use rc_ownership::Ownership;
 use rc_types::Fault;
-use rows::{Numbers, Page};
-use std::alloc::Global;
+use rows::{Desk, Page};
 
 /// The table of all entries.
 const TABLE: u32 = 7;
@@ -13,27 +12,21 @@ const TABLE: u32 = 7;
 const KEY: u64 = 5;
 
 /// One command for the owner.
-pub fn take(
-    alloc: Global,
-    owner: &mut Ownership,
-    command: &str,
-    numbers: &mut Numbers,
-    page: &mut Page,
-) -> Result<(), Fault> {
+pub fn take(owner: &mut Ownership, command: &str, desk: &mut Desk) -> Result<(), Fault> {
+    let Desk { numbers, page, .. } = desk;
     match command {
-        "note" => note(alloc, owner, numbers, page)?,
+        "note" => note(owner, desk)?,
         "durable" => durable(owner, numbers.size(), page),
         "highs" => highs(owner, numbers.long(), page),
         "next" => next(owner, numbers.long(), page),
-        "read" => read(alloc, owner, numbers.long(), page)?,
+        "read" => read(owner, desk)?,
         "begin" => {
             owner.begin();
             page.put(" ok");
         }
         "restore" => {
             owner.restore();
-            page.size(" ", owner.count_noted());
-            page.put(" noted");
+            write!(page, " {} noted", owner.count_noted());
         }
         _ => page.put(" no such command"),
     }
@@ -41,18 +34,13 @@ pub fn take(
 }
 
 /// Notes an entry under a term.
-fn note(
-    alloc: Global,
-    owner: &mut Ownership,
-    numbers: &mut Numbers,
-    page: &mut Page,
-) -> Result<(), Fault> {
+fn note(owner: &mut Ownership, desk: &mut Desk) -> Result<(), Fault> {
+    let Desk { numbers, page, .. } = desk;
     let term = numbers.long();
     let version = numbers.next();
-    let entry = entry(alloc, term, KEY, version, numbers.byte())?;
-    owner.note(alloc, &entry)?;
-    page.size(" ", owner.count_noted());
-    page.put(" noted");
+    let entry = entry(desk.alloc, term, KEY, version, numbers.byte())?;
+    owner.note(desk.alloc, &entry)?;
+    write!(page, " {} noted", owner.count_noted());
     Ok(())
 }
 
@@ -72,8 +60,7 @@ fn highs(owner: &Ownership, term: u32, page: &mut Page) {
         return page.put(" none");
     }
     for (place, version) in highs {
-        page.number(" ", *version);
-        page.size(" at ", *place);
+        write!(page, " {version} at {place}");
     }
 }
 
@@ -82,15 +69,16 @@ fn next(owner: &Ownership, term: u32, page: &mut Page) {
     if !owner.has_next_version(term, TABLE, KEY) {
         return page.put(" none");
     }
-    page.number(" ", owner.next_version(term, TABLE, KEY));
+    write!(page, " {}", owner.next_version(term, TABLE, KEY));
 }
 
 /// The greatest durable version, and its value.
-fn read(alloc: Global, owner: &Ownership, term: u32, page: &mut Page) -> Result<(), Fault> {
-    let (version, value) = owner.read(alloc, term, TABLE, KEY)?;
-    page.number(" version ", version);
+fn read(owner: &Ownership, desk: &mut Desk) -> Result<(), Fault> {
+    let Desk { numbers, page, .. } = desk;
+    let (version, value) = owner.read(desk.alloc, numbers.long(), TABLE, KEY)?;
+    write!(page, " version {version}");
     match value {
-        Some(bytes) => page.bytes(" value", bytes.as_slice()),
+        Some(bytes) => page.list(" value", bytes.as_slice()),
         None => page.put(" value none"),
     }
     Ok(())

@@ -1,8 +1,8 @@
 //! The choice of the log that a recovery takes.
 
 use rc_digestpick::pick;
-use rc_types::{Fault, Pair, Row, Seq, ServerId, Shared};
-use rows::{Numbers, Page};
+use rc_types::{Fault, Pair, PlanRow, Row, Seq, ServerId, Shared};
+use rows::{Desk, Numbers};
 use std::alloc::{AllocError, Global};
 use std::mem;
 
@@ -22,68 +22,55 @@ pub fn new(alloc: Global) -> Replies {
 }
 
 /// One command: a row, whose rows those above are, or a choice.
-pub fn take(
-    alloc: Global,
-    replies: &mut Replies,
-    command: &str,
-    numbers: &mut Numbers,
-    page: &mut Page,
-) -> Result<(), Fault> {
+pub fn take(replies: &mut Replies, command: &str, desk: &mut Desk) -> Result<(), Fault> {
+    let Desk { numbers, page, .. } = desk;
     match command {
         "row" => {
-            replies.rows.push(row(alloc, numbers)?)?;
+            replies.rows.push(row(desk.alloc, numbers)?)?;
             page.put(" ok");
         }
         "holder" => {
             replies.told.reserve(1)?;
-            let rows = mem::replace(&mut replies.rows, Vec::new(alloc));
+            let rows = mem::replace(&mut replies.rows, Vec::new(desk.alloc));
             replies.told.push((numbers.id(), Seq::from_vec(rows)))?;
             page.put(" ok");
         }
-        "least" => choose(alloc, replies.told.as_slice(), numbers, page)?,
+        "least" => choose(replies.told.as_slice(), desk)?,
         _ => page.put(" no such command"),
     }
     Ok(())
 }
 
 fn row(alloc: Global, numbers: &mut Numbers) -> Result<Row, AllocError> {
-    let seg = numbers.short();
-    let epoch = numbers.short();
-    let closed = numbers.mark();
-    let len = numbers.size();
-    let digest = numbers.segments(alloc, numbers.left())?;
     Ok(Row {
-        seg,
-        epoch,
-        closed,
-        len,
-        digest: Shared::from_vec(alloc, digest)?,
+        seg: numbers.short(),
+        epoch: numbers.short(),
+        closed: numbers.mark(),
+        len: numbers.size(),
+        digest: Shared::from_vec(alloc, numbers.segments(alloc, numbers.left())?)?,
     })
 }
 
-/// The plan from these answers, or why there is none.
-fn choose(
-    alloc: Global,
-    told: &[(ServerId, Seq<Row>)],
-    numbers: &mut Numbers,
-    page: &mut Page,
-) -> Result<(), Fault> {
-    let seg = numbers.short();
-    let epoch = numbers.short();
-    match pick(alloc, Pair { seg, epoch }, told) {
-        Ok(plan) => {
-            page.number(" head ", u64::from(plan.head));
-            for row in plan.rows.as_slice() {
-                page.size(", ", row.len);
-                page.number(" entries of segment ", u64::from(row.seg));
-                page.id(" at ", row.holder);
-            }
-            Ok(())
-        }
-        Err(Fault::OutOfMemory) => Err(Fault::OutOfMemory),
-        Err(fault) => {
-            page.fault(" ", fault);
-            Ok(())
-        }
+/// The pair of the next two numbers.
+pub fn pair(numbers: &mut Numbers) -> Pair {
+    Pair {
+        seg: numbers.short(),
+        epoch: numbers.short(),
     }
+}
+
+/// The plan from these answers, or why there is none.
+fn choose(told: &[(ServerId, Seq<Row>)], desk: &mut Desk) -> Result<(), Fault> {
+    let Desk { numbers, page, .. } = desk;
+    match pick(desk.alloc, pair(numbers), told) {
+        Ok(plan) => {
+            write!(page, " head {}", plan.head);
+            for PlanRow { seg, holder, len } in plan.rows.as_slice() {
+                write!(page, ", {len} entries of segment {seg} at {holder}");
+            }
+        }
+        Err(Fault::OutOfMemory) => return Err(Fault::OutOfMemory),
+        Err(fault) => write!(page, " {fault}"),
+    }
+    Ok(())
 }

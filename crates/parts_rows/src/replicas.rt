@@ -3,7 +3,7 @@
 use crate::entries::{entries, write_keys};
 use rc_replica::Replica;
 use rc_types::{Fault, Shared};
-use rows::{Numbers, Page};
+use rows::{Desk, Numbers, Page, closed_or_open};
 use std::alloc::{AllocError, Global};
 
 /// An empty replica under an epoch, whose segment was opened with these segments as its digest.
@@ -14,16 +14,11 @@ pub fn new(alloc: Global, numbers: &mut Numbers) -> Result<Replica, AllocError> 
 }
 
 /// One command for the replica. It writes how the replica is afterwards.
-pub fn take(
-    alloc: Global,
-    replica: &mut Replica,
-    command: &str,
-    numbers: &mut Numbers,
-    page: &mut Page,
-) -> Result<(), Fault> {
+pub fn take(replica: &mut Replica, command: &str, desk: &mut Desk) -> Result<(), Fault> {
+    let Desk { numbers, page, .. } = desk;
     match command {
-        "append" => append(alloc, replica, numbers)?,
-        "place" => place(alloc, replica, numbers)?,
+        "append" => append(desk.alloc, replica, numbers)?,
+        "place" => place(desk.alloc, replica, numbers)?,
         "close" => {
             page.yes(" ", replica.close(numbers.size()));
             page.put(",");
@@ -31,8 +26,8 @@ pub fn take(
         "look" => look(replica, page),
         _ => page.put(" no such command"),
     }
-    page.number(" epoch ", u64::from(replica.epoch()));
-    page.closed(" ", replica.is_closed());
+    let closed = closed_or_open(replica.is_closed());
+    write!(page, " epoch {} {closed}", replica.epoch());
     write_keys(page, replica.entries());
     Ok(())
 }
@@ -52,8 +47,8 @@ fn place(alloc: Global, replica: &mut Replica, numbers: &mut Numbers) -> Result<
 
 /// How many entries it has, whether it is empty, and its digest.
 fn look(replica: &Replica, page: &mut Page) {
-    page.size(" length ", replica.len());
+    write!(page, " length {}", replica.len());
     page.yes(" empty ", replica.is_empty());
-    page.numbers(" digest", replica.digest());
+    page.list(" digest", replica.digest());
     page.put(",");
 }

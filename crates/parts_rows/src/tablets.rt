@@ -2,64 +2,45 @@
 
 use rc_rangetree::RangeTree;
 use rc_types::limits::LAST_KEY;
-use rc_types::{Fault, KeyRange, ServerId, Tablet};
-use rows::{Numbers, Page};
+use rc_types::{Fault, KeyRange, Tablet};
+use rows::{Desk, FIRST, Numbers, Page, up_or_crashed};
 use std::alloc::Global;
 
 /// A tree in ordinary memory.
 pub type Tree = RangeTree<Global>;
 
-/// Who gets the tables.
-const OWNER: ServerId = ServerId {
-    index: 0,
-    generation: 1,
-};
-
 /// One command for the tree.
-pub fn take(
-    alloc: Global,
-    tree: &mut Tree,
-    command: &str,
-    numbers: &mut Numbers,
-    page: &mut Page,
-) -> Result<(), Fault> {
+pub fn take(tree: &mut Tree, command: &str, desk: &mut Desk) -> Result<(), Fault> {
+    let Desk { numbers, page, .. } = desk;
     match command {
-        "create" => page.done(tree.create(numbers.long(), OWNER, 1))?,
-        "split" => {
-            let table = numbers.long();
-            page.done(tree.split(table, numbers.next()))?;
+        "create" => page.done(tree.create(numbers.long(), FIRST, 1))?,
+        "split" => page.done(tree.split(numbers.long(), numbers.next()))?,
+        "find" => find(tree, numbers.long(), numbers.next(), page),
+        "crash" => write!(page, " {} marked", tree.mark_crashed(numbers.id())),
+        "assign" => page.done(tree.assign(numbers.range(), numbers.id(), numbers.long()))?,
+        "list" => write_tablets(tree.tablets(desk.alloc)?.as_slice(), page),
+        "owned" => {
+            let owned = tree.tablets_of(desk.alloc, numbers.id())?;
+            write_tablets(owned.as_slice(), page);
         }
-        "find" => find(tree, numbers, page),
-        "crash" => {
-            page.size(" ", tree.mark_crashed(numbers.id()));
-            page.put(" marked");
-        }
-        "assign" => assign(tree, numbers, page)?,
-        "list" => write_tablets(tree.tablets(alloc)?.as_slice(), page),
-        "owned" => write_tablets(tree.tablets_of(alloc, numbers.id())?.as_slice(), page),
         "copy" => {
-            *tree = tree.try_clone_in(alloc)?;
-            write_tablets(tree.tablets(alloc)?.as_slice(), page);
+            *tree = tree.try_clone_in(desk.alloc)?;
+            write_tablets(tree.tablets(desk.alloc)?.as_slice(), page);
         }
-        _ => take_many(alloc, tree, command, numbers, page)?,
+        _ => take_many(tree, command, desk)?,
     }
     Ok(())
 }
 
 /// One command for a tree of many tablets.
-fn take_many(
-    alloc: Global,
-    tree: &mut Tree,
-    command: &str,
-    numbers: &mut Numbers,
-    page: &mut Page,
-) -> Result<(), Fault> {
+fn take_many(tree: &mut Tree, command: &str, desk: &mut Desk) -> Result<(), Fault> {
+    let Desk { numbers, page, .. } = desk;
     match command {
-        "depth" => page.size(" ", tree.depth()),
+        "depth" => write!(page, " {}", tree.depth()),
         "tables" => tables(tree, numbers, page)?,
         "look-up" => look_up_tables(tree, numbers, page),
-        "split-upwards" => split_all(alloc, tree, true, numbers, page)?,
-        "split-downwards" => split_all(alloc, tree, false, numbers, page)?,
+        "split-upwards" => split_all(tree, true, desk)?,
+        "split-downwards" => split_all(tree, false, desk)?,
         "singles" => singles(tree, numbers, page),
         "between" => {
             let least = numbers.size();
@@ -71,9 +52,7 @@ fn take_many(
 }
 
 /// The tablet of a key; both look-ups have to find the same one.
-fn find(tree: &Tree, numbers: &mut Numbers, page: &mut Page) {
-    let table = numbers.long();
-    let key = numbers.next();
+fn find(tree: &Tree, table: u32, key: u64, page: &mut Page) {
     let (counted, _) = tree.find_counted(table, key);
     match (tree.find(table, key), counted) {
         (Some(found), Some(other)) => {
@@ -85,20 +64,12 @@ fn find(tree: &Tree, numbers: &mut Numbers, page: &mut Page) {
     }
 }
 
-fn assign(tree: &mut Tree, numbers: &mut Numbers, page: &mut Page) -> Result<(), Fault> {
-    let range = numbers.range();
-    let owner = numbers.id();
-    page.done(tree.assign(range, owner, numbers.long()))
-}
-
 /// A tablet: table, first and last key, owner, term, and whether the owner has crashed.
 fn write_tablet(tablet: &Tablet, page: &mut Page) {
-    page.number(" [", u64::from(tablet.range.table));
-    page.number(" ", tablet.range.lo);
-    page.number(" ", tablet.range.hi);
-    page.id(" ", tablet.owner);
-    page.number(" term ", u64::from(tablet.term));
-    page.either(" ", tablet.crashed, "crashed]", "up]");
+    let KeyRange { table, lo, hi } = tablet.range;
+    write!(page, " [{table} {lo} {hi} {}", tablet.owner);
+    let up = up_or_crashed(!tablet.crashed);
+    write!(page, " term {} {up}]", tablet.term);
 }
 
 fn write_tablets(tablets: &[Tablet], page: &mut Page) {
@@ -112,10 +83,10 @@ fn write_tablets(tablets: &[Tablet], page: &mut Page) {
 fn tables(tree: &mut Tree, numbers: &mut Numbers, page: &mut Page) -> Result<(), Fault> {
     for table in numbers.long()..=numbers.long() {
         let before = tree.depth();
-        if tree.create(table, OWNER, 1).is_err() && tree.depth() == before {
-            tree.create(table, OWNER, 1)?;
+        if tree.create(table, FIRST, 1).is_err() && tree.depth() == before {
+            tree.create(table, FIRST, 1)?;
         }
-        page.size(" ", tree.depth());
+        write!(page, " {}", tree.depth());
     }
     Ok(())
 }
@@ -128,20 +99,14 @@ fn look_up_tables(tree: &Tree, numbers: &mut Numbers, page: &mut Page) {
         let spans = found.is_some_and(|tablet| tablet.range == KeyRange::all_keys(table));
         count = count.saturating_add(u64::from(spans && forks <= tree.depth()));
     }
-    page.number(" ", count);
+    write!(page, " {count}");
 }
 
 /// Splits a table at each key from the first to the last, or the other way round, and counts the tablets.
-fn split_all(
-    alloc: Global,
-    tree: &mut Tree,
-    upwards: bool,
-    numbers: &mut Numbers,
-    page: &mut Page,
-) -> Result<(), Fault> {
-    let table = numbers.long();
-    let first = numbers.next();
-    let last = numbers.next();
+fn split_all(tree: &mut Tree, upwards: bool, desk: &mut Desk) -> Result<(), Fault> {
+    let table = desk.numbers.long();
+    let first = desk.numbers.next();
+    let last = desk.numbers.next();
     for step in 0..=last.saturating_sub(first) {
         let at = if upwards {
             first.saturating_add(step)
@@ -153,8 +118,8 @@ fn split_all(
             _ => {}
         }
     }
-    page.size(" ", tree.tablets(alloc)?.len());
-    page.put(" tablets");
+    let count = tree.tablets(desk.alloc)?.len();
+    write!(desk.page, " {count} tablets");
     Ok(())
 }
 
@@ -173,6 +138,6 @@ fn singles(tree: &Tree, numbers: &mut Numbers, page: &mut Page) {
         let single = found.is_some_and(|tablet| tablet.range == range);
         count = count.saturating_add(u64::from(single));
     }
-    page.number(" ", count);
+    write!(page, " {count}");
     page.yes(", deepest ", most == tree.depth());
 }

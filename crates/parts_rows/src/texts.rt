@@ -1,24 +1,20 @@
 //! How addresses and refusals are written, and how ids and pairs are ordered.
 
-use rc_types::{Addr, Fault, Pair};
-use rows::{Numbers, Page};
+use crate::picks::pair;
+use rc_types::{Addr, Fault};
+use rows::{Desk, Page};
 use std::cmp::Ordering;
 
 /// One command.
-pub fn take(command: &str, numbers: &mut Numbers, page: &mut Page) {
+pub fn take(command: &str, desk: &mut Desk) {
+    let Desk { numbers, page, .. } = desk;
     match command {
-        "server" => page.id(" ", numbers.id()),
-        "coordinator" => page.node(" ", Addr::Coordinator),
-        "outside" => page.node(" ", Addr::Outside),
-        "fault" => fault(numbers, page),
-        "ids" => {
-            let id = numbers.id();
-            page.put(name_of(id.cmp(&numbers.id())));
-        }
-        "pairs" => {
-            let one = pair(numbers);
-            page.put(name_of(one.cmp(&pair(numbers))));
-        }
+        "server" => write!(page, " {}", Addr::Server(numbers.id())),
+        "coordinator" => write!(page, " {}", Addr::Coordinator),
+        "outside" => write!(page, " {}", Addr::Outside),
+        "fault" => write_fault(numbers.next(), numbers.next(), page),
+        "ids" => page.put(name_of(numbers.id().cmp(&numbers.id()))),
+        "pairs" => page.put(name_of(pair(numbers).cmp(&pair(numbers)))),
         _ => page.put(" no such command"),
     }
 }
@@ -31,28 +27,17 @@ fn name_of(order: Ordering) -> &'static str {
     }
 }
 
-fn pair(numbers: &mut Numbers) -> Pair {
-    let seg = numbers.short();
-    let epoch = numbers.short();
-    Pair { seg, epoch }
-}
-
 /// The code and the text of a refusal.
-fn fault(numbers: &mut Numbers, page: &mut Page) {
-    let number = numbers.next();
-    let detail = numbers.next();
-    match early_fault(number, detail).or(late_fault(number, detail)) {
-        Some(fault) => {
-            page.code(" ", fault.code());
-            page.number(" number ", u64::from(fault.code().number()));
-            page.fault(": ", fault);
-        }
-        None => page.put(" none"),
-    }
+fn write_fault(number: u64, detail: u64, page: &mut Page) {
+    let Some(fault) = fault_of(number, detail) else {
+        return page.put(" none");
+    };
+    let code = fault.code();
+    write!(page, " {code} number {}: {fault}", code.number());
 }
 
-/// The refusals up to F10.
-fn early_fault(number: u64, detail: u64) -> Option<Fault> {
+/// The refusal of this number, with what it says beside.
+fn fault_of(number: u64, detail: u64) -> Option<Fault> {
     Some(match number {
         1 => Fault::OutOfMemory,
         2 => Fault::NotOwner,
@@ -64,13 +49,6 @@ fn early_fault(number: u64, detail: u64) -> Option<Fault> {
         8 => Fault::HeadMissing,
         9 => Fault::SegmentMissing(detail.min(65_535) as u16),
         10 => Fault::StaleAttempt,
-        _ => return None,
-    })
-}
-
-/// The refusals from F11 on.
-fn late_fault(number: u64, detail: u64) -> Option<Fault> {
-    Some(match number {
         11 => Fault::NotReady,
         12 => Fault::TableExists,
         13 => Fault::NoTable,

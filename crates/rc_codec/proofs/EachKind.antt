@@ -1,9 +1,11 @@
 -- Each coding is read back, and nothing else is: the parts, the messages, the events.
-use Rattle.std.proofs.Common.{◌≡◌, ℕ, zero, suc, ◌+◌, List, [], ◌∷◌, ◌++◌, Some, refl, sym, ap, ◌∙◌, arith}
+use Rattle.std.proofs.Common.{◌≡◌, ℕ, zero, suc, ◌+◌, ◌≤◌, List, [], ◌∷◌, ◌++◌, Option, Some, None, refl, sym, ap, ◌∙◌, arith}
 use Rattle.std.specs.Prelude.{map, slice_get}
 use Rattle.rc_types.specs.Codes.{code_number}
 use Rattle.rc_types.specs.declared.events.Event.{Event}
 use Rattle.rc_types.specs.declared.events.Event.TheVariants as event
+use Rattle.rc_types.specs.declared.events.Order.{Order}
+use Rattle.rc_types.specs.declared.events.Order.TheVariants as order
 use Rattle.rc_types.specs.declared.faults.Code.{Code}
 use Rattle.rc_types.specs.declared.faults.Code.TheVariants as code
 use Rattle.rc_types.specs.declared.ids.Addr.{Addr}
@@ -13,15 +15,16 @@ use Rattle.rc_types.specs.declared.messages.Body.TheVariants as body
 use Rattle.rc_codec.specs.Parts.{number, byte, two_bytes, four_bytes, eight_bytes, flag}
 use Rattle.rc_codec.specs.Spelling.{id_code, addr_code, refusal_code, value_code, entry_code, row_code, plan_row_code, range_code}
 use Rattle.rc_codec.specs.Spelling.{part_code, up_code}
-use Rattle.rc_codec.specs.Spelling.{kept_code, body_code, message_code, event_code, coded_message, coded_event}
-use Rattle.rc_codec.specs.Reading.{flag_at}
+use Rattle.rc_codec.specs.Spelling.{kept_code, body_code, message_code, order_code, event_code, coded_message, coded_event}
+use Rattle.rc_codec.specs.Reading.{◌>>=◌, Reader, made, flag_at}
 use Rattle.rc_codec.specs.Readers.{u8_at, u16_at, u32_at, u64_at, id_at, addr_at, addrs, chosen_at, refusals, refusal_at, value_at}
 use Rattle.rc_codec.specs.Readers.{entry_at, row_at, plan_row_at, range_at, part_at, up_at, kept_at, bodies, body_at, message_at, events}
-use Rattle.rc_codec.specs.Readers.{event_at}
+use Rattle.rc_codec.specs.Readers.{orders, order_at, ordered, event_at}
 use Rattle.rc_codec.specs.Readers.{versioned_at}
 use Rattle.rc_codec.proofs.Lawful.{IsBytes, Lawful, bind_some, some_is, made_again, made_lawful, pair_lawful, three_lawful, four_lawful}
 use Rattle.rc_codec.proofs.Lawful.{five_lawful, six_lawful, number_lawful, flag_lawful, bytes_lawful, optional_lawful, listed_lawful}
-use Rattle.rc_codec.proofs.Lawful.{nothing_lawful, AreRight, all_right, kind_right, chosen_lawful, versioned_lawful}
+use Rattle.rc_codec.proofs.Lawful.{nothing_lawful, AreRight, all_right, kind_right, made_right, chosen_lawful, versioned_lawful}
+use Rattle.rc_codec.proofs.Choices.{event_orders}
 
 pub u8_law : Lawful byte u8_at
 u8_law = number_lawful 0
@@ -210,6 +213,48 @@ pub message_law : Lawful message_code message_at
 message_law = made_lawful (three_lawful addr_law addr_law body_law) (λ p. record { from = p.0; to = p.1; body = p.2 })
     (λ m. (m.from, m.to, m.body)) message_code (λ m. refl) (λ p. refl)
 
+-- the orders
+
+abbrev order_read : Reader Order
+order_read [] = None
+order_read (kind ∷ rest) = order_at kind rest
+
+order_again : (x : Order) (rest : List ℕ) → order_read (order_code x ++ rest) ≡ Some (x, rest)
+order_again (order.Suspect id) rest = made_again id_law order.Suspect id rest
+order_again (order.Decide id) rest = made_again id_law order.Decide id rest
+order_again (order.Create table owner) rest = made_again (pair_lawful u32_law id_law) (λ p. order.Create p.0 p.1) (table, owner) rest
+order_again (order.Split table at) rest = made_again (pair_lawful u32_law u64_law) (λ p. order.Split p.0 p.1) (table, at) rest
+
+order_right : AreRight order_code 5 orders
+order_right = all_right order_code 5 orders (AreRight order_code 5 orders) (λ all. all)
+    (kind_right id_law order.Suspect order_code 5 (λ x. refl))
+    (kind_right id_law order.Decide order_code 6 (λ x. refl))
+    (kind_right (pair_lawful u32_law id_law) (λ p. order.Create p.0 p.1) order_code 7 (λ x. refl))
+    (kind_right (pair_lawful u32_law u64_law) (λ p. order.Split p.0 p.1) order_code 8 (λ x. refl))
+
+-- as something that is made of them
+
+abbrev IsMadeBy : {A : Type 0} → (Order → A) → List (Reader A) → Type 0
+IsMadeBy f table = (k : ℕ) (xs : List ℕ) → 5 ≤ k → chosen_at table (k ∷ xs) ≡ made (order_at k) f xs
+
+abbrev with_order : {A : Type 0} → (Order → A) → Option (Order × List ℕ) → Option (A × List ℕ)
+with_order f read = read >>= λ x. Some (f x.0, x.1)
+
+pub ordered_again : {A : Type 0} (f : Order → A) (readers : List (Reader A)) → IsMadeBy f readers → (x : Order) (rest : List ℕ) →
+    chosen_at readers (order_code x ++ rest) ≡ Some (f x, rest)
+ordered_again f readers made_by (order.Suspect id) rest =
+    made_by 5 (id_code id ++ rest) (omega arith) ∙ ap (with_order f) (order_again (order.Suspect id) rest)
+ordered_again f readers made_by (order.Decide id) rest =
+    made_by 6 (id_code id ++ rest) (omega arith) ∙ ap (with_order f) (order_again (order.Decide id) rest)
+ordered_again f readers made_by (order.Create table owner) rest =
+    made_by 7 ((four_bytes table ++ id_code owner) ++ rest) (omega arith) ∙ ap (with_order f) (order_again (order.Create table owner) rest)
+ordered_again f readers made_by (order.Split table at) rest =
+    made_by 8 ((four_bytes table ++ eight_bytes at) ++ rest) (omega arith) ∙ ap (with_order f) (order_again (order.Split table at) rest)
+
+pub ordered_right : {A : Type 0} (f : Order → A) (code : A → List ℕ) → ((x : Order) → code (f x) ≡ order_code x) →
+    AreRight code 5 (ordered f)
+ordered_right f code same = made_right order_code code f same 5 orders order_right
+
 event_again : (x : Event) (rest : List ℕ) → chosen_at events (event_code x ++ rest) ≡ Some (x, rest)
 event_again (event.Ask to body) rest = made_again (pair_lawful id_law body_law) (λ p. event.Ask p.0 p.1) (to, body) rest
 event_again (event.Deliver number) rest = made_again u64_law event.Deliver number rest
@@ -217,22 +262,25 @@ event_again (event.Tick addr) rest = made_again addr_law event.Tick addr rest
 event_again (event.Stop id) rest = made_again id_law event.Stop id rest
 event_again (event.Start host kept) rest = made_again (pair_lawful u8_law (listed_lawful kept_law)) (λ p. event.Start p.0 p.1)
     (host, kept) rest
-event_again (event.Suspect id) rest = made_again id_law event.Suspect id rest
-event_again (event.Decide id) rest = made_again id_law event.Decide id rest
-event_again (event.Create table owner) rest = made_again (pair_lawful u32_law id_law) (λ p. event.Create p.0 p.1) (table, owner) rest
-event_again (event.Split table at) rest = made_again (pair_lawful u32_law u64_law) (λ p. event.Split p.0 p.1) (table, at) rest
+event_again (event.Order x) rest = ordered_again event.Order events event_orders x rest
 
 event_right : AreRight event_code 0 events
-event_right = all_right event_code 0 events (AreRight event_code 0 events) (λ all. all)
-    (kind_right (pair_lawful id_law body_law) (λ p. event.Ask p.0 p.1) event_code 0 (λ x. refl))
-    (kind_right u64_law event.Deliver event_code 1 (λ x. refl))
-    (kind_right addr_law event.Tick event_code 2 (λ x. refl))
-    (kind_right id_law event.Stop event_code 3 (λ x. refl))
-    (kind_right (pair_lawful u8_law (listed_lawful kept_law)) (λ p. event.Start p.0 p.1) event_code 4 (λ x. refl))
-    (kind_right id_law event.Suspect event_code 5 (λ x. refl))
-    (kind_right id_law event.Decide event_code 6 (λ x. refl))
-    (kind_right (pair_lawful u32_law id_law) (λ p. event.Create p.0 p.1) event_code 7 (λ x. refl))
-    (kind_right (pair_lawful u32_law u64_law) (λ p. event.Split p.0 p.1) event_code 8 (λ x. refl))
+event_right = (
+  kind_right (pair_lawful id_law body_law) (λ p. event.Ask p.0 p.1) event_code 0 (λ x. refl),
+  (
+    kind_right u64_law event.Deliver event_code 1 (λ x. refl),
+    (
+      kind_right addr_law event.Tick event_code 2 (λ x. refl),
+      (
+        kind_right id_law event.Stop event_code 3 (λ x. refl),
+        (
+          kind_right (pair_lawful u8_law (listed_lawful kept_law)) (λ p. event.Start p.0 p.1) event_code 4 (λ x. refl),
+          ordered_right event.Order event_code (λ x. refl),
+        ),
+      ),
+    ),
+  ),
+)
 
 event_law : Lawful event_code event_at
 unfolding event_at

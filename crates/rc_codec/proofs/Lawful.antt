@@ -1,7 +1,7 @@
 -- Readers that read each coding back and nothing else, and what is made of them.
 use Rattle.std.proofs.Common.{◌≡◌, ℕ, zero, suc, ◌+◌, ◌*◌, ◌/◌, ◌%◌, ◌<◌, ◌≤◌, Bool, true, false, cond, ltb, List, [], ◌∷◌, ◌++◌}
 use Rattle.std.proofs.Common.{length, get_or, take, drop, Option, Some, None, refl, sym, ap, subst, ◌∙◌, append_assoc, arith}
-use Rattle.std.specs.Prelude.{slice_get}
+use Rattle.std.specs.Prelude.{slice_get, map}
 use Rattle.std.specs.List.{flat_map}
 use Rattle.std.proofs.lemmas.Bool.{ltb-false, le-ltb}
 use Rattle.std.proofs.lemmas.List.{take_at, drop_at, take-append-drop, length-append, length-take}
@@ -283,6 +283,19 @@ pub kind_right : {A B : Type 0} {c : A → List ℕ} {read : Reader A} → Lawfu
 kind_right {A} {B} {c} {read} l f code k same xs y rest fits e =
     let t = made_takes l f xs y rest fits e in
     ap (λ (zs : List ℕ). k ∷ zs) t.2 ∙ ap (λ (zs : List ℕ). zs ++ rest) (sym (same t.0) ∙ ap code t.1)
+
+-- something that is made of each
+pub made_right : {A B : Type 0} (code : A → List ℕ) (other : B → List ℕ) (f : A → B) → ((x : A) → other (f x) ≡ code x) →
+    (k : ℕ) (table : List (Reader A)) → AreRight code k table → AreRight other k (map (λ (read : Reader A). made read f) table)
+made_right code other f same k [] right = tt
+made_right {A} {B} code other f same k (read ∷ table) right = (
+  λ xs y rest fits e.
+      let b = bind_some (read xs) (λ x. Some (f x.0, x.1)) (y, rest) e in
+      let one = some_is (f b.0.0, b.0.1) (y, rest) b.2 in
+      right.0 xs b.0.0 b.0.1 fits b.1 ∙ ap (λ (zs : List ℕ). zs ++ b.0.1) (sym (same b.0.0))
+      ∙ ap (λ (p : B × List ℕ). other p.0 ++ p.1) one,
+  made_right code other f same (suc k) table right.1,
+)
 
 table_right : {B : Type 0} (code : B → List ℕ) (k : ℕ) (table : List (Reader B)) → AreRight code k table → (n m : ℕ) (read : Reader B)
     → m ≡ k + n → slice_get table n ≡ Some read → IsRight code m read

@@ -1,9 +1,11 @@
 -- Reading of messages and events, kind by kind.
-use Rattle.std.specs.Prelude.{ℕ, zero, suc, List, [], ◌∷◌, Bool, Option, Some, None, slice_get}
+use Rattle.std.specs.Prelude.{ℕ, zero, suc, ◌-◌, List, [], ◌∷◌, map, Bool, Option, Some, None, slice_get}
 use Rattle.rc_types.specs.declared.entries.Entry.{Entry}
 use Rattle.rc_types.specs.declared.events.Event.{Event}
 use Rattle.rc_types.specs.declared.events.Event.TheVariants as event
 use Rattle.rc_types.specs.declared.events.MasterSetup.{MasterSetup}
+use Rattle.rc_types.specs.declared.events.Order.{Order}
+use Rattle.rc_types.specs.declared.events.Order.TheVariants as order
 use Rattle.rc_types.specs.declared.faults.Code.{Code}
 use Rattle.rc_types.specs.declared.faults.Code.TheVariants as code
 use Rattle.rc_types.specs.declared.ids.Addr.{Addr}
@@ -180,6 +182,30 @@ body_at = chosen_at bodies
 abbrev pub message_at : Reader Message
 message_at = made (three addr_at addr_at body_at) (λ p. record { from = p.0; to = p.1; body = p.2 })
 
+-- behind a kind of 5 and more
+
+abbrev pub suspect_at : Reader Order
+suspect_at = made id_at order.Suspect
+
+abbrev pub decide_at : Reader Order
+decide_at = made id_at order.Decide
+
+abbrev pub create_at : Reader Order
+create_at = made (u32_at ⊗ id_at) (λ p. order.Create p.0 p.1)
+
+abbrev pub split_at : Reader Order
+split_at = made (u32_at ⊗ u64_at) (λ p. order.Split p.0 p.1)
+
+abbrev pub orders : List (Reader Order)
+orders = suspect_at ∷ decide_at ∷ create_at ∷ split_at ∷ []
+
+abbrev pub order_at : ℕ → Reader Order
+order_at kind xs = slice_get orders (kind - 5) >>= λ read. read xs
+
+-- what is made of them
+abbrev pub ordered : {A : Type 0} → (Order → A) → List (Reader A)
+ordered f = map (λ (read : Reader Order). made read f) orders
+
 abbrev pub ask_at : Reader Event
 ask_at = made (id_at ⊗ body_at) (λ p. event.Ask p.0 p.1)
 
@@ -195,20 +221,8 @@ stop_at = made id_at event.Stop
 abbrev pub start_at : Reader Event
 start_at = made (u8_at ⊗ listed_at kept_at) (λ p. event.Start p.0 p.1)
 
-abbrev pub suspect_at : Reader Event
-suspect_at = made id_at event.Suspect
-
-abbrev pub decide_at : Reader Event
-decide_at = made id_at event.Decide
-
-abbrev pub create_at : Reader Event
-create_at = made (u32_at ⊗ id_at) (λ p. event.Create p.0 p.1)
-
-abbrev pub split_at : Reader Event
-split_at = made (u32_at ⊗ u64_at) (λ p. event.Split p.0 p.1)
-
 abbrev pub events : List (Reader Event)
-events = ask_at ∷ deliver_at ∷ tick_at ∷ stop_at ∷ start_at ∷ suspect_at ∷ decide_at ∷ create_at ∷ split_at ∷ []
+events = ask_at ∷ deliver_at ∷ tick_at ∷ stop_at ∷ start_at ∷ ordered event.Order
 
 unfoldable pub event_at : Reader Event
 event_at = chosen_at events

@@ -5,6 +5,8 @@ use Rattle.rc_types.specs.declared.entries.Entry.{Entry}
 use Rattle.rc_types.specs.declared.events.Event.{Event}
 use Rattle.rc_types.specs.declared.events.Event.TheVariants as event
 use Rattle.rc_types.specs.declared.events.MasterSetup.{MasterSetup}
+use Rattle.rc_types.specs.declared.events.Order.{Order}
+use Rattle.rc_types.specs.declared.events.Order.TheVariants as order
 use Rattle.rc_types.specs.declared.faults.Code.{Code}
 use Rattle.rc_types.specs.declared.ids.Addr.{Addr}
 use Rattle.rc_types.specs.declared.ids.Addr.TheVariants as addr
@@ -110,16 +112,20 @@ body_code (body.Free seg) = 22 ∷ two_bytes seg
 abbrev pub message_code : Message → List ℕ
 message_code m = addr_code m.from ++ addr_code m.to ++ body_code m.body
 
+-- what the coordinator is told: of an event, and of what a node is given
+abbrev pub order_code : Order → List ℕ
+order_code (order.Suspect id) = 5 ∷ id_code id
+order_code (order.Decide id) = 6 ∷ id_code id
+order_code (order.Create table owner) = 7 ∷ four_bytes table ++ id_code owner
+order_code (order.Split table at) = 8 ∷ four_bytes table ++ eight_bytes at
+
 abbrev pub event_code : Event → List ℕ
 event_code (event.Ask to body) = 0 ∷ id_code to ++ body_code body
 event_code (event.Deliver number) = 1 ∷ eight_bytes number
 event_code (event.Tick addr) = 2 ∷ addr_code addr
 event_code (event.Stop id) = 3 ∷ id_code id
 event_code (event.Start host kept) = 4 ∷ byte host ++ listed kept_code kept
-event_code (event.Suspect id) = 5 ∷ id_code id
-event_code (event.Decide id) = 6 ∷ id_code id
-event_code (event.Create table owner) = 7 ∷ four_bytes table ++ id_code owner
-event_code (event.Split table at) = 8 ∷ four_bytes table ++ eight_bytes at
+event_code (event.Order o) = order_code o
 
 -- what is written as a whole: the version of the format, 1, and then the message or the event
 abbrev pub coded_message : Message → List ℕ

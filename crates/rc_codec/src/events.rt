@@ -1,12 +1,12 @@
-//! Events: the kind in one byte, and its fields.
+//! Events, and what the coordinator is told: the kind in one byte, and its fields.
 
-ghost use Rattle.std.specs.Prelude.{◌∷◌};
+ghost use Rattle.std.specs.Prelude.{◌∷◌, ◌≤◌};
 ghost use Rattle.rc_codec.specs.Reading.{Gives};
-ghost use Rattle.rc_codec.specs.Readers.{ask_at, start_at, create_at, split_at, event_at};
+ghost use Rattle.rc_codec.specs.Readers.{ask_at, start_at, create_at, split_at, order_at, event_at};
 
 use crate::coded::{Put, Take, put_kind};
 use crate::faults::DecodeFault;
-use rc_types::{Addr, Body, Event, Seq, ServerId};
+use rc_types::{Addr, Body, Event, Order, Seq, ServerId};
 use std::alloc::{AllocError, Global};
 
 impl Put for Event {
@@ -21,10 +21,7 @@ impl Put for Event {
             Event::Tick(addr) => put_kind(2, addr, out),
             Event::Stop(id) => put_kind(3, id, out),
             Event::Start { host, ref kept } => put_kind(4, (host, kept), out),
-            Event::Suspect(id) => put_kind(5, id, out),
-            Event::Decide(id) => put_kind(6, id, out),
-            Event::Create { table, owner } => put_kind(7, (table, owner), out),
-            Event::Split { table, at } => put_kind(8, (table, at), out),
+            Event::Order(order) => order.put(out),
         }
     }
 }
@@ -42,7 +39,7 @@ impl Take for Event {
 }
 
 /// What stands behind a kind.
-#[tactic(auto, unfolding(crate::specs::Readers::event_at), using(crate::proofs::Choices::past_events))]
+#[tactic(auto, unfolding(crate::specs::Readers::event_at))]
 fn take_kind(alloc: Global, kind: u8, bytes: &[u8]) -> Result<(Event, &[u8]), DecodeFault>
     ensures { Gives (λ x. (x.0, x.1.now)) result (event_at (kind ∷ bytes.now)) }
 {
@@ -61,18 +58,17 @@ fn take_kind(alloc: Global, kind: u8, bytes: &[u8]) -> Result<(Event, &[u8]), De
             Err(fault) => Err(fault),
         },
         4 => take_start(alloc, bytes),
-        5 => match ServerId::take(alloc, bytes) {
-            Ok((id, rest)) => Ok((Event::Suspect(id), rest)),
-            Err(fault) => Err(fault),
-        },
-        6 => match ServerId::take(alloc, bytes) {
-            Ok((id, rest)) => Ok((Event::Decide(id), rest)),
-            Err(fault) => Err(fault),
-        },
-        7 => take_create(alloc, bytes),
-        8 => take_split(alloc, bytes),
-        _ => Err(DecodeFault::Malformed),
+        _ => take_told(alloc, kind, bytes),
     }
+}
+
+#[tactic(auto, using(crate::proofs::Choices::event_ordered, crate::proofs::Choices::event_fails))]
+fn take_told(alloc: Global, kind: u8, bytes: &[u8]) -> Result<(Event, &[u8]), DecodeFault>
+    requires { 5 ≤ kind }
+    ensures { Gives (λ x. (x.0, x.1.now)) result (event_at (kind ∷ bytes.now)) }
+{
+    let (order, rest) = take_order(alloc, kind, bytes)?;
+    Ok((Event::Order(order), rest))
 }
 
 fn take_ask(alloc: Global, bytes: &[u8]) -> Result<(Event, &[u8]), DecodeFault>
@@ -89,16 +85,56 @@ fn take_start(alloc: Global, bytes: &[u8]) -> Result<(Event, &[u8]), DecodeFault
     Ok((Event::Start { host, kept }, rest))
 }
 
-fn take_create(alloc: Global, bytes: &[u8]) -> Result<(Event, &[u8]), DecodeFault>
+impl Put for Order {
+    ghost use Rattle.rc_codec.specs.Spelling.{order_code};
+
+    ghost code = { order_code };
+
+    fn put(&self, out: &mut Vec<u8>) -> Result<(), AllocError> {
+        match *self {
+            Order::Suspect(id) => put_kind(5, id, out),
+            Order::Decide(id) => put_kind(6, id, out),
+            Order::Create { table, owner } => put_kind(7, (table, owner), out),
+            Order::Split { table, at } => put_kind(8, (table, at), out),
+        }
+    }
+}
+
+/// What the coordinator is told by the bytes behind this kind.
+///
+/// # Errors
+///
+/// `Malformed` where the kind is no order's, or no fields stand there; `OutOfMemory` is answered to nobody.
+#[tactic(auto, using(crate::proofs::Choices::past_orders))]
+pub fn take_order(alloc: Global, kind: u8, bytes: &[u8]) -> Result<(Order, &[u8]), DecodeFault>
+    requires { 5 ≤ kind }
+    ensures { Gives (λ x. (x.0, x.1.now)) result (order_at kind bytes.now) }
+{
+    match kind {
+        5 => match ServerId::take(alloc, bytes) {
+            Ok((id, rest)) => Ok((Order::Suspect(id), rest)),
+            Err(fault) => Err(fault),
+        },
+        6 => match ServerId::take(alloc, bytes) {
+            Ok((id, rest)) => Ok((Order::Decide(id), rest)),
+            Err(fault) => Err(fault),
+        },
+        7 => take_create(alloc, bytes),
+        8 => take_split(alloc, bytes),
+        _ => Err(DecodeFault::Malformed),
+    }
+}
+
+fn take_create(alloc: Global, bytes: &[u8]) -> Result<(Order, &[u8]), DecodeFault>
     ensures { Gives (λ x. (x.0, x.1.now)) result (create_at bytes.now) }
 {
     let ((table, owner), rest) = <(u32, ServerId)>::take(alloc, bytes)?;
-    Ok((Event::Create { table, owner }, rest))
+    Ok((Order::Create { table, owner }, rest))
 }
 
-fn take_split(alloc: Global, bytes: &[u8]) -> Result<(Event, &[u8]), DecodeFault>
+fn take_split(alloc: Global, bytes: &[u8]) -> Result<(Order, &[u8]), DecodeFault>
     ensures { Gives (λ x. (x.0, x.1.now)) result (split_at bytes.now) }
 {
     let ((table, at), rest) = <(u32, u64)>::take(alloc, bytes)?;
-    Ok((Event::Split { table, at }, rest))
+    Ok((Order::Split { table, at }, rest))
 }

@@ -30,6 +30,7 @@ mod rows;
 mod tuples;
 mod whole;
 
-pub use coded::{Put, Take};
+pub use coded::{Put, Take, put_kind};
+pub use events::take_order;
 pub use faults::DecodeFault;
 pub use whole::{decode_event, decode_message, encode_event, encode_message};

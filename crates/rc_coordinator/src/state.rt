@@ -4,7 +4,7 @@ ghost use Rattle.std.specs.Prelude.{◌≡◌, ◌↔◌, ◌++◌, true, OnOk, 
 ghost use Rattle.rc_model.specs.Coordinator.{new_coordinator};
 ghost use Rattle.rc_model.specs.CoordinatorStep.{coordinator_takes};
 ghost use Rattle.rc_coordinator.specs.View.{book_of, state_view};
-ghost use Rattle.rc_model.specs.Nodes.{coordinator_step};
+ghost use Rattle.rc_model.specs.Nodes.{coordinator_step, obeys_order};
 ghost use Rattle.rc_coordinator.specs.Steps.{HasNumbers};
 
 use crate::ready::Ready;
@@ -12,7 +12,7 @@ use crate::recoveries::Recoveries;
 use indexmap::IndexMap;
 use rc_rangetree::RangeTree;
 use rc_serverlist::ServerList;
-use rc_types::{Addr, Body, Message, NodeWork, Pair, ServerId};
+use rc_types::{Addr, Body, Message, NodeWork, Order, Pair, ServerId};
 use std::alloc::{AllocError, Allocator, Global};
 
 /// What the coordinator knows. The tablets lie in memory of the allocator `A`.
@@ -69,11 +69,24 @@ impl<A: Allocator + Clone> State<A> {
         match work {
             NodeWork::Deliver(message) => self.take(message.from, &message.body, sent),
             NodeWork::Tick => self.tick(sent),
-            NodeWork::Suspect(id) => self.suspect(*id, sent),
-            NodeWork::Decide(master) => self.decide(*master, sent),
-            NodeWork::Create { table, owner } => self.create(*table, *owner, sent),
-            NodeWork::Split { table, at } => self.split(*table, *at, sent),
+            NodeWork::Order(order) => self.obey(*order, sent),
             _ => Ok(()),
+        }
+    }
+
+    /// Does what it is told by who runs the cluster.
+    fn obey(&mut self, order: Order, sent: &mut Vec<Message>) -> Result<(), AllocError>
+        requires { HasNumbers (state_view self.old) }
+        ensures state { OnOk result (state_view self.new ≡ (obeys_order (state_view self.old) order).0) }
+        ensures sends { OnOk result (sent.new.items ≡ sent.old.items ++ (obeys_order (state_view self.old) order).1) }
+        ensures err { OnErr result (book_of self.new ≡ book_of self.old) }
+        ensures unsent { OnErr result (sent.new.items ≡ sent.old.items) }
+    {
+        match order {
+            Order::Suspect(id) => self.suspect(id, sent),
+            Order::Decide(master) => self.decide(master, sent),
+            Order::Create { table, owner } => self.create(table, owner, sent),
+            Order::Split { table, at } => self.split(table, at, sent),
         }
     }
 

@@ -10,7 +10,8 @@ use Rattle.rc_types.specs.declared.limits.TheConstants.{MAX_EVENTS}
 use Rattle.rc_types.specs.declared.messages.Body.TheVariants.{Write}
 use Rattle.rc_types.specs.declared.events.Setup.{Setup}
 use Rattle.rc_types.specs.declared.events.Event.{Event}
-use Rattle.rc_types.specs.declared.events.Event.TheVariants.{Ask, Deliver, Tick, Stop, Start, Suspect, Decide, Create}
+use Rattle.rc_types.specs.declared.events.Event.TheVariants.{Ask, Deliver, Tick, Stop, Start, Order}
+use Rattle.rc_types.specs.declared.events.Order.TheVariants.{Suspect, Decide, Create}
 use Rattle.rc_model.specs.Backup.{open_names}
 use Rattle.rc_model.specs.Nodes.{HostNode}
 use Rattle.rc_model.specs.World.{World, opening, step}
@@ -38,7 +39,8 @@ settled = scene.Settle no_kinds no_hosts
 abbrev pub beginning : List ScenarioEvent
 beginning =
     scene.Core (Start 0 []) ∷ scene.Core (Start 1 []) ∷ scene.Core (Start 2 []) ∷ scene.Core (Start 3 [])
-    ∷ scene.Core (Start 4 []) ∷ settled ∷ scene.Core (Create 1 (record { index = 0; generation = 1 })) ∷ settled ∷ []
+    ∷ scene.Core (Start 4 []) ∷ settled
+    ∷ scene.Core (Order (Create 1 (record { index = 0; generation = 1 }))) ∷ settled ∷ []
 
 -- the world after these events of a scenario
 unfoldable pub played : World → List ScenarioEvent → World
@@ -73,7 +75,7 @@ start_of node host word = Start host (if nat_eq (word % 4) 0 then [] else open_n
 abbrev pub decision_of : ServerId → ℕ → Option Event
 decision_of newest word =
     if nat_eq newest.generation 0 then None
-    else Some (Decide (record { index = newest.index; generation = 1 + word % newest.generation }))
+    else Some (Order (Decide (record { index = newest.index; generation = 1 + word % newest.generation })))
 
 abbrev pub chosen : World → ℕ → ServerId → Choice → Words → Option Event
 chosen world number id choice.Deliver words = delivery_of (length world.sent) words.target
@@ -82,7 +84,7 @@ chosen world number id choice.Tick words = Some (Tick (Server id))
 chosen world number id choice.TickCoordinator words = Some (Tick Coordinator)
 chosen world number id choice.Stop words = Some (Stop id)
 chosen world number id choice.Start words = Some (start_of (world.hosts id.index) id.index words.detail)
-chosen world number id choice.Suspect words = Some (Suspect id)
+chosen world number id choice.Suspect words = Some (Order (Suspect id))
 chosen world number id choice.Decide words = decision_of id words.detail
 
 -- the newest server of a host

@@ -11,7 +11,8 @@ use Rattle.rc_model.specs.Breach.{breach}
 use Rattle.rc_model.specs.Nodes.{is_running_at}
 use Rattle.rc_model.specs.World.{World, replay}
 use Rattle.rc_reading.specs.declared.scenarios.ScenarioEvent.{ScenarioEvent}
-use Rattle.rc_types.specs.declared.events.Event.TheVariants.{Stop, Start, Tick, Decide}
+use Rattle.rc_types.specs.declared.events.Event.TheVariants.{Stop, Start, Tick, Order}
+use Rattle.rc_types.specs.declared.events.Order.TheVariants.{Decide}
 use Rattle.rc_reading.specs.declared.scenarios.ScenarioEvent.TheVariants.{Core}
 use Rattle.rc_draw.specs.declared.cutting.Keeping.{Keeping}
 use Rattle.rc_draw.specs.declared.cutting.Keeping.TheVariants.{All, OddSegments, Nothing}
@@ -43,7 +44,7 @@ start_of keeping world host =
 
 -- the recovery of each of the host's servers up to the newest is decided
 abbrev pub decision_of : ℕ → ℕ → List ScenarioEvent
-decision_of host before = Core (Decide (record { index = host; generation = before + 1 })) ∷ []
+decision_of host before = Core (Order (Decide (record { index = host; generation = before + 1 }))) ∷ []
 
 abbrev pub decisions_of : World → ℕ → List ScenarioEvent
 decisions_of world host = gathered (decision_of host) (world.hosts host).generation

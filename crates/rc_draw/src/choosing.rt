@@ -6,7 +6,7 @@ ghost use Rattle.rc_draw.specs.Draw.{choice_of, delivery_of, write_of, start_of,
 ghost use Rattle.rc_draw.specs.Draw.{newest_server};
 
 use crate::words::Words;
-use rc_types::{Addr, Body, Event, Seq, ServerId, Shared};
+use rc_types::{Addr, Body, Event, Order, Seq, ServerId, Shared};
 use rc_world::World;
 use std::alloc::{AllocError, Global};
 
@@ -83,7 +83,7 @@ fn chosen(
         Choice::TickCoordinator => Some(Event::Tick(Addr::Coordinator)),
         Choice::Stop => Some(Event::Stop(id)),
         Choice::Start => Some(start_of(alloc, world, id.index, words.detail)?),
-        Choice::Suspect => Some(Event::Suspect(id)),
+        Choice::Suspect => Some(Event::Order(Order::Suspect(id))),
         Choice::Decide => decision_of(id, words.detail),
     })
 }
@@ -134,8 +134,8 @@ fn decision_of(newest: ServerId, word: u32) -> Option<Event>
     if newest.generation == 0 {
         return None;
     }
-    Some(Event::Decide(ServerId {
+    Some(Event::Order(Order::Decide(ServerId {
         index: newest.index,
         generation: 1 + word % newest.generation,
-    }))
+    })))
 }

@@ -9,7 +9,7 @@ ghost use Rattle.rc_draw.specs.Stops.{keeps, gathered, stop_of, start_of, decisi
 
 use crate::playing::settled;
 use rc_reading::ScenarioEvent;
-use rc_types::{Addr, Event, Seq, ServerId};
+use rc_types::{Addr, Event, Order, Seq, ServerId};
 use rc_world::World;
 use std::alloc::{AllocError, Global};
 
@@ -158,7 +158,7 @@ fn add_decisions_of(host: u8, newest: u32, scene: &mut Vec<ScenarioEvent>) -> Re
             index: host,
             generation: before + 1,
         };
-        scene.push(ScenarioEvent::Core(Event::Decide(id)))?;
+        scene.push(ScenarioEvent::Core(Event::Order(Order::Decide(id))))?;
     }
     Ok(())
 }

@@ -13,7 +13,7 @@ use crate::playing::{drawing_setup, play, settled};
 use crate::words::{Words, generator_of};
 use rc_reading::ScenarioEvent;
 use rc_runs::Run;
-use rc_types::{Event, Fault, Seq, ServerId, copied};
+use rc_types::{Event, Fault, Order, Seq, ServerId, copied};
 use rc_world::World;
 use std::alloc::{AllocError, Global};
 
@@ -87,13 +87,13 @@ fn begin(alloc: Global, run: &mut Run<Global>) -> Result<(), AllocError>
         fresh_start(alloc, 3),
         fresh_start(alloc, 4),
         settled(),
-        ScenarioEvent::Core(Event::Create {
+        ScenarioEvent::Core(Event::Order(Order::Create {
             table: 1,
             owner: ServerId {
                 index: 0,
                 generation: 1,
             },
-        }),
+        })),
         settled(),
     ];
     play(alloc, run, &beginning)

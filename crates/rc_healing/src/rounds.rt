@@ -6,7 +6,7 @@ use crate::views::settle;
 use rc_attempts::numbers::{attempt_of, current_number};
 use rc_runbook::{Due, Seen, dues};
 use rc_types::limits::MAX_HOSTS;
-use rc_types::{Event, Fault, ServerId, Setup};
+use rc_types::{Event, Fault, Order, ServerId, Setup};
 use std::alloc::{AllocError, Global};
 
 /// How often something is due in one round, at most.
@@ -187,7 +187,7 @@ impl Healer {
         self.note(why)?;
         match due {
             Due::Restart(id) => self.course.restart(alloc, id),
-            Due::Suspect(id) => self.course.take(alloc, &Event::Suspect(id)),
+            Due::Suspect(id) => self.course.take(alloc, &Event::Order(Order::Suspect(id))),
             Due::Decide(id) => self.decide(alloc, id),
         }
     }
@@ -207,7 +207,7 @@ impl Healer {
 
     /// Decides the recovery of a master, and notes where that was refused.
     fn decide(&mut self, alloc: Global, id: ServerId) -> Result<(), Fault> {
-        self.course.take(alloc, &Event::Decide(id))?;
+        self.course.take(alloc, &Event::Order(Order::Decide(id)))?;
         if is_gathering(&self.course, id) {
             self.refused.push(refusal_of(&self.course, id))?;
         }

@@ -9,7 +9,7 @@ use Rattle.rc_types.specs.declared.events.Event.{Event}
 use Rattle.rc_types.specs.declared.events.Event.TheVariants as event
 use Rattle.rc_types.specs.declared.messages.Message.{Message}
 use Rattle.rc_model.specs.Coordinator.{Coordinator, new_coordinator}
-use Rattle.rc_model.specs.Nodes.{NodeWork, Ask, Deliver, Tick, Stop, Start, Suspect, Decide, Create, Split}
+use Rattle.rc_model.specs.Nodes.{NodeWork, Ask, Deliver, Tick, Stop, Start, Ordered}
 use Rattle.rc_model.specs.Nodes.{HostNode, server_of, outside_can, outside_sends, coordinator_can, coordinator_step}
 use Rattle.rc_model.specs.Nodes.{host_can, host_step, new_host, master_setup, is_running_at}
 use Rattle.rc_model.specs.World.{World, NodeName, server_named}
@@ -82,7 +82,4 @@ event_of node number (Deliver message) = event.Deliver number
 event_of node number Tick = event.Tick (own_addr node)
 event_of node number Stop = event.Stop (own_server node)
 event_of node number (Start kept) = event.Start (own_server node).index kept
-event_of node number (Suspect id) = event.Suspect id
-event_of node number (Decide id) = event.Decide id
-event_of node number (Create table owner) = event.Create table owner
-event_of node number (Split table at) = event.Split table at
+event_of node number (Ordered order) = event.Order order

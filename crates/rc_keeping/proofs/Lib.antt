@@ -5,7 +5,7 @@ pub mod BookLaws
 pub mod CodedLaws
 pub mod SaveLaws
 pub mod Loaded
-pub mod PastKinds
+pub mod WorkOrders
 pub mod WorkLaws
 pub mod RecordLaws
 pub mod SealLaws

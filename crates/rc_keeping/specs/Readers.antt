@@ -1,7 +1,8 @@
 -- Reading of works and of records.
 use Rattle.std.specs.Prelude.{ℕ, List, [], ◌∷◌, length, take, drop, Option, Some, None, nat_eq, nat_lt, if◌then◌else◌}
 use Rattle.rc_codec.specs.Reading.{◌>>=◌, Reader, made, ◌⊗◌, nothing_at, listed_at}
-use Rattle.rc_codec.specs.Readers.{u32_at, u64_at, id_at, kept_at, body_at, message_at, chosen_at, versioned_at}
+use Rattle.rc_codec.specs.Readers.{u32_at, u64_at, id_at, kept_at, body_at, message_at, ordered, chosen_at}
+use Rattle.rc_codec.specs.Readers.{versioned_at}
 use Rattle.rc_types.specs.declared.events.NodeWork.{NodeWork}
 use Rattle.rc_types.specs.declared.events.NodeWork.TheVariants as work
 use Rattle.rc_keeping.specs.Spelling.{sum_of}
@@ -15,21 +16,9 @@ deliver_at = made message_at work.Deliver
 abbrev pub start_at : Reader NodeWork
 start_at = made (listed_at kept_at) work.Start
 
-abbrev pub suspect_at : Reader NodeWork
-suspect_at = made id_at work.Suspect
-
-abbrev pub decide_at : Reader NodeWork
-decide_at = made id_at work.Decide
-
-abbrev pub create_at : Reader NodeWork
-create_at = made (u32_at ⊗ id_at) (λ p. work.Create p.0 p.1)
-
-abbrev pub split_at : Reader NodeWork
-split_at = made (u32_at ⊗ u64_at) (λ p. work.Split p.0 p.1)
-
 abbrev pub works : List (Reader NodeWork)
 works = ask_at ∷ deliver_at ∷ made nothing_at (λ _. work.Tick) ∷ made nothing_at (λ _. work.Stop) ∷ start_at
-    ∷ suspect_at ∷ decide_at ∷ create_at ∷ split_at ∷ []
+    ∷ ordered work.Order
 
 unfoldable pub node_work_at : Reader NodeWork
 node_work_at = chosen_at works

@@ -2,7 +2,7 @@
 use Rattle.std.specs.Prelude.{ℕ, ◌*◌, ◌/◌, ◌%◌, bit_xor, List, [], ◌∷◌, ◌++◌, length}
 use Rattle.std.specs.Int.{w64, from_le_bytes}
 use Rattle.rc_codec.specs.Parts.{four_bytes, eight_bytes, listed}
-use Rattle.rc_codec.specs.Spelling.{id_code, kept_code, body_code, message_code}
+use Rattle.rc_codec.specs.Spelling.{id_code, kept_code, body_code, message_code, order_code}
 use Rattle.rc_types.specs.declared.events.NodeWork.{NodeWork}
 use Rattle.rc_types.specs.declared.events.NodeWork.TheVariants as work
 
@@ -13,10 +13,7 @@ work_code (work.Deliver message) = 1 ∷ message_code message
 work_code work.Tick = 2 ∷ []
 work_code work.Stop = 3 ∷ []
 work_code (work.Start kept) = 4 ∷ listed kept_code kept
-work_code (work.Suspect id) = 5 ∷ id_code id
-work_code (work.Decide id) = 6 ∷ id_code id
-work_code (work.Create table owner) = 7 ∷ four_bytes table ++ id_code owner
-work_code (work.Split table at) = 8 ∷ four_bytes table ++ eight_bytes at
+work_code (work.Order order) = order_code order
 
 -- what is written as a whole: the version of the format, 1, and then the work
 abbrev pub coded_work : NodeWork → List ℕ

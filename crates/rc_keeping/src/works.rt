@@ -1,14 +1,14 @@
 //! A work as bytes: its kind in one byte, and its fields, behind the version of the format.
 
-ghost use Rattle.std.specs.Prelude.{◌≡◌, ◌++◌, ◌∷◌, IfOk, IfErr, OnOk, OnErr};
+ghost use Rattle.std.specs.Prelude.{◌≡◌, ◌≤◌, ◌++◌, ◌∷◌, IfOk, IfErr, OnOk, OnErr};
 ghost use Rattle.rc_codec.specs.Claims.{IsFront, DecodesFront, BeginsWithNone};
 ghost use Rattle.rc_codec.specs.Parts.{Begins};
 ghost use Rattle.rc_codec.specs.Reading.{Gives};
 ghost use Rattle.rc_codec.specs.declared.faults.DecodeFault.TheVariants.{Malformed};
 ghost use Rattle.rc_keeping.specs.Spelling.{work_code, coded_work};
-ghost use Rattle.rc_keeping.specs.Readers.{ask_at, deliver_at, start_at, create_at, split_at, node_work_at, coded_at};
+ghost use Rattle.rc_keeping.specs.Readers.{ask_at, deliver_at, start_at, node_work_at, coded_at};
 
-use rc_codec::{DecodeFault, Put, Take};
+use rc_codec::{DecodeFault, Put, Take, put_kind, take_order};
 use rc_types::{Body, Message, NodeWork, Seq, ServerId};
 use std::alloc::{AllocError, Global};
 
@@ -69,19 +69,8 @@ fn put_work(work: &NodeWork, out: &mut Vec<u8>) -> Result<(), AllocError>
         NodeWork::Tick => 2u8.put(out),
         NodeWork::Stop => 3u8.put(out),
         NodeWork::Start { ref kept } => put_kind(4, kept, out),
-        NodeWork::Suspect(id) => put_kind(5, id, out),
-        NodeWork::Decide(id) => put_kind(6, id, out),
-        NodeWork::Create { table, owner } => put_kind(7, (table, owner), out),
-        NodeWork::Split { table, at } => put_kind(8, (table, at), out),
+        NodeWork::Order(order) => order.put(out),
     }
-}
-
-/// A kind in one byte, and its fields.
-fn put_kind<F: Put + Drop>(kind: u8, fields: F, out: &mut Vec<u8>) -> Result<(), AllocError>
-    ensures ok { OnOk result (out.new.items ≡ out.old.items ++ kind ∷ F.code fields) }
-    ensures err { OnErr result (Begins out.old.items out.new.items) }
-{
-    (kind, fields).put(out)
 }
 
 /// What follows the version, and the bytes after it.
@@ -105,7 +94,7 @@ fn take_work(alloc: Global, bytes: &[u8]) -> Result<(NodeWork, &[u8]), DecodeFau
 }
 
 /// What stands behind a kind.
-#[tactic(auto, unfolding(crate::specs::Readers::node_work_at), using(crate::proofs::PastKinds::past_works))]
+#[tactic(auto, unfolding(crate::specs::Readers::node_work_at))]
 fn take_kind(alloc: Global, kind: u8, bytes: &[u8]) -> Result<(NodeWork, &[u8]), DecodeFault>
     ensures { Gives (λ x. (x.0, x.1.now)) result (node_work_at (kind ∷ bytes.now)) }
 {
@@ -115,18 +104,17 @@ fn take_kind(alloc: Global, kind: u8, bytes: &[u8]) -> Result<(NodeWork, &[u8]),
         2 => Ok((NodeWork::Tick, bytes)),
         3 => Ok((NodeWork::Stop, bytes)),
         4 => take_start(alloc, bytes),
-        5 => match ServerId::take(alloc, bytes) {
-            Ok((id, rest)) => Ok((NodeWork::Suspect(id), rest)),
-            Err(fault) => Err(fault),
-        },
-        6 => match ServerId::take(alloc, bytes) {
-            Ok((id, rest)) => Ok((NodeWork::Decide(id), rest)),
-            Err(fault) => Err(fault),
-        },
-        7 => take_create(alloc, bytes),
-        8 => take_split(alloc, bytes),
-        _ => Err(DecodeFault::Malformed),
+        _ => take_told(alloc, kind, bytes),
     }
+}
+
+#[tactic(auto, using(crate::proofs::WorkOrders::work_ordered, crate::proofs::WorkOrders::work_fails))]
+fn take_told(alloc: Global, kind: u8, bytes: &[u8]) -> Result<(NodeWork, &[u8]), DecodeFault>
+    requires { 5 ≤ kind }
+    ensures { Gives (λ x. (x.0, x.1.now)) result (node_work_at (kind ∷ bytes.now)) }
+{
+    let (order, rest) = take_order(alloc, kind, bytes)?;
+    Ok((NodeWork::Order(order), rest))
 }
 
 fn take_ask(alloc: Global, bytes: &[u8]) -> Result<(NodeWork, &[u8]), DecodeFault>
@@ -148,18 +136,4 @@ fn take_start(alloc: Global, bytes: &[u8]) -> Result<(NodeWork, &[u8]), DecodeFa
 {
     let (kept, rest) = <Seq<(ServerId, u16)>>::take(alloc, bytes)?;
     Ok((NodeWork::Start { kept }, rest))
-}
-
-fn take_create(alloc: Global, bytes: &[u8]) -> Result<(NodeWork, &[u8]), DecodeFault>
-    ensures { Gives (λ x. (x.0, x.1.now)) result (create_at bytes.now) }
-{
-    let ((table, owner), rest) = <(u32, ServerId)>::take(alloc, bytes)?;
-    Ok((NodeWork::Create { table, owner }, rest))
-}
-
-fn take_split(alloc: Global, bytes: &[u8]) -> Result<(NodeWork, &[u8]), DecodeFault>
-    ensures { Gives (λ x. (x.0, x.1.now)) result (split_at bytes.now) }
-{
-    let ((table, at), rest) = <(u32, u64)>::take(alloc, bytes)?;
-    Ok((NodeWork::Split { table, at }, rest))
 }

@@ -4,7 +4,7 @@ use Rattle.std.proofs.Common.{arith}
 use Rattle.std.proofs.lemmas.Bool.{and_parts, leb-true}
 use Rattle.rc_types.specs.declared.events.Setup.{Setup}
 use Rattle.rc_types.specs.declared.messages.Message.{Message}
-use Rattle.rc_model.specs.Nodes.{NodeWork, Deliver, Start, Ask, Create, Suspect, Decide}
+use Rattle.rc_model.specs.Nodes.{NodeWork, Deliver, Start, Ask, Ordered}
 use Rattle.rc_model.specs.World.{NodeName, node_of}
 use Rattle.rc_model.proofs.Members.{In-get}
 use Rattle.rc_model.proofs.Tests.{true_false}
@@ -17,9 +17,7 @@ use Rattle.rc_linear_lives.specs.Script.{happening_of, happenings_of}
 abbrev pub is_plain : NodeWork → Bool
 is_plain (Start kept) = true
 is_plain (Ask to body) = true
-is_plain (Create table owner) = true
-is_plain (Decide id) = true
-is_plain (Suspect id) = true
+is_plain (Ordered order) = true
 is_plain _ = false
 
 abbrev pub can_bring : Processes → Option Message → Bool
@@ -45,9 +43,7 @@ may-give : {all : Processes} {name : NodeName} (work : NodeWork) → node_can (a
     MayTake all name work
 may-give (Start kept) can plain = record { can = can; addressed = tt; brought = tt }
 may-give (Ask to body) can plain = record { can = can; addressed = tt; brought = tt }
-may-give (Create table owner) can plain = record { can = can; addressed = tt; brought = tt }
-may-give (Decide id) can plain = record { can = can; addressed = tt; brought = tt }
-may-give (Suspect id) can plain = record { can = can; addressed = tt; brought = tt }
+may-give (Ordered order) can plain = record { can = can; addressed = tt; brought = tt }
 may-give _ can plain = true_false (sym plain)
 
 may-bring : (all : Processes) (number : ℕ) (found : Option Message) → slice_get all.left number ≡ found → can_bring all found ≡ true →

@@ -8,7 +8,8 @@ use Rattle.rc_types.specs.declared.entries.Entry.{Entry}
 use Rattle.rc_types.specs.declared.messages.Message.{Message}
 use Rattle.rc_types.specs.declared.messages.Body.{Body}
 use Rattle.rc_types.specs.declared.messages.Body.TheVariants.{Write, Read, WriteOk, ReadOk, Append}
-use Rattle.rc_model.specs.Nodes.{Deliver, Start, Ask, Create, Decide}
+use Rattle.rc_model.specs.Nodes.{Deliver, Start, Ask, Ordered}
+use Rattle.rc_types.specs.declared.events.Order.TheVariants.{Create, Decide}
 use Rattle.rc_model.specs.World.{TheOutside, TheCoordinator, TheHost}
 use Rattle.rc_model.specs.Report.{message_lines}
 use Rattle.rc_lives.specs.Processes.{Deed, Happening, Takes, Leaves, new_processes, MayAll, after_all}
@@ -35,11 +36,11 @@ read to = Whole TheOutside (Ask to (Read 7 5))
 abbrev pub forgetting : List Piece
 forgetting =
     Whole (TheHost 0) (Start []) ∷ Whole (TheHost 1) (Start []) ∷ Settle ∷
-    Whole TheCoordinator (Create 7 (id 0 1)) ∷ Settle ∷
+    Whole TheCoordinator (Ordered (Create 7 (id 0 1))) ∷ Settle ∷
     write (id 0 1) (codes "a") ∷ Settle ∷
     write (id 0 1) (codes "b") ∷ Next 1 ∷ Taken ∷ End (TheHost 1 ∷ TheHost 0 ∷ []) ∷
     Whole (TheHost 1) (Start ((id 0 1, 1) ∷ [])) ∷ Whole (TheHost 0) (Start []) ∷ Settle ∷
-    Whole TheCoordinator (Decide (id 0 1)) ∷ Settle ∷
+    Whole TheCoordinator (Ordered (Decide (id 0 1))) ∷ Settle ∷
     read (id 0 2) ∷ Settle ∷ write (id 0 2) (codes "c") ∷ Settle ∷ []
 
 abbrev pub run : List Happening
@@ -166,7 +167,7 @@ ItShowsWhatWasAcknowledged = AreInTurn write_a read_a
 abbrev pub holding : List Piece
 holding =
     Whole (TheHost 0) (Start []) ∷ Whole (TheHost 1) (Start []) ∷ Settle ∷
-    Whole TheCoordinator (Create 7 (id 0 1)) ∷ Settle ∷
+    Whole TheCoordinator (Ordered (Create 7 (id 0 1))) ∷ Settle ∷
     write (id 0 1) (codes "a") ∷ Settle ∷
     read (id 0 1) ∷ Taken ∷ write (id 0 1) (codes "b") ∷ Settle ∷ Late 20 0 ∷ []
 

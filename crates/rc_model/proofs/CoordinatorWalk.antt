@@ -16,12 +16,14 @@ use Rattle.rc_model.specs.Model.{up_of_host, follows_generation, enlists, notes_
 use Rattle.rc_model.specs.Model.{commits_pair, is_current, with_answer, keeps_answer_in, ready_ids, decision_of, decides_on, decides_with}
 use Rattle.rc_model.specs.Model.{decides_attempt, own_body, grant_of, grant_to, part_of_sender, grants_part}
 use Rattle.rc_model.specs.Model.{takes_recovered, creates_table, is_too_many, creates, split_fault}
-use Rattle.rc_model.specs.Model.{has_open_part, asks_again, asks_again_of, coordinator_ticks, coordinator_takes, NodeWork, Deliver, Create}
-use Rattle.rc_model.specs.Model.{Split, coordinator_step}
+use Rattle.rc_model.specs.Model.{has_open_part, asks_again, asks_again_of, coordinator_ticks, coordinator_takes, NodeWork, Deliver}
+use Rattle.rc_model.specs.Model.{coordinator_step}
 use Rattle.rc_types.specs.declared.rows.Plan.{Plan}
 use Rattle.rc_types.specs.declared.messages.Body.TheVariants.{Plan as PlanBody}
 use Rattle.rc_model.specs.Coordinator.{Coordinator}
-use Rattle.rc_model.specs.Nodes.{Tick, Suspect, Decide}
+use Rattle.rc_model.specs.Nodes.{Tick, Ordered, obeys_order}
+use Rattle.rc_types.specs.declared.events.Order.{Order}
+use Rattle.rc_types.specs.declared.events.Order.TheVariants.{Suspect, Decide, Create, Split}
 use Rattle.rc_model.proofs.Sending.{Each, each-none, each-one, each-more, each-both, each-if}
 use Rattle.rc_model.proofs.Tests.{either}
 use Rattle.rc_model.proofs.Granting.{by_part, by_grant}
@@ -235,14 +237,17 @@ module _ (c : Coordinator) (H : Addr → Body → Type 0) (N M : Coordinator × 
   walked-takes (Server from) (Recovered attempt term) h = walked-recovered h
   walked-takes from body h = w.done c [] w.same
 
+  walked-order : (order : Order) → M (obeys_order c order)
+  walked-order (Suspect id) = walked-suspects id
+  walked-order (Decide id) = walked-decides id (attempt_at c (c.current id)) refl
+  walked-order (Create table owner) = walked-creates table owner
+  walked-order (Split table at) = walked-splits table at (tablet_of c.tablets table at) refl
+
   pub walked-step : (work : NodeWork) → ((message : Message) → work ≡ Deliver message → H message.from message.body) →
       M (coordinator_step c work)
   walked-step (Deliver message) h = walked-takes message.from message.body (h message refl)
   walked-step Tick h = s.ticks
-  walked-step (Suspect id) h = walked-suspects id
-  walked-step (Decide id) h = walked-decides id (attempt_at c (c.current id)) refl
-  walked-step (Create table owner) h = walked-creates table owner
-  walked-step (Split table at) h = walked-splits table at (tablet_of c.tablets table at) refl
+  walked-step (Ordered order) h = walked-order order
   walked-step work h = w.done c [] w.same
 
 -- Messages of several kinds

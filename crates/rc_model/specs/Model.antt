@@ -119,7 +119,7 @@ pub use Rattle.rc_model.specs.MasterTick.{reminds_shut_members, standing, stood,
 pub use Rattle.rc_model.specs.Measure.{closes_unsent, commits_unsent, measure, one_if, parts_unanswered, rank}
 pub use Rattle.rc_model.specs.Messages.{between, coordinator_refuses, coordinator_tells, from_coordinator, refuses}
 pub use Rattle.rc_model.specs.Messages.{to_coordinator, to_each, to_outside}
-pub use Rattle.rc_model.specs.Nodes.{Create, HostNode, Split, Deliver, NodeWork, coordinator_can, coordinator_step}
+pub use Rattle.rc_model.specs.Nodes.{HostNode, Deliver, NodeWork, coordinator_can, coordinator_step}
 pub use Rattle.rc_model.specs.Nodes.{factor_of, host_can, host_step, is_for_backup, is_for_clients, is_running_at}
 pub use Rattle.rc_model.specs.Nodes.{master_setup, new_host, next_server, outside_can, outside_sends, runs, server_of}
 pub use Rattle.rc_model.specs.Nodes.{server_takes, starts_host, takes_if_running, ticks_if_running, with_backup}

@@ -9,8 +9,9 @@ use Rattle.rc_types.specs.declared.ids.Addr.TheVariants.{Server, Outside}
 use Rattle.rc_types.specs.declared.events.Setup.{Setup}
 -- what a node is given
 pub use Rattle.rc_types.specs.declared.events.NodeWork.{NodeWork}
-pub use Rattle.rc_types.specs.declared.events.NodeWork.TheVariants.{Ask, Deliver, Tick, Stop, Start, Suspect, Decide}
-pub use Rattle.rc_types.specs.declared.events.NodeWork.TheVariants.{Create, Split}
+pub use Rattle.rc_types.specs.declared.events.NodeWork.TheVariants.{Ask, Deliver, Tick, Stop, Start, Order as Ordered}
+use Rattle.rc_types.specs.declared.events.Order.{Order}
+use Rattle.rc_types.specs.declared.events.Order.TheVariants.{Suspect, Decide, Create, Split}
 use Rattle.rc_types.specs.declared.limits.TheConstants.{MAX_HOSTS}
 use Rattle.rc_types.specs.declared.messages.Message.{Message}
 use Rattle.rc_types.specs.declared.messages.Body.{Body}
@@ -47,19 +48,19 @@ outside_sends _ = []
 abbrev pub coordinator_can : NodeWork → Bool
 coordinator_can (Deliver message) = true
 coordinator_can Tick = true
-coordinator_can (Suspect id) = true
-coordinator_can (Decide id) = true
-coordinator_can (Create table owner) = true
-coordinator_can (Split table at) = true
+coordinator_can (Ordered order) = true
 coordinator_can _ = false
+
+abbrev pub obeys_order : Coordinator → Order → Coordinator × List Message
+obeys_order c (Suspect id) = suspects c id
+obeys_order c (Decide id) = decides c id
+obeys_order c (Create table owner) = creates c table owner
+obeys_order c (Split table at) = splits c table at
 
 abbrev pub coordinator_step : Coordinator → NodeWork → Coordinator × List Message
 coordinator_step c (Deliver message) = coordinator_takes c message.from message.body
 coordinator_step c Tick = (c, coordinator_ticks c)
-coordinator_step c (Suspect id) = suspects c id
-coordinator_step c (Decide id) = decides c id
-coordinator_step c (Create table owner) = creates c table owner
-coordinator_step c (Split table at) = splits c table at
+coordinator_step c (Ordered order) = obeys_order c order
 coordinator_step c _ = (c, [])
 
 -- A host: its index, what its masters are made with, how often it was started, its backup, and its master where it runs

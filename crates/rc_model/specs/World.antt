@@ -16,7 +16,7 @@ use Rattle.rc_types.specs.declared.messages.Message.{Message}
 use Rattle.rc_model.specs.Tables.{put, put_id}
 use Rattle.rc_model.specs.Master.{Master, new_master}
 use Rattle.rc_model.specs.Coordinator.{Coordinator, new_coordinator}
-use Rattle.rc_model.specs.Nodes.{NodeWork, Ask, Deliver, Tick, Stop, Start, Suspect, Decide, Create, Split, HostNode}
+use Rattle.rc_model.specs.Nodes.{NodeWork, Ask, Deliver, Tick, Stop, Start, Ordered, HostNode}
 use Rattle.rc_model.specs.Nodes.{new_host, master_setup, outside_can, outside_sends, coordinator_can}
 use Rattle.rc_model.specs.Nodes.{coordinator_step, host_can, host_step, is_running_at}
 
@@ -63,10 +63,7 @@ job_of sent (event.Deliver number) = delivery (slice_get sent number)
 job_of sent (event.Tick addr) = Some (record { node = node_of addr; work = Tick })
 job_of sent (event.Stop id) = Some (record { node = TheHost id.index; work = Stop })
 job_of sent (event.Start host kept) = Some (record { node = TheHost host; work = Start kept })
-job_of sent (event.Suspect id) = Some (record { node = TheCoordinator; work = Suspect id })
-job_of sent (event.Decide id) = Some (record { node = TheCoordinator; work = Decide id })
-job_of sent (event.Create table owner) = Some (record { node = TheCoordinator; work = Create table owner })
-job_of sent (event.Split table at) = Some (record { node = TheCoordinator; work = Split table at })
+job_of sent (event.Order order) = Some (record { node = TheCoordinator; work = Ordered order })
 
 -- whether the node can be given this now
 abbrev pub node_can : World → NodeName → NodeWork → Bool

@@ -2,7 +2,7 @@
 
 use rc_coordinator::Coordinator;
 use rc_runbook::{Due, Seen, dues};
-use rc_types::{Addr, Body, Fault, Message, NodeWork, Row, Seq, ServerId, Shared};
+use rc_types::{Addr, Body, Fault, Message, NodeWork, Order, Row, Seq, ServerId, Shared};
 use std::alloc::{AllocError, Global};
 use std::test::Fail;
 
@@ -50,37 +50,28 @@ fn suspecting(alloc: Global) -> Result<Coordinator<Global>, Fault> {
         tell(&mut coordinator, id, Body::Enlist)?;
         tell(&mut coordinator, id, Body::Ready)?;
     }
-    let create = NodeWork::Create {
+    let create = NodeWork::Order(Order::Create {
         table: 7,
         owner: OWNER,
-    };
+    });
     give(&mut coordinator, &create)?;
-    give(&mut coordinator, &NodeWork::Suspect(OWNER))?;
+    give(&mut coordinator, &NodeWork::Order(Order::Suspect(OWNER)))?;
     Ok(coordinator)
 }
 
 /// The two others answer: the holder has the one segment of the log, open and empty.
 fn answer(alloc: Global, coordinator: &mut Coordinator<Global>) -> Result<(), Fault> {
-    let mut digest = Vec::new(alloc);
-    digest.push(1)?;
-    let mut rows = Vec::new(alloc);
-    rows.push(Row {
+    let row = Row {
         seg: 1,
         epoch: 0,
         closed: false,
         len: 0,
-        digest: Shared::from_vec(alloc, digest)?,
-    })?;
-    let held = Body::Replicas {
-        attempt: 1,
-        rows: Seq::from_vec(rows),
+        digest: Shared::from_vec(alloc, vec![in alloc; 1]?)?,
     };
-    tell(coordinator, HOLDER, held)?;
-    let none = Body::Replicas {
-        attempt: 1,
-        rows: Seq::new(alloc),
-    };
-    tell(coordinator, OTHER, none)
+    let rows = Seq::from_vec(vec![in alloc; row]?);
+    tell(coordinator, HOLDER, Body::Replicas { attempt: 1, rows })?;
+    let rows = Seq::new(alloc);
+    tell(coordinator, OTHER, Body::Replicas { attempt: 1, rows })
 }
 
 /// What is due where these were heard, silent and stuck.
@@ -130,10 +121,10 @@ fn recoveries_are_decided_once_all_have_answered(rt: HostRuntime) -> Result<(), 
 fn recoveries_begin_anew_without_a_holder_alone(rt: HostRuntime) -> Result<(), Fail> {
     let mut coordinator = suspecting(rt.alloc())?;
     answer(rt.alloc(), &mut coordinator)?;
-    give(&mut coordinator, &NodeWork::Decide(OWNER))?;
+    give(&mut coordinator, &NodeWork::Order(Order::Decide(OWNER)))?;
     let before = asked(rt.alloc(), &coordinator, &[], &[], &[])?;
     assert!(rt; before.is_empty());
-    give(&mut coordinator, &NodeWork::Suspect(HOLDER))?;
+    give(&mut coordinator, &NodeWork::Order(Order::Suspect(HOLDER)))?;
     let after = asked(rt.alloc(), &coordinator, &[], &[], &[])?;
     assert_eq!(rt; after.as_slice(), [Due::Suspect(OWNER)].as_slice());
     Ok(())
@@ -142,10 +133,10 @@ fn recoveries_begin_anew_without_a_holder_alone(rt: HostRuntime) -> Result<(), F
 #[test]
 fn stuck_owners_are_started_anew(rt: HostRuntime) -> Result<(), Fail> {
     let mut coordinator = suspecting(rt.alloc())?;
-    let create = NodeWork::Create {
+    let create = NodeWork::Order(Order::Create {
         table: 8,
         owner: OTHER,
-    };
+    });
     give(&mut coordinator, &create)?;
     let found = asked(rt.alloc(), &coordinator, &[], &[], &[OTHER, HOLDER, OWNER])?;
     assert_eq!(rt; found.as_slice(), [Due::Restart(OTHER)].as_slice());

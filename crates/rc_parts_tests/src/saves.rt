@@ -4,7 +4,7 @@ use rc_backup::Backup;
 use rc_codec::DecodeFault;
 use rc_keeping::{SaveFault, load, save_into};
 use rc_types::{
-    Addr, Body, Entry, Fault, MasterSetup, Message, NodeWork, Seq, ServerId, Setup, Shared,
+    Addr, Body, Entry, Fault, MasterSetup, Message, NodeWork, Order, Seq, ServerId, Setup, Shared,
 };
 use rc_world::{HostHead, NodeState};
 use std::alloc::{AllocError, Global};
@@ -56,51 +56,49 @@ fn enlist(index: u8) -> NodeWork {
     })
 }
 
+/// What the master tells the host.
+fn told(body: Body) -> NodeWork {
+    NodeWork::Deliver(to_own(Addr::Server(MASTER), body))
+}
+
 /// A Place of a segment that has one entry.
 fn place(alloc: Global, seg: u16, closed: bool) -> Result<NodeWork, Fault> {
-    let mut entries = Vec::new(alloc);
-    entries.push(entry(1))?;
-    let body = Body::Place {
+    Ok(told(Body::Place {
         seg,
         epoch: 0,
         digest: Shared::empty(),
-        entries: Seq::from_vec(entries),
+        entries: deletion(alloc, 1)?,
         closed,
-    };
-    Ok(NodeWork::Deliver(to_own(Addr::Server(MASTER), body)))
+    }))
 }
 
 /// An Append of one entry behind the first.
 fn append(alloc: Global, seg: u16) -> Result<NodeWork, Fault> {
-    let mut entries = Vec::new(alloc);
-    entries.push(entry(2))?;
-    let body = Body::Append {
+    Ok(told(Body::Append {
         seg,
         offset: 1,
-        entries: Seq::from_vec(entries),
-    };
-    Ok(NodeWork::Deliver(to_own(Addr::Server(MASTER), body)))
+        entries: deletion(alloc, 2)?,
+    }))
 }
 
-/// A deletion.
-fn entry(version: u64) -> Entry {
-    Entry {
+/// The one entry of a deletion.
+fn deletion(alloc: Global, version: u64) -> Result<Seq<Entry>, AllocError> {
+    let entry = Entry {
         term: 1,
         table: 7,
         key: 258,
         version,
         value: None,
-    }
+    };
+    Ok(Seq::from_vec(vec![in alloc; entry]?))
 }
 
 /// The host of the example.
 fn example(alloc: Global) -> Result<NodeState<Global>, Fault> {
     let mut backup = Backup::new(alloc, OWN);
     let mut sent = Vec::new(alloc);
-    backup.step_into(
-        &to_own(Addr::Server(MASTER), Body::Free { seg: 3 }),
-        &mut sent,
-    )?;
+    let free = to_own(Addr::Server(MASTER), Body::Free { seg: 3 });
+    backup.step_into(&free, &mut sent)?;
     let gather = Body::Gather {
         attempt: 1,
         master: MASTER,
@@ -160,10 +158,8 @@ fn are_refused_without(alloc: Global, whole: &[u8], place: usize) -> Result<bool
 /// Each byte of these counts.
 fn all_count<R: AllocGlobal + Abort>(rt: &R, whole: &[u8]) -> Result<(), AllocError> {
     for place in 0..whole.len() {
-        assert!(rt;
-            are_refused_without(rt.alloc(), whole, place)?,
-            "at {place}"
-        );
+        let refused = are_refused_without(rt.alloc(), whole, place)?;
+        assert!(rt; refused, "at {place}");
     }
     Ok(())
 }
@@ -223,13 +219,8 @@ fn cut_and_flipped_saves_are_refused(rt: std::rt::HostRuntime) -> Result<(), Fai
 fn a_loaded_host_goes_on(rt: std::rt::HostRuntime) -> Result<(), Fail> {
     let alloc = rt.alloc();
     let mut host = new_host(alloc);
-    take(
-        &rt,
-        &mut host,
-        &NodeWork::Start {
-            kept: Seq::new(alloc),
-        },
-    )?;
+    let kept = Seq::new(alloc);
+    take(&rt, &mut host, &NodeWork::Start { kept })?;
     take(&rt, &mut host, &place(alloc, 1, true)?)?;
     take(&rt, &mut host, &place(alloc, 2, false)?)?;
     let mut other = loaded(&rt, saved(&rt, &host).as_slice())?;
@@ -245,12 +236,8 @@ fn a_loaded_host_goes_on(rt: std::rt::HostRuntime) -> Result<(), Fail> {
 fn the_outside_has_no_save(rt: std::rt::HostRuntime) -> Result<(), Fail> {
     let node: NodeState<Global> = NodeState::outside(rt.alloc());
     let mut bytes = Vec::new(rt.alloc());
-    assert!(rt;
-        matches!(
-            save_into(rt.alloc(), &node, &mut bytes),
-            Err(SaveFault::Outside)
-        )
-    );
+    let answer = save_into(rt.alloc(), &node, &mut bytes);
+    assert!(rt; matches!(answer, Err(SaveFault::Outside)));
     assert!(rt; bytes.is_empty());
     Ok(())
 }
@@ -270,17 +257,19 @@ fn a_loaded_coordinator_goes_on(rt: std::rt::HostRuntime) -> Result<(), Fail> {
     for index in 0..3 {
         take(&rt, &mut node, &enlist(index))?;
     }
-    take(
+    let create = NodeWork::Order(Order::Create {
+        table: 7,
+        owner: MASTER,
+    });
+    take(&rt, &mut node, &create)?;
+    take(&rt, &mut node, &NodeWork::Order(Order::Suspect(MASTER)))?;
+    let mut other = loaded(&rt, saved(&rt, &node).as_slice())?;
+    take_both(
         &rt,
         &mut node,
-        &NodeWork::Create {
-            table: 7,
-            owner: MASTER,
-        },
+        &mut other,
+        NodeWork::Order(Order::Suspect(OWN)),
     )?;
-    take(&rt, &mut node, &NodeWork::Suspect(MASTER))?;
-    let mut other = loaded(&rt, saved(&rt, &node).as_slice())?;
-    take_both(&rt, &mut node, &mut other, NodeWork::Suspect(OWN))?;
     take_both(&rt, &mut node, &mut other, enlist(4))?;
     take_both(&rt, &mut node, &mut other, NodeWork::Tick)?;
     assert!(rt; has_save(&rt, &node, saved(&rt, &other).as_slice()));

@@ -9,10 +9,11 @@ use Rattle.rc_reading.specs.declared.fields.Fields.{Fields}
 use Rattle.rc_reading.specs.declared.names.EventName.{EventName}
 use Rattle.rc_reading.specs.declared.names.EventName.TheVariants as event
 use Rattle.rc_types.specs.declared.events.Event.{Event}
-use Rattle.rc_types.specs.declared.events.Event.TheVariants.{Stop, Suspect, Decide}
+use Rattle.rc_types.specs.declared.events.Event.TheVariants.{Stop}
 use Rattle.rc_reading.specs.declared.scenarios.ScenarioEvent.TheVariants.{Core}
 use Rattle.rc_reading.specs.All.{no_kinds, no_hosts, start_members, id_members, write_members, read_members, deliver_members}
 use Rattle.rc_reading.specs.All.{settle_members, create_members, split_members, is_one_of, has_only, only, field, host_of, table_of, key_of}
+use Rattle.rc_reading.specs.Scenario.{suspects, decides}
 use Rattle.rc_reading.specs.All.{message_of, id_of, addr_of, kept_of, kinds_of, hosts_of, written, event_name, event_of, event_by}
 use Rattle.rc_reading.specs.All.{member_named, noted, fields_of, server_in, event_from, event_in, if_object}
 use Rattle.rc_reading.proofs.Puts.{field_put, optional_put, only_put, by_names}
@@ -124,8 +125,8 @@ server_named wrap d =
 by_name : (name : EventName) (d : Data) → event_by name d ≡ event_from name (fields_of d)
 by_name event.Start d = core_only start_members d _
 by_name event.Stop d = server_named Stop d
-by_name event.Suspect d = server_named Suspect d
-by_name event.Decide d = server_named Decide d
+by_name event.Suspect d = server_named suspects d
+by_name event.Decide d = server_named decides d
 by_name event.Tick d = core_only id_members d _
 by_name event.Write d = core_only write_members d _
 by_name event.Read d = core_only read_members d _

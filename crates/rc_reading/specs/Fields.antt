@@ -14,9 +14,9 @@ use Rattle.rc_reading.specs.declared.names.EventName.{EventName}
 use Rattle.rc_reading.specs.declared.names.EventName.TheVariants as event
 use Rattle.rc_reading.specs.declared.scenarios.ScenarioEvent.{ScenarioEvent}
 use Rattle.rc_types.specs.declared.events.Event.{Event}
-use Rattle.rc_types.specs.declared.events.Event.TheVariants.{Start, Stop, Suspect, Decide, Tick, Deliver, Create, Split}
+use Rattle.rc_types.specs.declared.events.Event.TheVariants.{Start, Stop, Tick, Deliver}
 use Rattle.rc_reading.specs.declared.scenarios.ScenarioEvent.TheVariants.{Core, Settle}
-use Rattle.rc_reading.specs.Scenario.{asks_write, asks_read}
+use Rattle.rc_reading.specs.Scenario.{asks_write, asks_read, suspects, decides, creates, splits}
 use Rattle.rc_reading.specs.Kinds.{no_kinds}
 use Rattle.rc_reading.specs.Hosts.{no_hosts}
 use Rattle.rc_reading.specs.Names.{start_members, id_members, write_members, read_members, deliver_members}
@@ -159,15 +159,15 @@ allowed event.Split only = only.split
 abbrev pub needed_core : EventName → Fields → Option Event
 needed_core event.Start fields = given2 Start fields.host fields.kept
 needed_core event.Stop fields = option_map Stop (server_in fields.addr)
-needed_core event.Suspect fields = option_map Suspect (server_in fields.addr)
-needed_core event.Decide fields = option_map Decide (server_in fields.addr)
+needed_core event.Suspect fields = option_map suspects (server_in fields.addr)
+needed_core event.Decide fields = option_map decides (server_in fields.addr)
 needed_core event.Tick fields = option_map Tick fields.addr
 needed_core event.Write fields = given4 asks_write fields.to fields.table fields.key fields.value
 needed_core event.Read fields = given3 asks_read fields.to fields.table fields.key
 needed_core event.Deliver fields = option_map Deliver fields.number
 needed_core event.Settle fields = None
-needed_core event.Create fields = given2 Create fields.table fields.owner
-needed_core event.Split fields = given2 Split fields.table fields.at
+needed_core event.Create fields = given2 creates fields.table fields.owner
+needed_core event.Split fields = given2 splits fields.table fields.at
 
 -- the event of this name
 abbrev pub needed : EventName → Fields → Option ScenarioEvent

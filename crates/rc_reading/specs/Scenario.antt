@@ -5,8 +5,8 @@ use Rattle.std.specs.Str.{is_utf8}
 use Rattle.rc_types.specs.declared.ids.ServerId.{ServerId}
 use Rattle.rc_types.specs.declared.events.Setup.{Setup}
 use Rattle.rc_types.specs.declared.events.Event.{Event}
-use Rattle.rc_types.specs.declared.events.Event.TheVariants.{Start, Stop, Suspect, Decide, Tick, Ask, Deliver, Create}
-use Rattle.rc_types.specs.declared.events.Event.TheVariants.{Split}
+use Rattle.rc_types.specs.declared.events.Event.TheVariants.{Start, Stop, Tick, Ask, Deliver, Order}
+use Rattle.rc_types.specs.declared.events.Order.TheVariants as order
 use Rattle.rc_types.specs.declared.messages.Body.TheVariants as body
 use Rattle.rc_types.specs.declared.limits.TheConstants.{MAX_SEGMENT}
 use Rattle.serde_json.specs.Data.{Data}
@@ -35,6 +35,20 @@ asks_write to table key value = Ask to (body.Write table key value)
 abbrev pub asks_read : ServerId → ℕ → ℕ → Event
 asks_read to table key = Ask to (body.Read table key)
 
+-- What the coordinator is told, as an event of the world
+
+abbrev pub suspects : ServerId → Event
+suspects id = Order (order.Suspect id)
+
+abbrev pub decides : ServerId → Event
+decides id = Order (order.Decide id)
+
+abbrev pub creates : ℕ → ServerId → Event
+creates table owner = Order (order.Create table owner)
+
+abbrev pub splits : ℕ → ℕ → Event
+splits table at = Order (order.Split table at)
+
 -- The events, by the name that stands at `e`. Each has exactly its members.
 
 -- without `kept`, nothing is kept
@@ -45,10 +59,10 @@ abbrev pub stop_of : Data → Option Event
 stop_of d = only id_members d (option_map Stop (field (codes "id") id_of d))
 
 abbrev pub suspect_of : Data → Option Event
-suspect_of d = only id_members d (option_map Suspect (field (codes "id") id_of d))
+suspect_of d = only id_members d (option_map suspects (field (codes "id") id_of d))
 
 abbrev pub decide_of : Data → Option Event
-decide_of d = only id_members d (option_map Decide (field (codes "id") id_of d))
+decide_of d = only id_members d (option_map decides (field (codes "id") id_of d))
 
 abbrev pub tick_of : Data → Option Event
 tick_of d = only id_members d (option_map Tick (field (codes "id") addr_of d))
@@ -70,10 +84,10 @@ settle_of d = only settle_members d (given2 Settle (optional no_kinds (codes "ki
     (optional no_hosts (codes "hosts") hosts_of d))
 
 abbrev pub create_of : Data → Option Event
-create_of d = only create_members d (given2 Create (field (codes "table") table_of d) (field (codes "owner") id_of d))
+create_of d = only create_members d (given2 creates (field (codes "table") table_of d) (field (codes "owner") id_of d))
 
 abbrev pub split_of : Data → Option Event
-split_of d = only split_members d (given2 Split (field (codes "table") table_of d) (field (codes "at") key_of d))
+split_of d = only split_members d (given2 splits (field (codes "table") table_of d) (field (codes "at") key_of d))
 
 abbrev pub event_by : EventName → Data → Option ScenarioEvent
 event_by name.Start d = option_map Core (start_of d)

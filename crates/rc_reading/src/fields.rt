@@ -2,10 +2,10 @@
 
 ghost use Rattle.std.specs.Prelude.{◌≡◌, ◌<◌, ℕ, [], ◌∷◌, length, Some, None, Err, IfOk, OnOk, OnErr, option_map};
 ghost use Rattle.rc_reading.specs.declared.faults.ReadFault.TheVariants.{BadInput};
-ghost use Rattle.rc_types.specs.declared.events.Event.TheVariants.{Start, Deliver, Create, Split};
+ghost use Rattle.rc_types.specs.declared.events.Event.TheVariants.{Start, Deliver};
 ghost use Rattle.rc_reading.specs.declared.scenarios.ScenarioEvent.TheVariants.{Settle};
 ghost use Rattle.rc_reading.specs.Values.{written, table_of, message_of, given2, given3, given4};
-ghost use Rattle.rc_reading.specs.Scenario.{event_of, asks_write, asks_read};
+ghost use Rattle.rc_reading.specs.Scenario.{event_of, asks_write, asks_read, creates, splits};
 ghost use Rattle.rc_reading.specs.Fields.{member_named, narrowed, all_events, noted, fields_of, event_in, allowed};
 ghost use Rattle.rc_reading.specs.Fields.{server_in, needed, needed_core, no_event};
 ghost use Rattle.rc_reading.specs.Ahead.{data_at, says};
@@ -24,7 +24,7 @@ use crate::tokens::{pass, simple};
 use crate::wanted::{addr, event, host, id, number};
 use json::{Invalid, Reader};
 use rc_types::limits::LAST_KEY;
-use rc_types::{Addr, Body, Event, Kind, Seq, ServerId, Shared};
+use rc_types::{Addr, Body, Event, Kind, Order, Seq, ServerId, Shared};
 use std::alloc::Global;
 
 /// A member that some event has.
@@ -366,8 +366,8 @@ impl Fields {
         match name {
             EventName::Start => start_event(self.host, self.kept.take()),
             EventName::Stop => self.server().map(Event::Stop),
-            EventName::Suspect => self.server().map(Event::Suspect),
-            EventName::Decide => self.server().map(Event::Decide),
+            EventName::Suspect => self.server().map(|id| Event::Order(Order::Suspect(id))),
+            EventName::Decide => self.server().map(|id| Event::Order(Order::Decide(id))),
             EventName::Tick => self.addr.map(Event::Tick),
             EventName::Write => write_event(self.to, self.table, self.key, self.value.take()),
             EventName::Read => read_event(self.to, self.table, self.key),
@@ -442,21 +442,21 @@ fn settle_event(kinds: Option<Kinds>, hosts: Option<Hosts>) -> Option<ScenarioEv
 }
 
 fn create_event(table: Option<u32>, owner: Option<ServerId>) -> Option<Event>
-    ensures { result ≡ given2 Create table owner }
+    ensures { result ≡ given2 creates table owner }
 {
-    Some(Event::Create {
+    Some(Event::Order(Order::Create {
         table: table?,
         owner: owner?,
-    })
+    }))
 }
 
 fn split_event(table: Option<u32>, at: Option<u64>) -> Option<Event>
-    ensures { result ≡ given2 Split table at }
+    ensures { result ≡ given2 splits table at }
 {
-    Some(Event::Split {
+    Some(Event::Order(Order::Split {
         table: table?,
         at: at?,
-    })
+    }))
 }
 
 /// One event of a scenario.

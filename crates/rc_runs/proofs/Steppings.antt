@@ -49,10 +49,7 @@ nothing_delivered (event.Deliver number) other n = absurd (other number refl)
 nothing_delivered (event.Tick addr) other n = refl
 nothing_delivered (event.Stop id) other n = refl
 nothing_delivered (event.Start host kept) other n = refl
-nothing_delivered (event.Suspect id) other n = refl
-nothing_delivered (event.Decide id) other n = refl
-nothing_delivered (event.Create table owner) other n = refl
-nothing_delivered (event.Split table at) other n = refl
+nothing_delivered (event.Order order) other n = refl
 
 taken_more : (world : Happened) (one : Event) → (replayed world).events ≡ world.events → is_possible (replayed world) one ≡ true
     → (replayed (with_events world (one ∷ []))).events ≡ world.events ++ one ∷ []

@@ -7,7 +7,9 @@ use crate::recoveries::Recoveries;
 use crate::replicas::Replica;
 use crate::rules::Rule;
 use crate::servers::{Servers, pair};
-use rc_types::{Addr, Body, Code, Entry, Event, KeyRange, Message, Part, Seq, ServerId, Shared};
+use rc_types::{
+    Addr, Body, Code, Entry, Event, KeyRange, Message, Order, Part, Seq, ServerId, Shared,
+};
 use std::alloc::{AllocError, Global};
 use std::collections::HashSet;
 
@@ -105,12 +107,12 @@ impl Survey {
                     server.runs = false;
                 }
             }
-            Event::Suspect(id) => {
+            Event::Order(Order::Suspect(id)) => {
                 if let Some(server) = self.servers.get_mut(*id) {
                     server.is_suspected = true;
                 }
             }
-            Event::Decide(_) => self.decide(answer),
+            Event::Order(Order::Decide(_)) => self.decide(answer),
             _ => {}
         }
         Ok(())

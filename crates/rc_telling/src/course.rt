@@ -2,7 +2,7 @@
 
 use crate::servers::Servers;
 use rc_types::limits::MAX_HOSTS;
-use rc_types::{Addr, Body, Event, Message, ServerId};
+use rc_types::{Addr, Body, Event, Message, Order, ServerId};
 use std::alloc::{AllocError, Global};
 
 /// What was asked for at a server that was not ready.
@@ -77,7 +77,10 @@ impl Course {
                     self.arrive(message);
                 }
             }
-            Event::Create { table, owner } => self.ask(Early::Create(*table, *owner), *owner),
+            Event::Order(Order::Create { table, owner }) => self.ask(
+                Early::Create(*table, *owner),
+                *owner,
+            ),
             Event::Start { .. } => {
                 let started = self.servers.take(event, at)?;
                 if started.is_some_and(|id| id.generation > 1) {
@@ -87,7 +90,7 @@ impl Course {
             Event::Stop(_) => {
                 self.servers.take(event, at)?;
             }
-            Event::Suspect(id) => {
+            Event::Order(Order::Suspect(id)) => {
                 self.servers.take(event, at)?;
                 self.has_crashes = true;
                 if self.servers.generation(id.index) < id.generation {

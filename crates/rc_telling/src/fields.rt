@@ -2,8 +2,8 @@
 
 use rc_pen::{Pen, Piece};
 use rc_types::{
-    Addr, Body, Breach, Code, Entry, Event, KeyRange, Kind, Message, Part, PlanRow, Row, Seq,
-    ServerId, Shared,
+    Addr, Body, Breach, Code, Entry, Event, KeyRange, Kind, Message, Order, Part, PlanRow, Row,
+    Seq, ServerId, Shared,
 };
 use std::alloc::Global;
 
@@ -51,12 +51,13 @@ pub(crate) fn tell_event(pen: &mut Pen, event: &Event, started: Option<ServerId>
         }
         Event::Deliver(number) => pen.number(" ", *number as u64),
         Event::Tick(addr) => pen.put_node(" ", *addr),
-        Event::Stop(id) | Event::Suspect(id) | Event::Decide(id) => pen.id(" ", *id),
+        Event::Stop(id) | Event::Order(Order::Suspect(id)) | Event::Order(Order::Decide(id)) =>
+            pen.id(" ", *id),
         Event::Start { host, kept } => tell_start(pen, *host, kept, started),
-        Event::Create { table, owner } => {
+        Event::Order(Order::Create { table, owner }) => {
             pen.say_all(" table % owner %", &[Piece::U32(*table), Piece::Id(*owner)]);
         }
-        Event::Split { table, at } => {
+        Event::Order(Order::Split { table, at }) => {
             pen.say_all(" table % at %", &[Piece::U32(*table), Piece::U64(*at)]);
         }
     }
@@ -74,10 +75,10 @@ pub(crate) fn event_name(event: &Event) -> &'static str {
         Event::Tick(_) => "tick",
         Event::Stop(_) => "stop",
         Event::Start { .. } => "start",
-        Event::Suspect(_) => "suspect",
-        Event::Decide(_) => "decide",
-        Event::Create { .. } => "create",
-        Event::Split { .. } => "split",
+        Event::Order(Order::Suspect(_)) => "suspect",
+        Event::Order(Order::Decide(_)) => "decide",
+        Event::Order(Order::Create { .. }) => "create",
+        Event::Order(Order::Split { .. }) => "split",
     }
 }
 

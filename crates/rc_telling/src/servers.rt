@@ -1,7 +1,7 @@
 //! Which servers were started, when each of them ran, and which were suspected.
 
 use rc_types::limits::MAX_HOSTS;
-use rc_types::{Addr, Event, ServerId};
+use rc_types::{Addr, Event, Order, ServerId};
 use std::alloc::{AllocError, Global};
 
 /// A server, and what it came to.
@@ -63,7 +63,7 @@ impl Servers {
         match event {
             Event::Start { host, .. } => return Ok(Some(self.start(*host, number)?)),
             Event::Stop(id) => self.stop(*id, number),
-            Event::Suspect(id) => self.suspect(*id, number),
+            Event::Order(Order::Suspect(id)) => self.suspect(*id, number),
             _ => {}
         }
         Ok(None)

@@ -3,6 +3,7 @@ use Rattle.std.specs.Prelude.{◌≡◌, ℕ, List, [], ◌∷◌, Option, find,
 use Rattle.std.specs.Str.{bytes_eq}
 use Rattle.rc_types.specs.declared.events.Event.{Event}
 use Rattle.rc_types.specs.declared.events.Event.TheVariants as event
+use Rattle.rc_types.specs.declared.events.Order.TheVariants as order
 use Rattle.rc_types.specs.declared.messages.Body.{Body}
 use Rattle.rc_types.specs.declared.messages.Body.TheVariants as body
 use Rattle.rc_types.specs.declared.kinds.Kind.{Kind}
@@ -108,10 +109,10 @@ event_kind_of (event.Deliver number) = of_event.Deliver
 event_kind_of (event.Tick addr) = of_event.Tick
 event_kind_of (event.Stop id) = of_event.Stop
 event_kind_of (event.Start host kept) = of_event.Start
-event_kind_of (event.Suspect id) = of_event.Suspect
-event_kind_of (event.Decide id) = of_event.Decide
-event_kind_of (event.Create table owner) = of_event.Create
-event_kind_of (event.Split table at) = of_event.Split
+event_kind_of (event.Order (order.Suspect id)) = of_event.Suspect
+event_kind_of (event.Order (order.Decide id)) = of_event.Decide
+event_kind_of (event.Order (order.Create table owner)) = of_event.Create
+event_kind_of (event.Order (order.Split table at)) = of_event.Split
 
 abbrev pub event_name : EventKind → List ℕ
 event_name of_event.Ask = codes "Ask"

@@ -64,18 +64,25 @@ pub enum Event {
         /// The open replicas that outlived its stop, by master and segment.
         kept: Seq<(ServerId, u16)>,
     },
-    /// The coordinator is told that a server is believed dead.
+    /// The coordinator is told something by who runs the cluster.
+    Order(Order),
+}
+
+/// What the coordinator is told by who runs the cluster.
+#[derive(Clone, Copy)]
+pub enum Order {
+    /// This server is believed dead.
     Suspect(ServerId),
-    /// The coordinator is told to decide the recovery of a server.
+    /// Decide the recovery of this server.
     Decide(ServerId),
-    /// The coordinator is told to create a table for an owner.
+    /// Create a table for an owner.
     Create {
         /// The table, which must be new.
         table: u32,
         /// The server that gets it.
         owner: ServerId,
     },
-    /// The coordinator is told to split a tablet before a key.
+    /// Split the tablet of this table that holds this key before it.
     Split {
         /// The table.
         table: u32,
@@ -98,16 +105,7 @@ impl TryClone for Event {
                 host: *host,
                 kept: kept.try_clone(alloc)?,
             }),
-            Event::Suspect(id) => Ok(Event::Suspect(*id)),
-            Event::Decide(id) => Ok(Event::Decide(*id)),
-            Event::Create { table, owner } => Ok(Event::Create {
-                table: *table,
-                owner: *owner,
-            }),
-            Event::Split { table, at } => Ok(Event::Split {
-                table: *table,
-                at: *at,
-            }),
+            Event::Order(order) => Ok(Event::Order(*order)),
         }
     }
 }
@@ -134,22 +132,6 @@ pub enum NodeWork {
         /// The open replicas that outlived its stop, by master and segment.
         kept: Seq<(ServerId, u16)>,
     },
-    /// To the coordinator: this server is believed dead.
-    Suspect(ServerId),
-    /// To the coordinator: decide the recovery of this server.
-    Decide(ServerId),
-    /// To the coordinator: create this table for this owner.
-    Create {
-        /// The table, which must be new.
-        table: u32,
-        /// The server that gets it.
-        owner: ServerId,
-    },
-    /// To the coordinator: split the tablet of this table that holds this key before it.
-    Split {
-        /// The table.
-        table: u32,
-        /// The first key of the upper part.
-        at: u64,
-    },
+    /// To the coordinator, by who runs the cluster.
+    Order(Order),
 }

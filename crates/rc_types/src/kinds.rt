@@ -2,7 +2,7 @@
 
 ghost use Rattle.std.specs.Prelude.{◌≡◌, ◌<◌};
 
-use crate::events::Event;
+use crate::events::{Event, Order};
 use crate::messages::Body;
 
 /// Which kind of body a message has. "Messages" in `docs/PROTOCOL.md` says what each one means.
@@ -214,10 +214,10 @@ impl EventKind {
             Event::Tick(_) => EventKind::Tick,
             Event::Stop(_) => EventKind::Stop,
             Event::Start { .. } => EventKind::Start,
-            Event::Suspect(_) => EventKind::Suspect,
-            Event::Decide(_) => EventKind::Decide,
-            Event::Create { .. } => EventKind::Create,
-            Event::Split { .. } => EventKind::Split,
+            Event::Order(Order::Suspect(_)) => EventKind::Suspect,
+            Event::Order(Order::Decide(_)) => EventKind::Decide,
+            Event::Order(Order::Create { .. }) => EventKind::Create,
+            Event::Order(Order::Split { .. }) => EventKind::Split,
         }
     }
 

@@ -19,7 +19,7 @@ mod verdicts;
 
 pub use copies::{copied, copied_map};
 pub use entries::Entry;
-pub use events::{Event, MasterSetup, NodeWork, Setup};
+pub use events::{Event, MasterSetup, NodeWork, Order, Setup};
 pub use faults::{Code, Fault};
 pub use ids::{Addr, NODE_NUMBERS, NodeName, Pair, ServerId};
 pub use kept::{Grant, GrantedRange, Member, Phase, Told};

@@ -4,6 +4,7 @@ use Rattle.std.proofs.Common.{refl, sym, ap, ◌∙◌, subst, arith}
 use Rattle.std.specs.List.{range_with_len}
 use Rattle.rc_model.specs.World.{TheOutside, TheCoordinator, TheHost}
 use Rattle.rc_wire.specs.declared.work.Work.TheVariants as work
+use Rattle.rc_types.specs.declared.events.Order.TheVariants as order
 use Rattle.rc_wire.specs.SeatView.{SeatData, new_seat}
 use Rattle.rc_wire.specs.declared.steps.Step.{Step}
 use Rattle.rc_wire.specs.declared.steps.Step.TheVariants.{Do, Settle}
@@ -11,7 +12,7 @@ use Rattle.rc_wire.specs.Runs.{none_fetched}
 use Rattle.rc_wire.specs.Ends.{IsIdle}
 use Rattle.rc_wire.specs.Views.{name_at}
 use Rattle.rc_wire.specs.Seats.{new_seats}
-use Rattle.rc_wire.specs.Workload.{push, owner, starts, created, write_of, asks, workload}
+use Rattle.rc_wire.specs.Workload.{push, owner, starts, created, write_of, asks, workload, told}
 
 and-more : (a b : Bool) → a ≡ true → b ≡ true → (a && b) ≡ true
 and-more a b x y = ap (λ c. c && b) x ∙ y
@@ -37,7 +38,7 @@ none-starts (suc host) = none-push (starts host) (Do (TheHost host) (work.Start 
 
 none-created : (hosts : ℕ) → none_fetched (created hosts) ≡ true
 none-created hosts =
-    let table : Step = Do TheCoordinator (work.Create 1 owner) in
+    let table : Step = told (order.Create 1 owner) in
     let settled : List Step = push (starts hosts) Settle in
     none-push (push settled table) Settle
     (none-push settled table (none-push (starts hosts) Settle (none-starts hosts) refl) refl) refl
@@ -48,8 +49,8 @@ none-asks hosts (suc key) = none-push (asks hosts key) (Do TheOutside (write_of 
 
 pub none-workload : (hosts writes : ℕ) → none_fetched (workload hosts writes) ≡ true
 none-workload hosts writes =
-    let suspect : Step = Do TheCoordinator (work.Suspect owner) in
-    let decide : Step = Do TheCoordinator (work.Decide owner) in
+    let suspect : Step = told (order.Suspect owner) in
+    let decide : Step = told (order.Decide owner) in
     let asked : List Step = push (asks hosts writes) Settle in
     let suspected : List Step = push (push asked suspect) Settle in
     none-push (push suspected decide) Settle

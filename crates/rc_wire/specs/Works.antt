@@ -22,10 +22,7 @@ given_of (work.Ask to body) = Some (given.Ask to body)
 given_of work.Tick = Some given.Tick
 given_of work.Stop = Some given.Stop
 given_of (work.Start kept) = Some (given.Start kept)
-given_of (work.Suspect id) = Some (given.Suspect id)
-given_of (work.Decide id) = Some (given.Decide id)
-given_of (work.Create table owner) = Some (given.Create table owner)
-given_of (work.Split table at) = Some (given.Split table at)
+given_of (work.Order order) = Some (given.Order order)
 
 -- the event of a work; where it is Fetched, that of the message that is held, if there is one
 abbrev pub event_for : Node → Option (ℕ × Message) → Work → Option Event
@@ -39,10 +36,7 @@ work_in (event.Deliver number) = None
 work_in (event.Tick addr) = Some work.Tick
 work_in (event.Stop id) = Some work.Stop
 work_in (event.Start host kept) = Some (work.Start kept)
-work_in (event.Suspect id) = Some (work.Suspect id)
-work_in (event.Decide id) = Some (work.Decide id)
-work_in (event.Create table owner) = Some (work.Create table owner)
-work_in (event.Split table at) = Some (work.Split table at)
+work_in (event.Order order) = Some (work.Order order)
 
 -- whether there is an event, it is possible, and it is this node's
 abbrev pub takes_if : NodeName → World → Option Event → Bool

@@ -38,10 +38,7 @@ pub(crate) fn given_by(work: Work) -> Option<NodeWork>
         Work::Tick => Some(NodeWork::Tick),
         Work::Stop => Some(NodeWork::Stop),
         Work::Start { kept } => Some(NodeWork::Start { kept }),
-        Work::Suspect(id) => Some(NodeWork::Suspect(id)),
-        Work::Decide(id) => Some(NodeWork::Decide(id)),
-        Work::Create { table, owner } => Some(NodeWork::Create { table, owner }),
-        Work::Split { table, at } => Some(NodeWork::Split { table, at }),
+        Work::Order(order) => Some(NodeWork::Order(order)),
     }
 }
 
@@ -80,10 +77,7 @@ fn event_of(name: NodeName, own: ServerId, given: NodeWork) -> Event
             host: own.index,
             kept,
         },
-        NodeWork::Suspect(id) => Event::Suspect(id),
-        NodeWork::Decide(id) => Event::Decide(id),
-        NodeWork::Create { table, owner } => Event::Create { table, owner },
-        NodeWork::Split { table, at } => Event::Split { table, at },
+        NodeWork::Order(order) => Event::Order(order),
     }
 }
 

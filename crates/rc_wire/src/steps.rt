@@ -45,15 +45,6 @@ fn copy_of(alloc: Global, work: &Work) -> Result<Work, AllocError>
         Work::Start { kept } => Work::Start {
             kept: kept.try_clone(alloc)?,
         },
-        Work::Suspect(id) => Work::Suspect(*id),
-        Work::Decide(id) => Work::Decide(*id),
-        Work::Create { table, owner } => Work::Create {
-            table: *table,
-            owner: *owner,
-        },
-        Work::Split { table, at } => Work::Split {
-            table: *table,
-            at: *at,
-        },
+        Work::Order(order) => Work::Order(*order),
     })
 }

@@ -1,6 +1,6 @@
 //! What a seat can be given to do.
 
-use rc_types::{Body, Seq, ServerId};
+use rc_types::{Body, Order, Seq, ServerId};
 
 /// What a seat's node is to do: one event of the node, without what the seat knows by itself.
 #[derive(Drop)]
@@ -15,12 +15,6 @@ pub enum Work {
     Stop,
     /// The host is started, and keeps these of its open replicas.
     Start { kept: Seq<(ServerId, u16)> },
-    /// The coordinator is told that this server is believed dead.
-    Suspect(ServerId),
-    /// The coordinator decides the recovery of this server.
-    Decide(ServerId),
-    /// The coordinator creates this table for this owner.
-    Create { table: u32, owner: ServerId },
-    /// The coordinator splits the tablet of this table that holds this key before it.
-    Split { table: u32, at: u64 },
+    /// The coordinator is told this.
+    Order(Order),
 }

@@ -6,7 +6,7 @@ ghost use Rattle.rc_wire.specs.Workload.{push, write_of, workload};
 
 use crate::steps::Step;
 use crate::work::Work;
-use rc_types::{Body, NodeName, Seq, ServerId, Shared};
+use rc_types::{Body, NodeName, Order, Seq, ServerId, Shared};
 use std::alloc::{AllocError, Global};
 
 /// The server that owns the table: the first of host 0.
@@ -32,10 +32,10 @@ pub(crate) fn steps(alloc: Global, hosts: u8, writes: u32) -> Result<Vec<Step>, 
     add(
         &mut steps,
         NodeName::Coordinator,
-        Work::Create {
+        Work::Order(Order::Create {
             table: TABLE,
             owner,
-        },
+        }),
     )?;
     settle(&mut steps)?;
     for key in 0..writes {
@@ -43,9 +43,17 @@ pub(crate) fn steps(alloc: Global, hosts: u8, writes: u32) -> Result<Vec<Step>, 
         add(&mut steps, NodeName::Outside, write)?;
     }
     settle(&mut steps)?;
-    add(&mut steps, NodeName::Coordinator, Work::Suspect(OWNER))?;
+    add(
+        &mut steps,
+        NodeName::Coordinator,
+        Work::Order(Order::Suspect(OWNER)),
+    )?;
     settle(&mut steps)?;
-    add(&mut steps, NodeName::Coordinator, Work::Decide(OWNER))?;
+    add(
+        &mut steps,
+        NodeName::Coordinator,
+        Work::Order(Order::Decide(OWNER)),
+    )?;
     settle(&mut steps)?;
     Ok(steps)
 }

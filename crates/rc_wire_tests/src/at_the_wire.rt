@@ -1,13 +1,19 @@
 //! The calls of a wire, each made once more where memory is refused: then the seat is as it was, and the second
 //! answers as if nothing had been refused.
 
-use rc_types::{Addr, Body, Fault, Message, Seq, ServerId, Shared};
+use rc_types::{Addr, Body, Fault, Message, NodeName, Order, Seq, ServerId, Shared};
 use rc_wire::{Naming, Seat, Wire, Work};
 use rc_world::World;
-use std::alloc::Global;
+use std::alloc::{AllocError, Global};
 use std::process::Abort;
 use std::sync::Wait;
 use std::test::Fail;
+
+/// The first server of host 0, which comes to own the table.
+pub(crate) const OWNER: ServerId = ServerId {
+    index: 0,
+    generation: 1,
+};
 
 /// What a node is given, of which there can be a second one where the first was dropped.
 #[derive(Clone, Copy)]
@@ -29,7 +35,7 @@ fn work_of(alloc: Global, given: Given) -> Result<Work, Fault> {
         Given::Start => Work::Start {
             kept: Seq::new(alloc),
         },
-        Given::Create(owner) => Work::Create { table: 7, owner },
+        Given::Create(owner) => Work::Order(Order::Create { table: 7, owner }),
         Given::Write(to) => Work::Ask {
             to,
             body: write(alloc)?,
@@ -38,7 +44,7 @@ fn work_of(alloc: Global, given: Given) -> Result<Work, Fault> {
 }
 
 /// What is asked.
-fn write(alloc: Global) -> Result<Body, Fault> {
+pub(crate) fn write(alloc: Global) -> Result<Body, AllocError> {
     let value = Shared::from_vec(alloc, vec![in alloc; b'a']?)?;
     Ok(Body::Write {
         table: 7,
@@ -109,6 +115,14 @@ pub(crate) fn commit<N: Naming, R: Abort + Print + Wait>(
 /// The number of the message that is held.
 fn held<N: Naming>(seat: &Seat<N>) -> Option<usize> {
     seat.fetched().map(|(number, _)| number)
+}
+
+/// Whether the message that is held is one to the seat's node.
+pub(crate) fn is_held_for<N: Naming>(seat: &Seat<N>) -> bool {
+    match seat.fetched() {
+        Some((_, message)) => NodeName::at(message.to) == seat.name(),
+        None => false,
+    }
 }
 
 /// Whether the seat finds the message of this number.

@@ -6,8 +6,9 @@ ghost use Rattle.rc_types.specs.declared.limits.TheConstants.{MAX_HOSTS};
 ghost use Rattle.rc_world.specs.HostView.{IsWithinLimits};
 ghost use Rattle.rc_wire.specs.Runs.{is_fetched, none_fetched};
 
+use crate::at_the_wire::{OWNER, is_held_for, write};
 use rc_audit::audit;
-use rc_types::{Addr, Body, Code, Fault, Message, NodeName, Seq, ServerId, Setup, Shared};
+use rc_types::{Addr, Body, Code, Fault, Message, NodeName, Order, Seq, Setup};
 use rc_wire::{Gate, Naming, Opening, Seat, Step, Wire, Work, run_nodes};
 use rc_world::World;
 use std::alloc::{AllocError, Global};
@@ -17,12 +18,6 @@ use std::sync::Wait;
 use std::sync::atomic::{AtomicBool, AtomicU32, Ordering};
 use std::test::Fail;
 use std::thread::Threads;
-
-/// The first server of host 0.
-const OWNER: ServerId = ServerId {
-    index: 0,
-    generation: 1,
-};
 
 /// The beginning of a wire with these many hosts.
 fn opened(alloc: Global, hosts: u8) -> Result<Opening, AllocError>
@@ -97,7 +92,7 @@ fn add_writes(alloc: Global, steps: &mut Vec<Step>, writes: usize) -> Result<(),
     add(
         steps,
         NodeName::Coordinator,
-        Work::Create { table: 7, owner },
+        Work::Order(Order::Create { table: 7, owner }),
     )?;
     settle(steps)?;
     for _ in 0..writes {
@@ -110,12 +105,7 @@ fn add_writes(alloc: Global, steps: &mut Vec<Step>, writes: usize) -> Result<(),
 fn add_write(alloc: Global, steps: &mut Vec<Step>) -> Result<(), AllocError>
     ensures { OnOk result (none_fetched steps.new.items ≡ none_fetched steps.old.items) }
 {
-    let value = Shared::from_vec(alloc, vec![in alloc; b'a']?)?;
-    let body = Body::Write {
-        table: 7,
-        key: 5,
-        value: Some(value),
-    };
+    let body = write(alloc)?;
     add(steps, NodeName::Outside, Work::Ask { to: OWNER, body })?;
     settle(steps)
 }
@@ -284,14 +274,6 @@ fn finds_all_of_its_own<N: Naming, R: Abort + Wait>(
     }
     assert_eq!(rt; next, None);
     Ok(())
-}
-
-/// Whether the message that is held is one to the seat's node.
-fn is_held_for<N: Naming>(seat: &Seat<N>) -> bool {
-    match seat.fetched() {
-        Some((_, message)) => NodeName::at(message.to) == seat.name(),
-        None => false,
-    }
 }
 
 /// What is left of a run: its world, and whether it ended with a fault. None where there was no memory for it.

@@ -4,8 +4,8 @@ ghost use Rattle.std.specs.Prelude.{◌≡◌, ◌≤◌, ◌+◌, IfOk};
 ghost use Rattle.rc_types.specs.declared.limits.TheConstants.{MAX_HOSTS};
 ghost use Rattle.rc_world.specs.HostView.{IsWithinLimits};
 
-use crate::at_the_wire::{Given, close, commit, fetch, is_write, prepare};
-use rc_types::{Body, Fault, Message, NodeName, Seq, ServerId, Setup};
+use crate::at_the_wire::{Given, OWNER, close, commit, fetch, is_held_for, is_write, prepare};
+use rc_types::{Body, Fault, Message, Seq, ServerId, Setup};
 use rc_wire::{Naming, Opening, Seat, Wire, Work};
 use rc_world::World;
 use std::alloc::{AllocError, Global};
@@ -13,12 +13,6 @@ use std::marker::Brand;
 use std::process::Abort;
 use std::sync::Wait;
 use std::test::Fail;
-
-/// The first server of host 0, which comes to own the table.
-const OWNER: ServerId = ServerId {
-    index: 0,
-    generation: 1,
-};
 
 /// The first server of host 1.
 const OTHER: ServerId = ServerId {
@@ -141,14 +135,6 @@ fn numbers_to<N: Naming, R: Abort + Print + Wait>(
     }
     assert_eq!(rt; next, None);
     Ok(count)
-}
-
-/// Whether the message that is held is one to the seat's node.
-fn is_held_for<N: Naming>(seat: &Seat<N>) -> bool {
-    match seat.fetched() {
-        Some((_, message)) => NodeName::at(message.to) == seat.name(),
-        None => false,
-    }
 }
 
 /// To each node went so many messages, by the number of its seat, and `next` finds just these.

@@ -8,6 +8,7 @@ use Rattle.rc_types.specs.declared.ids.Addr.TheVariants.{Outside, Server}
 use Rattle.rc_types.specs.declared.events.Setup.{Setup}
 use Rattle.rc_types.specs.declared.events.Event.{Event}
 use Rattle.rc_types.specs.declared.events.Event.TheVariants as event
+use Rattle.rc_types.specs.declared.events.Order.TheVariants as order
 use Rattle.rc_types.specs.declared.messages.Message.{Message}
 use Rattle.rc_types.specs.declared.messages.Body.{Body}
 use Rattle.rc_types.specs.declared.messages.Body.TheVariants.{Write, Read, Ready, Fetch, Place, Append, Stored}
@@ -87,10 +88,10 @@ abbrev pub stop : ServerId → Line
 stop server = Once (event.Stop server)
 
 abbrev pub suspect : ServerId → Line
-suspect server = Once (event.Suspect server)
+suspect server = Once (event.Order (order.Suspect server))
 
 abbrev pub decide : ServerId → Line
-decide server = Once (event.Decide server)
+decide server = Once (event.Order (order.Decide server))
 
 abbrev pub tick : ServerId → Line
 tick server = Once (event.Tick (Server server))
@@ -102,10 +103,10 @@ abbrev pub read : ServerId → ℕ → ℕ → Line
 read to table key = Once (event.Ask to (Read table key))
 
 abbrev pub create : ℕ → ServerId → Line
-create table owner = Once (event.Create table owner)
+create table owner = Once (event.Order (order.Create table owner))
 
 abbrev pub split : ℕ → ℕ → Line
-split table at = Once (event.Split table at)
+split table at = Once (event.Order (order.Split table at))
 
 abbrev pub deliver : ℕ → Line
 deliver number = Once (event.Deliver number)

@@ -122,8 +122,7 @@ impl<A: Allocator + Clone> Nodes<A> {
             Event::Tick(Addr::Coordinator) => true,
             Event::Tick(Addr::Outside) => false,
             Event::Start { host, .. } => self.can_start(*host),
-            Event::Suspect(_) | Event::Decide(_) | Event::Create { .. } | Event::Split { .. } =>
-                true,
+            Event::Order(_) => true,
         }
     }
 
@@ -332,22 +331,7 @@ impl<A: Allocator + Clone> Nodes<A> {
                 Ok(())
             }
             Event::Start { host, kept } => self.start(*host, kept.as_slice(), sent),
-            Event::Suspect(id) => self.tell_coordinator(&NodeWork::Suspect(*id), sent),
-            Event::Decide(id) => self.tell_coordinator(&NodeWork::Decide(*id), sent),
-            Event::Create { table, owner } => {
-                let work = NodeWork::Create {
-                    table: *table,
-                    owner: *owner,
-                };
-                self.tell_coordinator(&work, sent)
-            }
-            Event::Split { table, at } => {
-                let work = NodeWork::Split {
-                    table: *table,
-                    at: *at,
-                };
-                self.tell_coordinator(&work, sent)
-            }
+            Event::Order(order) => self.tell_coordinator(&NodeWork::Order(*order), sent),
         }
     }
 }

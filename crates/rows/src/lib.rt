@@ -6,6 +6,6 @@ mod numbers;
 mod page;
 mod running;
 
-pub use numbers::Numbers;
-pub use page::Page;
-pub use running::{Commands, run};
+pub use numbers::{FIRST, Numbers, first_of};
+pub use page::{Page, closed_or_open, up_or_crashed};
+pub use running::{Commands, Desk, run};

@@ -111,37 +111,32 @@ impl Numbers {
 
     /// The next two numbers as a server.
     pub fn id(&mut self) -> ServerId {
-        let index = self.byte();
-        let generation = self.long();
-        ServerId { index, generation }
+        ServerId {
+            index: self.byte(),
+            generation: self.long(),
+        }
     }
 
     /// The next number as a host, of which this is the first server.
     pub fn host(&mut self) -> ServerId {
-        let index = self.byte();
-        ServerId {
-            index,
-            generation: 1,
-        }
+        first_of(self.byte())
     }
 
     /// The next three numbers as a range of a table's keys.
     pub fn range(&mut self) -> KeyRange {
-        let table = self.long();
-        let lo = self.next();
-        let hi = self.next();
-        KeyRange { table, lo, hi }
+        KeyRange {
+            table: self.long(),
+            lo: self.next(),
+            hi: self.next(),
+        }
     }
 
     /// The next five numbers as a part.
     pub fn part(&mut self) -> Part {
-        let range = self.range();
-        let previous = self.long();
-        let term = self.long();
         Part {
-            range,
-            previous,
-            term,
+            range: self.range(),
+            previous: self.long(),
+            term: self.long(),
         }
     }
 
@@ -179,8 +174,7 @@ impl Numbers {
     pub fn servers(&mut self, alloc: Global) -> Result<Vec<(ServerId, bool)>, AllocError> {
         let mut rows = Vec::new(alloc);
         for _ in 0..self.left() / 3 {
-            let id = self.id();
-            rows.push((id, !self.mark()))?;
+            rows.push((self.id(), !self.mark()))?;
         }
         Ok(rows)
     }
@@ -193,8 +187,7 @@ impl Numbers {
     pub fn names(&mut self, alloc: Global) -> Result<Vec<(ServerId, u16)>, AllocError> {
         let mut names = Vec::new(alloc);
         for _ in 0..self.left() / 3 {
-            let master = self.id();
-            names.push((master, self.short()))?;
+            names.push((self.id(), self.short()))?;
         }
         Ok(names)
     }
@@ -228,17 +221,26 @@ impl Numbers {
     }
 
     fn entry(&mut self, alloc: Global) -> Result<Entry, AllocError> {
-        let term = self.long();
-        let table = self.long();
-        let key = self.next();
-        let version = self.next();
-        let value = self.value(alloc)?;
         Ok(Entry {
-            term,
-            table,
-            key,
-            version,
-            value,
+            term: self.long(),
+            table: self.long(),
+            key: self.next(),
+            version: self.next(),
+            value: self.value(alloc)?,
         })
+    }
+}
+
+/// The first server of host 0, which most rows are about.
+pub const FIRST: ServerId = ServerId {
+    index: 0,
+    generation: 1,
+};
+
+/// The first server of this host.
+pub fn first_of(index: u8) -> ServerId {
+    ServerId {
+        index,
+        generation: 1,
     }
 }

@@ -1,8 +1,8 @@
 //! The page that an answer is written on.
 
-use rc_types::{Addr, Breach, Code, Fault, ServerId};
+use rc_types::{Fault, ServerId};
 use std::alloc::{AllocError, Global};
-use std::fmt::Debug;
+use std::fmt::Display;
 
 /// So many bytes of an answer need no memory while they are written.
 const EXPECTED: usize = 131_072;
@@ -49,103 +49,30 @@ impl Page {
         }
     }
 
-    /// Writes these words and a number.
-    pub fn number(&mut self, words: &str, number: u64) {
-        self.put(words);
+    /// Writes a text: `write!(page, " seg {seg}")` calls it.
+    pub fn write_fmt<T: Display + Drop>(&mut self, text: T) {
         if !self.refused {
-            self.refused = write!(self.text, "{number}").is_err();
+            self.refused = write!(self.text, "{text}").is_err();
         }
-    }
-
-    /// Writes these words and a length.
-    pub fn size(&mut self, words: &str, number: usize) {
-        self.number(words, number as u64);
-    }
-
-    /// Writes these words and a server.
-    pub fn id(&mut self, words: &str, id: ServerId) {
-        self.node(words, Addr::Server(id));
-    }
-
-    /// Writes these words and a node.
-    pub fn node(&mut self, words: &str, node: Addr) {
-        self.put(words);
-        if !self.refused {
-            self.refused = write!(self.text, "{node}").is_err();
-        }
-    }
-
-    /// Writes these words and a code.
-    pub fn code(&mut self, words: &str, code: Code) {
-        self.put(words);
-        if !self.refused {
-            self.refused = write!(self.text, "{code}").is_err();
-        }
-    }
-
-    /// Writes these words and the text of a refusal.
-    pub fn fault(&mut self, words: &str, fault: Fault) {
-        self.put(words);
-        if !self.refused {
-            self.refused = write!(self.text, "{fault}").is_err();
-        }
-    }
-
-    /// Writes these words and a breach.
-    pub fn breach(&mut self, words: &str, breach: Breach) {
-        self.put(words);
-        if !self.refused {
-            self.refused = write!(self.text, "{breach}").is_err();
-        }
-    }
-
-    /// Writes how a value shows itself.
-    pub fn shown<T: Debug>(&mut self, value: &T) {
-        if !self.refused {
-            self.refused = write!(self.text, "{value:?}").is_err();
-        }
-    }
-
-    /// Writes these words and one of two others.
-    pub fn either(&mut self, words: &str, is_first: bool, first: &str, second: &str) {
-        self.put(words);
-        self.put(if is_first { first } else { second });
     }
 
     /// Writes these words, and `yes` or `no`.
     pub fn yes(&mut self, words: &str, yes: bool) {
-        self.either(words, yes, "yes", "no");
-    }
-
-    /// Writes these words, and `closed` or `open`.
-    pub fn closed(&mut self, words: &str, closed: bool) {
-        self.either(words, closed, "closed", "open");
-    }
-
-    /// Writes these words and numbers.
-    pub fn numbers(&mut self, words: &str, numbers: &[u16]) {
         self.put(words);
-        for number in numbers {
-            self.number(" ", u64::from(*number));
-        }
+        self.put(if yes { "yes" } else { "no" });
     }
 
-    /// Writes these words and bytes.
-    pub fn bytes(&mut self, words: &str, bytes: &[u8]) {
+    /// Writes these words and what follows them, each behind a space.
+    pub fn list<T: Display>(&mut self, words: &str, list: &[T]) {
         self.put(words);
-        for byte in bytes {
-            self.number(" ", u64::from(*byte));
+        for one in list {
+            write!(self, " {one}");
         }
     }
 
     /// Writes servers, or that there is none.
     pub fn ids(&mut self, ids: &[ServerId]) {
-        if ids.is_empty() {
-            self.put(" nobody");
-        }
-        for id in ids {
-            self.id(" ", *id);
-        }
+        self.list(if ids.is_empty() { " nobody" } else { "" }, ids);
     }
 
     /// The value of a call, if it has one. Of a refusal it writes the code.
@@ -158,7 +85,7 @@ impl Page {
             Ok(value) => Ok(Some(value)),
             Err(Fault::OutOfMemory) => Err(Fault::OutOfMemory),
             Err(fault) => {
-                self.code(" ", fault.code());
+                write!(self, " {}", fault.code());
                 Ok(None)
             }
         }
@@ -175,4 +102,14 @@ impl Page {
         }
         Ok(())
     }
+}
+
+/// The word for a replica that is closed, or still open.
+pub fn closed_or_open(closed: bool) -> &'static str {
+    if closed { "closed" } else { "open" }
+}
+
+/// The word for a server that is up, or has crashed.
+pub fn up_or_crashed(up: bool) -> &'static str {
+    if up { "up" } else { "crashed" }
 }

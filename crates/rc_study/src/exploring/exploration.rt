@@ -6,7 +6,7 @@ use crate::exploring::options::Options;
 use crate::exploring::roster::Roster;
 use rand_pcg::Pcg32;
 use rc_survey::{Counts, Goal, Survey};
-use rc_types::{Addr, Body, Event, Fault, Seq, ServerId, Shared};
+use rc_types::{Addr, Body, Event, Fault, Order, Seq, ServerId, Shared};
 use rc_world::World;
 use std::alloc::Global;
 
@@ -139,7 +139,7 @@ impl Exploration {
         self.rest(alloc)?;
         let owner = self.roster.server(&self.world, 0);
         let table = self.roster.table;
-        self.take(alloc, &Event::Create { table, owner })?;
+        self.take(alloc, &Event::Order(Order::Create { table, owner }))?;
         self.rest(alloc)
     }
 
@@ -198,10 +198,10 @@ impl Exploration {
             Choice::Start => self.start(alloc, words),
             Choice::Suspect => self.suspect(words),
             Choice::Decide => Ok(self.decide(words)),
-            Choice::Split => Ok(Some(Event::Split {
+            Choice::Split => Ok(Some(Event::Order(Order::Split {
                 table: self.roster.table,
                 at: words.key(),
-            })),
+            }))),
             Choice::Create => Ok(self.create(words)),
             mail => self.delivery(mail, words),
         }
@@ -296,21 +296,30 @@ impl Exploration {
     fn suspect(&mut self, words: Words) -> Result<Option<Event>, Fault> {
         let id = self.suspected(words);
         if id.generation == 0 || self.roster.is_suspected(id) {
-            return Ok(self.roster.crashed(words.detail / 2).map(Event::Suspect));
+            return Ok(
+                self.roster
+                    .crashed(words.detail / 2)
+                    .map(|id| Event::Order(Order::Suspect(id))),
+            );
         }
         if self.world.is_running(id) && !self.roster.can_spare(&self.world) {
             return Ok(None);
         }
         self.roster.suspect(id)?;
-        Ok(Some(Event::Suspect(id)))
+        Ok(Some(Event::Order(Order::Suspect(id))))
     }
 
     /// A decision; or now and then once more a suspicion of a server of whose plan nothing was granted yet.
     fn decide(&mut self, words: Words) -> Option<Event> {
         if words.detail % 32 == 0 {
-            return self.roster.planned().map(Event::Suspect);
+            return self
+                .roster
+                .planned()
+                .map(|id| Event::Order(Order::Suspect(id)));
         }
-        self.roster.crashed(words.target).map(Event::Decide)
+        self.roster
+            .crashed(words.target)
+            .map(|id| Event::Order(Order::Decide(id)))
     }
 
     /// Another table, now and then, which is written from then on.
@@ -322,6 +331,6 @@ impl Exploration {
         }
         let table = self.roster.table.saturating_add(1);
         self.roster.table = table;
-        Some(Event::Create { table, owner })
+        Some(Event::Order(Order::Create { table, owner }))
     }
 }

@@ -3,7 +3,7 @@
 use rc_pen::{Pen, Spelling};
 use rc_reading::{Hosts, Kinds, ScenarioEvent};
 use rc_types::limits::MAX_HOSTS;
-use rc_types::{Addr, Body, Event, Kind, ServerId, Setup};
+use rc_types::{Addr, Body, Event, Kind, Order, ServerId, Setup};
 use std::alloc::{AllocError, Global};
 
 /// An event of a scenario that is left.
@@ -79,14 +79,14 @@ fn put_event(pen: &mut Pen, event: &Event) {
         Event::Tick(_) => pen.put("{\"e\":\"tick\",\"id\":\"c\"}"),
         Event::Stop(id) => put_named(pen, "stop", *id),
         Event::Start { host, kept } => put_start(pen, *host, kept.as_slice()),
-        Event::Suspect(id) => put_named(pen, "suspect", *id),
-        Event::Decide(id) => put_named(pen, "decide", *id),
-        Event::Create { table, owner } => {
+        Event::Order(Order::Suspect(id)) => put_named(pen, "suspect", *id),
+        Event::Order(Order::Decide(id)) => put_named(pen, "decide", *id),
+        Event::Order(Order::Create { table, owner }) => {
             pen.put_number("{\"e\":\"create\",\"table\":", u64::from(*table));
             put_id(pen, ",\"owner\":", *owner);
             pen.put("}");
         }
-        Event::Split { table, at } => {
+        Event::Order(Order::Split { table, at }) => {
             pen.put_number("{\"e\":\"split\",\"table\":", u64::from(*table));
             pen.put_number(",\"at\":", *at);
             pen.put("}");
