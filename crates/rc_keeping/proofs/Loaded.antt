@@ -13,6 +13,8 @@ use Rattle.rc_world.specs.HostParts.{HostParts, head_of, last_server, host_from}
 use Rattle.rc_world.specs.NodeView.{NodeData, OutsideData, CoordinatorData, HostNodeData, node_seen}
 use Rattle.rc_types.specs.declared.events.NodeWork.{NodeWork}
 use Rattle.rc_types.specs.declared.events.NodeWork.TheVariants as work
+use Rattle.rc_types.specs.declared.events.Order.{Order}
+use Rattle.rc_types.specs.declared.events.Order.TheVariants as order
 use Rattle.rc_keeping.specs.Claims.{AreReadFrom}
 use Rattle.rc_keeping.specs.Keeping.{host_given, coordinator_given}
 use Rattle.rc_keeping.specs.Spelling.{coded_work, journal_of}
@@ -115,8 +117,16 @@ kind_of (version ∷ kind ∷ rest) = kind
 abbrev is_of_save : ℕ → Bool
 is_of_save kind = nat_eq kind 9 || nat_eq kind 10
 
+order-kind : (x : Order) → is_of_save (kind_of (coded_work (work.Order x))) ≡ false
+unfolding kind_of
+order-kind (order.Suspect id) = refl
+order-kind (order.Decide id) = refl
+order-kind (order.Create table owner) = refl
+order-kind (order.Split table at) = refl
+
 work-kind : (w : NodeWork) → is_of_save (kind_of (coded_work w)) ≡ false
 unfolding kind_of
+work-kind (work.Order x) = order-kind x
 work-kind work.Tick = refl
 work-kind _ = refl
 

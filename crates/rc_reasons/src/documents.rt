@@ -41,31 +41,28 @@ fn put_found(pen: &mut Pen, found: &Found) {
         }
         None => pen.put("null"),
     }
-    let kind = found
-        .kind
-        .map(|words| (words.kind.name(), words.sections()));
-    put_named(pen, ",\"message\":", kind);
-    let event = found.event.map(|(name, event)| (name, event.sections()));
-    put_named(pen, ",\"event\":", event);
-    let rule = found.rule.map(|rule| (rule.name, rule.sections()));
-    put_named(pen, ",\"rule\":", rule);
+    pen.put(",\"message\":");
+    match found.kind {
+        Some(words) => put_named(pen, words.kind.name(), &words.sections()),
+        None => pen.put("null"),
+    }
+    pen.put(",\"event\":");
+    match found.event {
+        Some((name, event)) => put_named(pen, name, &event.sections()),
+        None => pen.put("null"),
+    }
+    pen.put(",\"rule\":");
+    match found.rule {
+        Some(rule) => put_named(pen, rule.name, &rule.sections()),
+        None => pen.put("null"),
+    }
     pen.put("}\n");
 }
 
-/// A member, and what a word names: its name and its texts.
-fn put_named<const N: usize>(
-    pen: &mut Pen,
-    member: &str,
-    found: Option<(&'static str, [Section; N])>,
-) {
-    pen.put(member);
-    match found {
-        Some((name, sections)) => {
-            pen.put_all("{\"name\":\"%\"", &[Piece::Words(name)]);
-            put_sections(pen, &sections);
-        }
-        None => pen.put("null"),
-    }
+/// What a word names: its name and its texts.
+fn put_named(pen: &mut Pen, name: &'static str, sections: &[Section]) {
+    pen.put_all("{\"name\":\"%\"", &[Piece::Words(name)]);
+    put_sections(pen, sections);
 }
 
 /// A member with a text, after its comma.

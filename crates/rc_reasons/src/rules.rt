@@ -29,8 +29,10 @@ impl Rule {
 /// The names of all rules that can be broken, in order.
 pub(crate) fn names() -> [&'static str; 44] {
     let mut names = [""; 44];
-    for (name, rule) in names.iter_mut().zip(FIRST.iter().chain(&LAST)) {
-        *name = rule.name;
+    for (at, rule) in FIRST.iter().chain(&LAST).enumerate() {
+        if at < names.len() {
+            names[at] = rule.name;
+        }
     }
     names
 }
