@@ -3,6 +3,7 @@
 import contextlib
 import shutil
 import subprocess
+import sys
 
 NAME = "reads_lemmas"
 
@@ -19,6 +20,8 @@ def lemmas_alone(folder):
     files = [it for it in listed.split() if not it.endswith(("/Answers.antt", "/Invariants.antt", "/Lib.antt"))]
     modules = [".".join(["Rattle", folder.name, *it.removesuffix(".antt").split("/")]) for it in files]
     text, answers = root.read_text(), folder / "proofs" / NAME
+    if answers.exists():
+        sys.exit(f"{answers} is there: a check was killed. Take it away, and `fn {NAME}` at the end of {root}")
     answers.mkdir()
     try:
         lines = [f"use {it} as Of{number}\n" for number, it in enumerate(modules)]

@@ -47,7 +47,7 @@ use std::time::Duration;
 const USAGE: &str = "usage: sevunthi COMMAND ..
   up                      runs a cluster; Ctrl-C ends it
       --folder cluster-data, and what `serve` takes, but not --secret and --index; --hosts, --factor and --segment
-      are as last time in the folder, unless given
+      are those that the folder has, unless given
   create TABLE [HOST]     makes a table, at this host or at the one that owns least
   put TABLE KEY VALUE, get TABLE KEY, delete TABLE KEY
       --patience 10000 (milliseconds for which it is tried). `--` ends the options: put 1 5 -- --value

@@ -116,9 +116,10 @@ impl Options {
         Ok(options)
     }
 
-    /// The same, where an option that is not given has its value in these.
-    pub fn with_defaults(&self, defaults: Options) -> Options {
-        let values = [defaults.values, self.values.clone()].concat();
+    /// The same, where an option that is not given has its value in these, of which only the values count: the last
+    /// one of a name does.
+    pub fn with_defaults(&self, defaults: &Options) -> Options {
+        let values = [&defaults.values[..], &self.values].concat();
         Options { values, flags: self.flags.clone(), words: self.words.clone() }
     }
 

@@ -17,8 +17,10 @@ use std::time::{Duration, Instant};
 /// How many bytes a secret has.
 const SECRET: usize = 32;
 
-/// What a folder's cluster has again where nothing else is said, and the file that keeps it.
+/// What a folder's cluster has again where nothing else is said.
 const KEPT: [&str; 3] = ["--hosts", "--factor", "--segment"];
+
+/// The file of the folder that keeps it.
 const KEPT_IN: &str = "options";
 
 /// A node takes and frees as many pieces of memory of a size as it is given messages at once. Where there is no
@@ -228,33 +230,54 @@ impl Drop for Cluster {
     }
 }
 
-/// What was said last time of the cluster in this folder.
+/// What was said of the cluster in this folder. A folder from before that was kept has as many hosts as have a folder
+/// there.
 fn kept_options(folder: &Path) -> Result<Options, String> {
     let file = folder.join(KEPT_IN);
     let told = |why: &dyn std::fmt::Display| format!("{}: {why}", file.display());
-    match fs::read_to_string(&file) {
-        Ok(text) => {
-            let words = text.split_whitespace().map(String::from);
-            options::Command::named("up").and_then(|up| Options::read(up, words)).map_err(|why| told(&why))
+    let text = match fs::read_to_string(&file) {
+        Ok(text) => text,
+        Err(error) if error.kind() == ErrorKind::NotFound => {
+            let last = (0..64).rev().find(|host| folder.join(format!("host{host}")).exists());
+            last.map_or(String::new(), |last| format!("--hosts {}", last + 1))
         }
-        Err(error) if error.kind() == ErrorKind::NotFound => Ok(Options::default()),
-        Err(error) => Err(told(&error)),
+        Err(error) => return Err(told(&error)),
+    };
+    let words: Vec<String> = text.split_whitespace().map(String::from).collect();
+    if let Some(other) = words.iter().step_by(2).find(|word| !KEPT.contains(&word.as_str())) {
+        return Err(told(&format!("{other} is nothing that is kept here")));
     }
+    let read = || {
+        let kept = Options::read(options::Command::named("up")?, words)?;
+        config(&kept, crate::target(&kept)?, PathBuf::new(), None, Vec::new())?;
+        Ok(kept)
+    };
+    read().map_err(|why: String| told(&why))
 }
 
-/// Keeps what is said of the cluster in this folder.
-fn keep_options(options: &Options, folder: &Path) -> Result<(), String> {
-    let said = KEPT.iter().filter_map(|name| options.given(name).map(|value| format!("{name} {value}\n")));
-    let file = folder.join(KEPT_IN);
-    fs::write(&file, said.collect::<String>()).map_err(|error| format!("{}: {error}", file.display()))
+/// Keeps how many hosts the cluster in this folder has; and of the first time what its hosts are made with.
+fn keep_options(folder: &Path, kept: &Options, config: &Config) -> Result<(), String> {
+    let factor = kept.get("--factor", config.factor)?;
+    let segment = kept.get("--segment", config.segment)?;
+    let text = format!("--hosts {}\n--factor {factor}\n--segment {segment}\n", config.hosts);
+    let [file, next] = [KEPT_IN, "options.next"].map(|name| folder.join(name));
+    if fs::read_to_string(&file).is_ok_and(|kept| kept == text) {
+        return Ok(());
+    }
+    let written =
+        File::create(&next).and_then(|mut next| next.write_all(text.as_bytes()).and_then(|()| next.sync_all()));
+    let kept = written.and_then(|()| fs::rename(&next, &file));
+    kept.map_err(|error| format!("{}: {error}", file.display()))
 }
 
 /// Runs a cluster: starts it, shows what changes, and starts again what ends.
 pub fn up(options: &Options) -> Result<(), String> {
     let folder: PathBuf = options.get("--folder", "cluster-data".to_string())?.into();
-    let options = &options.with_defaults(kept_options(&folder)?);
+    let kept = kept_options(&folder)?;
+    let options = &options.with_defaults(&kept);
     let target = crate::target(options)?;
-    let factor = config(options, target.clone(), PathBuf::new(), None, Vec::new())?.factor;
+    let config = config(options, target.clone(), PathBuf::new(), None, Vec::new())?;
+    let factor = config.factor;
     if target.hosts <= factor {
         let (least, hosts) = (factor + 1, target.hosts);
         return Err(format!(
@@ -268,7 +291,7 @@ pub fn up(options: &Options) -> Result<(), String> {
     more.extend(["--record", "--faults"].iter().filter(|flag| options.has(flag)).map(|flag| flag.to_string()));
     let mut cluster = Cluster::new(target, &folder, more)?;
     cluster.try_ports()?;
-    keep_options(options, &folder)?;
+    keep_options(&folder, &kept, &config)?;
     cluster.start_all()?;
     (0..cluster.places()).for_each(|place| show_process(&cluster, place));
     let mut shown = String::new();
@@ -341,11 +364,39 @@ mod tests {
         let target = Target { address: "127.0.0.1".to_string(), port, hosts: 4 };
         let _other = Cluster::new(target, &folder, Vec::new())?;
         assert!(why(&line).ends_with(": a cluster runs in this folder already"));
-        fs::write(folder.join(KEPT_IN), "--factor 4").map_err(|error| error.to_string())?;
-        assert_eq!(why(&line), "factor 4 needs 5 hosts, a master and 4 backups, and --hosts is 4");
-        assert!(why(&format!("{line} --factor 3")).ends_with(": a cluster runs in this folder already"));
-        fs::write(folder.join(KEPT_IN), "--hots 4").map_err(|error| error.to_string())?;
-        assert!(why(&line).ends_with("options: up has no option --hots"));
         fs::remove_dir_all(&folder).map_err(|error| error.to_string())
+    }
+
+    #[test]
+    fn what_was_said_of_a_folder_is_kept() -> Result<(), String> {
+        let folder = std::env::temp_dir().join(format!("sevunthi-kept-{}", std::process::id()));
+        let told = |error: std::io::Error| error.to_string();
+        fs::create_dir_all(folder.join("host5")).map_err(told)?;
+        let read = |line: &str| {
+            let words = line.split_whitespace().map(String::from);
+            Options::read(Words::named("up")?, words)
+        };
+        let kept = kept_options(&folder)?;
+        assert_eq!(kept.given("--hosts"), Some("6"));
+        let said = |line: &str| -> Result<String, String> {
+            let kept = kept_options(&folder)?;
+            let options = read(line)?.with_defaults(&kept);
+            let config = config(&options, crate::target(&options)?, PathBuf::new(), None, Vec::new())?;
+            keep_options(&folder, &kept, &config)?;
+            fs::read_to_string(folder.join(KEPT_IN)).map_err(told)
+        };
+        assert_eq!(said("--factor 1")?, "--hosts 6\n--factor 1\n--segment 1024\n");
+        assert_eq!(said("--factor 3 --hosts 7")?, "--hosts 7\n--factor 1\n--segment 1024\n");
+        assert_eq!(said("")?, "--hosts 7\n--factor 1\n--segment 1024\n");
+        for (text, why) in [
+            ("--hots 4", "options: --hots is nothing that is kept here"),
+            ("--hosts 4 --port 7", "options: --port is nothing that is kept here"),
+            ("--hosts 99", "options: --hosts is a number of 1 to 64, and not 99"),
+        ] {
+            fs::write(folder.join(KEPT_IN), text).map_err(told)?;
+            let refused = kept_options(&folder).err().unwrap_or_default();
+            assert!(refused.ends_with(why), "{refused}");
+        }
+        fs::remove_dir_all(&folder).map_err(told)
     }
 }
