@@ -36,7 +36,10 @@ impl Client {
 
     /// The server that is asked next, or the one that is drawn.
     pub(crate) fn asked(&self, drawn: ServerId) -> ServerId {
-        self.owner.unwrap_or(drawn)
+        match self.owner {
+            Some(id) => id,
+            None => drawn,
+        }
     }
 
     /// A write of one of the keys, with a number of the client's own; now and then a deletion.
@@ -101,9 +104,12 @@ impl Client {
 
     /// Whether a key was read since that did not show what was acknowledged.
     pub(crate) fn has_lost(&self) -> bool {
-        let told = self.told.as_slice();
-        let mut shown = self.shown.iter();
-        shown.any(|(key, version)| version_of(told, *key) > *version)
+        for (key, version) in self.shown.as_slice() {
+            if version_of(self.told.as_slice(), *key) > *version {
+                return true;
+            }
+        }
+        false
     }
 }
 
@@ -126,6 +132,10 @@ fn note(versions: &mut Vec<(u64, u64)>, key: u64, version: u64) -> Result<(), Al
 
 /// The greatest version of a key that was noted.
 fn version_of(versions: &[(u64, u64)], key: u64) -> u64 {
-    let found = versions.iter().find(|(known, _)| *known == key);
-    found.map_or(0, |(_, version)| *version)
+    for (known, version) in versions {
+        if *known == key {
+            return *version;
+        }
+    }
+    0
 }

@@ -7,7 +7,6 @@ use crate::node::Node;
 use crate::outcome::Counts;
 use crate::told::Told;
 use rc_codec::{DecodeFault, decode_message};
-use rc_coordinator::Coordinator;
 use rc_types::{Body, Fault, Message, NodeName, NodeWork, Seq, ServerId};
 use rc_world::{NodeState, StepFault};
 use std::alloc::Global;
@@ -71,13 +70,8 @@ impl Cluster {
             dice: Dice::of(seed),
             is_calm: true,
             sent: Vec::new(alloc),
-            counts: Counts::default(),
+            counts: Counts::new(),
         }
-    }
-
-    /// The node of this place; F18 where there is none.
-    fn node(&mut self, place: usize) -> Result<&mut Node, Fault> {
-        self.nodes.get_mut(place).ok_or(Fault::BadEvent)
     }
 
     /// All nodes are set up.
@@ -96,7 +90,10 @@ impl Cluster {
         place: usize,
         work: &NodeWork,
     ) -> Result<(), Fault> {
-        let done = self.node(place)?.give(work);
+        let done = match self.nodes.get_mut(place) {
+            Some(node) => node.give(work),
+            None => Err(Fault::BadEvent),
+        };
         self.follow(alloc, place, done)
     }
 
@@ -120,7 +117,7 @@ impl Cluster {
         if self.is_calm || self.dice.once_in(2) {
             self.sync(alloc, place)?;
         }
-        if self.node(place)?.wants_saving() {
+        if self.wants_saving(place) {
             self.save(alloc, place)?;
         }
         Ok(())
@@ -148,7 +145,10 @@ impl Cluster {
         if self.falls(place) {
             return Ok(());
         }
-        self.node(place)?.write()
+        match self.nodes.get_mut(place) {
+            Some(node) => node.write(),
+            None => Ok(()),
+        }
     }
 
     /// What was written is synced, and what may leave then leaves.
@@ -156,19 +156,32 @@ impl Cluster {
         if self.falls(place) {
             return Ok(());
         }
-        let count = self.node(place)?.sync_first();
+        let count = match self.nodes.get_mut(place) {
+            Some(node) => node.sync_first(),
+            None => 0,
+        };
         if self.falls(place) {
             return Ok(());
         }
-        self.node(place)?.sync_second();
+        if let Some(node) = self.nodes.get_mut(place) {
+            node.sync_second();
+        }
         if self.falls(place) {
             return Ok(());
         }
-        // the bytes that are safe are no more than the process has given to be written
-        if !self.node(place)?.note_synced(count) {
+        self.note_synced(place, count);
+        self.leave(alloc, place)
+    }
+
+    /// The process is told how many bytes are safe, which are no more than it has given to be written.
+    fn note_synced(&mut self, place: usize, count: usize) {
+        let is_known = match self.nodes.get_mut(place) {
+            Some(node) => node.note_synced(count),
+            None => true,
+        };
+        if !is_known {
             self.counts.damaged.count();
         }
-        self.leave(alloc, place)
     }
 
     /// What may leave leaves.
@@ -177,12 +190,20 @@ impl Cluster {
             if self.falls(place) {
                 return Ok(());
             }
-            let Some(batch) = self.node(place)?.leave() else {
+            let Some(batch) = self.ready(place) else {
                 return Ok(());
             };
             self.send_all(alloc, place, batch)?;
         }
         Ok(())
+    }
+
+    /// What one step has sent, and may leave.
+    fn ready(&mut self, place: usize) -> Option<Vec<Message>> {
+        match self.nodes.get_mut(place) {
+            Some(node) => node.leave(),
+            None => None,
+        }
     }
 
     /// These messages leave, and are noted.
@@ -209,13 +230,25 @@ impl Cluster {
         Ok(())
     }
 
+    /// Whether a save is under way, or is to be begun.
+    fn wants_saving(&self, place: usize) -> bool {
+        match self.nodes.get(place) {
+            Some(node) => node.wants_saving(),
+            None => false,
+        }
+    }
+
     /// A save goes on: to its end where all is calm, else by a step.
     fn save(&mut self, alloc: Global, place: usize) -> Result<(), Fault> {
         for _ in 0..4 {
             if self.falls(place) {
                 return Ok(());
             }
-            if self.node(place)?.go_on_saving(alloc)? {
+            let is_done = match self.nodes.get_mut(place) {
+                Some(node) => node.go_on_saving(alloc)?,
+                None => true,
+            };
+            if is_done {
                 self.counts.saves.count();
                 return Ok(());
             }
@@ -261,11 +294,26 @@ impl Cluster {
 
     /// These bytes come to a node.
     fn arrive(&mut self, alloc: Global, place: usize, bytes: &[u8]) -> Result<(), Fault> {
-        let given = self.node(place)?.give_message(bytes);
-        if let (Ok(message), Some(told)) = (&given, self.told.get_mut(place)) {
-            told.note_taken(message);
+        let given = match self.nodes.get_mut(place) {
+            Some(node) => node.give_message(bytes),
+            None => return Ok(()),
+        };
+        match given {
+            Ok(message) => {
+                self.note_free(place, &message);
+                self.follow(alloc, place, Ok(()))
+            }
+            Err(fault) => self.follow(alloc, place, Err(fault)),
         }
-        self.follow(alloc, place, given.map(|_| ()))
+    }
+
+    /// A segment is freed, of which a backup need not know any more.
+    fn note_free(&mut self, place: usize, message: &Message) {
+        if let Body::Free { seg } = &message.body {
+            if let Some(told) = self.told.get_mut(place) {
+                told.free(message.from, *seg);
+            }
+        }
     }
 
     /// These bytes come to the outside.
@@ -298,17 +346,16 @@ impl Cluster {
     /// A process comes back whose node is down, and has to know all that it told. A host is started with the open
     /// replicas that it still has; now and then it is said to have lost them.
     pub(crate) fn come_back(&mut self, alloc: Global, place: usize) -> Result<(), Fault> {
-        let node = self.node(place)?;
-        if !node.is_down() {
-            return Ok(());
-        }
-        match node.come_back(alloc) {
-            Ok(()) => {}
-            Err(Fault::OutOfMemory) => return Err(Fault::OutOfMemory),
-            Err(_) => {
-                self.counts.damaged.count();
-                return Ok(());
-            }
+        match self.nodes.get_mut(place) {
+            Some(node) if node.is_down() => match node.come_back(alloc) {
+                Ok(()) => {}
+                Err(Fault::OutOfMemory) => return Err(Fault::OutOfMemory),
+                Err(_) => {
+                    self.counts.damaged.count();
+                    return Ok(());
+                }
+            },
+            _ => return Ok(()),
         }
         if !self.knows_all(place) {
             self.counts.forgotten.count();
@@ -324,21 +371,21 @@ impl Cluster {
 
     /// Whether a node knows all that it ever told.
     fn knows_all(&self, place: usize) -> bool {
-        match (self.state(place), self.told.get(place)) {
+        let Some(node) = self.nodes.get(place) else {
+            return true;
+        };
+        match (node.state(), self.told.get(place)) {
             (Some(state), Some(told)) => told.is_known_to(state),
             _ => true,
         }
     }
 
-    /// The node of this place, to be looked at.
-    fn state(&self, place: usize) -> Option<&NodeState<Global>> {
-        self.nodes.get(place)?.state()
-    }
-
     /// A host is started, unless it runs.
     pub(crate) fn start(&mut self, alloc: Global, place: usize) -> Result<(), Fault> {
         let keeps = self.is_calm || !self.dice.once_in(40);
-        let node = self.node(place)?;
+        let Some(node) = self.nodes.get_mut(place) else {
+            return Ok(());
+        };
         let done = if keeps {
             node.start()
         } else {
@@ -351,14 +398,18 @@ impl Cluster {
                 told.restart(keeps);
             }
         }
-        // for those who suspect and ask
-        let generation = self
-            .state(place)
-            .map_or(0, |state| state.server().generation);
-        if let Some(newest) = self.generations.get_mut(place) {
-            *newest = generation.max(*newest);
-        }
+        self.note_generation(place);
         self.follow(alloc, place, done)
+    }
+
+    /// The generation of a host is noted, for those who suspect and ask.
+    fn note_generation(&mut self, place: usize) {
+        let Some(node) = self.nodes.get(place) else {
+            return;
+        };
+        if let (Some(server), Some(newest)) = (node.server(), self.generations.get_mut(place)) {
+            *newest = server.generation.max(*newest);
+        }
     }
 
     /// The newest server of a host.
@@ -371,18 +422,22 @@ impl Cluster {
 
     /// Whether no process has the node of this place.
     pub(crate) fn is_down(&self, place: usize) -> bool {
-        self.nodes.get(place).is_none_or(|node| node.is_down())
-    }
-
-    /// The coordinator, where a process has it.
-    fn coordinator(&self) -> Option<&Coordinator<Global>> {
-        self.state(COORDINATOR)?.as_coordinator()
+        match self.nodes.get(place) {
+            Some(node) => node.is_down(),
+            None => true,
+        }
     }
 
     /// The owners of tablets that have crashed, as the coordinator has them.
     pub(crate) fn crashed_owners(&self, alloc: Global) -> Result<Vec<ServerId>, Fault> {
         let mut owners = Vec::new(alloc);
-        if let Some(coordinator) = self.coordinator() {
+        let Some(node) = self.nodes.get(COORDINATOR) else {
+            return Ok(owners);
+        };
+        let Some(state) = node.state() else {
+            return Ok(owners);
+        };
+        if let Some(coordinator) = state.as_coordinator() {
             for tablet in coordinator.tablets(alloc)? {
                 if tablet.crashed {
                     owners.push(tablet.owner)?;

@@ -86,10 +86,7 @@ fn step(alloc: Global, cluster: &mut Cluster) -> Result<(), Fault> {
         151..=160 => cluster.come_back(alloc, host),
         161..=168 => cluster.come_back(alloc, COORDINATOR),
         169..=172 => suspect(alloc, cluster, host),
-        173..=178 => {
-            let place = cluster.dice.below(NODES);
-            cluster.sync(alloc, place)
-        }
+        173..=178 => sync(alloc, cluster),
         179..=180 => cluster.start(alloc, host),
         _ => decide(alloc, cluster, host),
     }
@@ -99,6 +96,12 @@ fn step(alloc: Global, cluster: &mut Cluster) -> Result<(), Fault> {
 fn crash(cluster: &mut Cluster, place: usize) -> Result<(), Fault> {
     cluster.crash(place);
     Ok(())
+}
+
+/// What a node has written is synced.
+fn sync(alloc: Global, cluster: &mut Cluster) -> Result<(), Fault> {
+    let place = cluster.dice.below(NODES);
+    cluster.sync(alloc, place)
 }
 
 /// The outside asks for a write.
@@ -134,7 +137,11 @@ fn suspect(alloc: Global, cluster: &mut Cluster, host: usize) -> Result<(), Faul
 /// does no harm.
 fn decide(alloc: Global, cluster: &mut Cluster, host: usize) -> Result<(), Fault> {
     let mut id = cluster.newest(host);
-    let back = cluster.dice.below(3).min(2) as u32;
+    let back = match cluster.dice.below(3) {
+        0 => 0,
+        1 => 1,
+        _ => 2,
+    };
     id.generation = id.generation.saturating_sub(back);
     cluster.give(alloc, COORDINATOR, &NodeWork::Order(Order::Decide(id)))
 }

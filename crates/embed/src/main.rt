@@ -35,15 +35,19 @@ use std::rt::Env;
 
 fn main(rt: HostRuntime) -> io::Result<()> {
     let Some((first, count)) = seeds(&rt)? else {
-        return println!(rt; "usage: embed FIRST COUNT");
+        println!(rt; "usage: embed FIRST COUNT")?;
+        return Ok(());
     };
-    let mut totals = Totals::default();
+    let mut totals = Totals::new();
     for number in 0..count {
         let outcome = outcome_of(rt.alloc(), first.saturating_add(number))?;
         totals.add(&outcome);
-        println!(rt; "{outcome}")?;
+        let line = outcome.line(rt.alloc())?;
+        println!(rt; "{line}")?;
     }
-    println!(rt; "{totals}")
+    let line = totals.line(rt.alloc())?;
+    println!(rt; "{line}")?;
+    Ok(())
 }
 
 /// What came of a seed.

@@ -5,7 +5,7 @@ use crate::dice::Dice;
 use crate::disk::{Disk, Stage};
 use rc_keeping::SaveFault;
 use rc_process::{BackFault, MessageFault, Process};
-use rc_types::{Fault, Message, NodeName, NodeWork};
+use rc_types::{Fault, Message, NodeName, NodeWork, ServerId};
 use rc_world::{NodeState, StepFault};
 use std::alloc::Global;
 
@@ -40,8 +40,11 @@ impl Node {
     /// The node is set up: its journal is the save of a new node, and that is safe.
     pub(crate) fn set_up(&mut self, alloc: Global) -> Result<(), Fault> {
         let mut save = Vec::new(alloc);
-        let process = Process::begin(alloc, begun(self.name, alloc), &mut save);
-        self.process = Some(process.map_err(save_fault)?);
+        match Process::begin(alloc, begun(self.name, alloc), &mut save) {
+            Ok(process) => self.process = Some(process),
+            Err(SaveFault::OutOfMemory) => return Err(Fault::OutOfMemory),
+            Err(SaveFault::Outside) => return Err(Fault::BadEvent),
+        }
         self.disk.write(save.as_slice())?;
         self.disk.sync_first();
         self.saved = save.len();
@@ -56,7 +59,18 @@ impl Node {
 
     /// The node, to be looked at.
     pub(crate) fn state(&self) -> Option<&NodeState<Global>> {
-        Some(self.process.as_ref()?.node())
+        match &self.process {
+            Some(process) => Some(process.node()),
+            None => None,
+        }
+    }
+
+    /// The server of a host's last start.
+    pub(crate) fn server(&self) -> Option<ServerId> {
+        match self.state() {
+            Some(state) => Some(state.server()),
+            None => None,
+        }
     }
 
     /// How many bytes its journal has.
@@ -140,7 +154,10 @@ impl Node {
 
     /// What may leave now.
     pub(crate) fn leave(&mut self) -> Option<Vec<Message>> {
-        self.process.as_mut()?.leave()
+        match &mut self.process {
+            Some(process) => process.leave(),
+            None => None,
+        }
     }
 
     /// Whether a save is under way, or the journal has become long since the last one.
@@ -169,7 +186,11 @@ impl Node {
         self.write()?;
         let mut save = Vec::new(alloc);
         if let Some(process) = &mut self.process {
-            process.begin_save(&mut save).map_err(save_fault)?;
+            match process.begin_save(&mut save) {
+                Ok(()) => {}
+                Err(SaveFault::OutOfMemory) => return Err(Fault::OutOfMemory),
+                Err(SaveFault::Outside) => return Err(Fault::BadEvent),
+            }
         }
         self.known = self.known.min(save.len());
         self.disk.begin_second(save);
@@ -225,13 +246,5 @@ fn fault_of(fault: StepFault) -> Fault {
     match fault {
         StepFault::Refused(fault) => fault,
         StepFault::NoRoom => Fault::BadEvent,
-    }
-}
-
-/// What a node without a save, as the outside, can't do.
-fn save_fault(fault: SaveFault) -> Fault {
-    match fault {
-        SaveFault::OutOfMemory => Fault::OutOfMemory,
-        SaveFault::Outside => Fault::BadEvent,
     }
 }

@@ -3,10 +3,9 @@
 use crate::cluster::Cluster;
 use rc_types::{Body, Code, Message};
 use std::alloc::{AllocError, Global};
-use std::fmt;
 
 /// A number that only rises.
-#[derive(Clone, Copy, Default)]
+#[derive(Clone, Copy)]
 pub(crate) struct Count {
     pub(crate) number: u64,
 }
@@ -24,7 +23,7 @@ impl Count {
 }
 
 /// What has happened, as whoever looks on counts it.
-#[derive(Clone, Copy, Default)]
+#[derive(Clone, Copy)]
 pub(crate) struct Counts {
     pub(crate) works: Count,
     pub(crate) delivered: Count,
@@ -39,6 +38,23 @@ pub(crate) struct Counts {
 }
 
 impl Counts {
+    /// Nothing yet.
+    pub(crate) fn new() -> Counts {
+        let none = Count { number: 0 };
+        Counts {
+            works: none,
+            delivered: none,
+            lost: none,
+            repeated: none,
+            saves: none,
+            kills: none,
+            forgotten: none,
+            damaged: none,
+            power_cuts: none,
+            unsynced: none,
+        }
+    }
+
     /// The power of a node was cut, of whose journal so many bytes were not synced.
     pub(crate) fn cut_power(&mut self, unsynced: usize) {
         self.power_cuts.count();
@@ -114,54 +130,69 @@ impl Outcome {
         self.is_clean && !self.has_lost && knows_all && !matches!(self.ending, Ending::Stuck)
     }
 
+    /// What is told of it.
+    pub(crate) fn line(&self, alloc: Global) -> Result<String, AllocError> {
+        let mut text = String::new(alloc);
+        let mut pen = Pen {
+            text: &mut text,
+            refused: false,
+        };
+        self.tell(&mut pen);
+        if pen.refused {
+            return Err(AllocError);
+        }
+        Ok(text)
+    }
+
+    /// Tells it.
+    fn tell(&self, pen: &mut Pen<'_>) {
+        pen.number("seed ", self.seed);
+        pen.number(" works ", self.counts.works.number);
+        pen.number(" messages ", self.messages);
+        pen.number(" delivered ", self.counts.delivered.number);
+        pen.number(" lost ", self.counts.lost.number);
+        pen.number(" repeated ", self.counts.repeated.number);
+        pen.number(" kills ", self.counts.kills.number);
+        pen.number(" power-cuts ", self.counts.power_cuts.number);
+        pen.number(" unsynced-bytes ", self.counts.unsynced.number);
+        pen.number(" saves ", self.counts.saves.number);
+        pen.number(" journal-bytes ", self.journals);
+        pen.number(" acknowledged ", self.acknowledged);
+        pen.number(" recoveries ", self.recoveries);
+        self.tell_ending(pen);
+        self.tell_wrongs(pen);
+    }
+
     /// Tells what became of the table.
-    fn tell_ending<W: fmt::Write>(&self, f: &mut fmt::Formatter<W>) -> fmt::Result {
+    fn tell_ending(&self, pen: &mut Pen<'_>) {
         match self.ending {
-            Ending::Served => write!(f, " served"),
-            Ending::Refused(code) => write!(f, " refused {code}"),
-            Ending::Stuck => write!(f, " stuck"),
+            Ending::Served => pen.put(" served"),
+            Ending::Refused(code) => pen.number(" refused F", u64::from(code.number())),
+            Ending::Stuck => pen.put(" stuck"),
         }
     }
 
     /// Tells what was wrong, if anything was.
-    fn tell_wrongs<W: fmt::Write>(&self, f: &mut fmt::Formatter<W>) -> fmt::Result {
+    fn tell_wrongs(&self, pen: &mut Pen<'_>) {
         if self.counts.forgotten.number > 0 {
-            write!(f, " forgotten {}", self.counts.forgotten.number)?;
+            pen.number(" forgotten ", self.counts.forgotten.number);
         }
         if self.counts.damaged.number > 0 {
-            write!(f, " damaged {}", self.counts.damaged.number)?;
+            pen.number(" damaged ", self.counts.damaged.number);
         }
         if self.has_lost {
-            write!(f, " lost")?;
+            pen.put(" lost");
         }
-        let audit = if self.is_clean { "clean" } else { "breach" };
-        write!(f, " audit {audit}")
-    }
-}
-
-/// What is told of it.
-impl fmt::Display for Outcome {
-    fn fmt<W: fmt::Write>(&self, f: &mut fmt::Formatter<W>) -> fmt::Result {
-        let counts = &self.counts;
-        write!(f, "seed {} works {}", self.seed, counts.works.number)?;
-        write!(f, " messages {}", self.messages)?;
-        write!(f, " delivered {}", counts.delivered.number)?;
-        write!(f, " lost {}", counts.lost.number)?;
-        write!(f, " repeated {}", counts.repeated.number)?;
-        write!(f, " kills {}", counts.kills.number)?;
-        write!(f, " power-cuts {}", counts.power_cuts.number)?;
-        write!(f, " unsynced-bytes {}", counts.unsynced.number)?;
-        write!(f, " saves {}", counts.saves.number)?;
-        write!(f, " journal-bytes {}", self.journals)?;
-        write!(f, " acknowledged {}", self.acknowledged)?;
-        write!(f, " recoveries {}", self.recoveries)?;
-        self.tell_ending(f)?;
-        self.tell_wrongs(f)
+        pen.put(if self.is_clean {
+            " audit clean"
+        } else {
+            " audit breach"
+        });
     }
 }
 
 /// What came of all seeds.
-#[derive(Clone, Copy, Default)]
+#[derive(Clone, Copy)]
 pub(crate) struct Totals {
     seeds: Count,
     recovered: Count,
@@ -171,6 +202,18 @@ pub(crate) struct Totals {
 }
 
 impl Totals {
+    /// Of no seed.
+    pub(crate) fn new() -> Totals {
+        let none = Count { number: 0 };
+        Totals {
+            seeds: none,
+            recovered: none,
+            served: none,
+            refused: none,
+            right: none,
+        }
+    }
+
     /// One seed more.
     pub(crate) fn add(&mut self, outcome: &Outcome) {
         self.seeds.count();
@@ -186,22 +229,29 @@ impl Totals {
             self.right.count();
         }
     }
-}
 
-/// What is told of them.
-impl fmt::Display for Totals {
-    fn fmt<W: fmt::Write>(&self, f: &mut fmt::Formatter<W>) -> fmt::Result {
-        write!(f, "{} seeds", self.seeds.number)?;
-        write!(f, ", with a recovery {}", self.recovered.number)?;
-        write!(f, ", served {}", self.served.number)?;
-        write!(f, ", refused {}", self.refused.number)?;
-        write!(f, ", right {}", self.right.number)
+    /// What is told of them.
+    pub(crate) fn line(&self, alloc: Global) -> Result<String, AllocError> {
+        let mut text = String::new(alloc);
+        let mut pen = Pen {
+            text: &mut text,
+            refused: false,
+        };
+        pen.number("", self.seeds.number);
+        pen.number(" seeds, with a recovery ", self.recovered.number);
+        pen.number(", served ", self.served.number);
+        pen.number(", refused ", self.refused.number);
+        pen.number(", right ", self.right.number);
+        if pen.refused {
+            return Err(AllocError);
+        }
+        Ok(text)
     }
 }
 
 /// How many writes were acknowledged.
 fn acknowledged_in(sent: &[Message]) -> u64 {
-    let mut count = Count::default();
+    let mut count = Count { number: 0 };
     for message in sent {
         if matches!(&message.body, Body::WriteOk { .. }) {
             count.count();
@@ -210,16 +260,53 @@ fn acknowledged_in(sent: &[Message]) -> u64 {
     count.number
 }
 
-/// How many ranges were granted to who has recovered them, each under a term of its own.
+/// How many ranges were granted to who has recovered them.
 fn recoveries_in(alloc: Global, sent: &[Message]) -> Result<u64, AllocError> {
     let mut terms = Vec::new(alloc);
     for message in sent {
-        match &message.body {
-            Body::Own { term, attempt, .. } if *attempt > 0 && !terms.contains(term) => {
-                terms.push(*term)?;
-            }
-            _ => {}
+        if let Some(term) = recovered(message) {
+            add_once(&mut terms, term)?;
         }
     }
     Ok(terms.len() as u64)
+}
+
+/// The term of a grant that ends a recovery.
+fn recovered(message: &Message) -> Option<u32> {
+    match &message.body {
+        Body::Own { term, attempt, .. } if *attempt > 0 => Some(*term),
+        _ => None,
+    }
+}
+
+/// Adds a term that is not there yet.
+fn add_once(terms: &mut Vec<u32>, term: u32) -> Result<(), AllocError> {
+    if !terms.contains(&term) {
+        terms.push(term)?;
+    }
+    Ok(())
+}
+
+/// Writes at the end of a text. Once it was refused memory it writes nothing more.
+#[derive(Drop)]
+struct Pen<'a> {
+    text: &'a mut String,
+    refused: bool,
+}
+
+impl<'a> Pen<'a> {
+    /// Writes these letters.
+    fn put(&mut self, letters: &str) {
+        if !self.refused {
+            self.refused = self.text.push_str(letters).is_err();
+        }
+    }
+
+    /// Writes these letters, and then a number.
+    fn number(&mut self, letters: &str, number: u64) {
+        self.put(letters);
+        if !self.refused {
+            self.refused = write!(self.text, "{number}").is_err();
+        }
+    }
 }

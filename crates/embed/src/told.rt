@@ -148,11 +148,11 @@ impl Told {
         self.fenced.clear();
     }
 
-    /// A message has come. Where a master frees a segment, its backup need not know of it any more.
-    pub(crate) fn note_taken(&mut self, message: &Message) {
-        if let (Body::Free { seg }, Addr::Server(master)) = (&message.body, message.from) {
+    /// A master frees a segment on the host.
+    pub(crate) fn free(&mut self, from: Addr, seg: u16) {
+        if let Addr::Server(master) = from {
             self.stored
-                .retain(|one| one.master != master || one.seg != *seg);
+                .retain(|one| one.master != master || one.seg != seg);
         }
     }
 
@@ -171,15 +171,27 @@ impl Told {
 
     /// Whether a backup does.
     fn is_known_to_backup(&self, backup: &Backup) -> bool {
-        let has_all = self.stored.iter().all(|one| one.is_in(backup));
-        has_all && self.fenced.iter().all(|id| backup.is_fenced(*id))
+        for one in self.stored.as_slice() {
+            if !one.is_in(backup) {
+                return false;
+            }
+        }
+        for master in self.fenced.as_slice() {
+            if !backup.is_fenced(*master) {
+                return false;
+            }
+        }
+        true
     }
 
     /// Whether the coordinator does.
     fn is_known_to_coordinator(&self, coordinator: &Coordinator<Global>) -> bool {
-        let mut least = self.least.iter();
-        least.all(|(master, pair)| has_least(coordinator, *master, *pair))
-            && coordinator.servers().version() >= self.version
+        for (master, pair) in self.least.as_slice() {
+            if !has_least(coordinator, *master, *pair) {
+                return false;
+            }
+        }
+        coordinator.servers().version() >= self.version
             && coordinator.last_term() >= self.term
             && coordinator.attempts().len() >= self.attempt as usize
     }
