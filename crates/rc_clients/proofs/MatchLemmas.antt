@@ -138,7 +138,8 @@ written_skips {history} {e} {left} (write, h) was = matched_skip written was
 
 -- An entry that takes a write
 
-lower : {a : VersionName} (b : VersionName) → version_order a b ≡ Less → a.table ≡ b.table → a.key ≡ b.key → a.version < b.version
+lower : {a : VersionName} (b : VersionName) → version_order a b ≡ Less → a.table ≡ b.table →
+    a.key ≡ b.key → a.version < b.version
 lower {a} b less table key = number (sym versions ∙ less)
   where
     versions : version_order a b ≡ nat_cmp a.version b.version

@@ -1,13 +1,15 @@
 -- A first byte that names no kind, or that of an order.
-use Rattle.std.proofs.Common.{◌≡◌, ℕ, zero, suc, ◌-◌, ◌≤◌, List, [], ◌∷◌, length, Option, Some, None, refl, ap, ◌∙◌, arith}
+use Rattle.std.proofs.Common.{◌≡◌, ℕ, zero, suc, ◌-◌, ◌≤◌, List, []}
+use Rattle.std.proofs.Common.{◌∷◌, length, Option, Some, None, refl, ap, ◌∙◌, arith}
 use Rattle.std.specs.Prelude.{slice_get, map}
 use Rattle.rc_types.specs.declared.events.Event.TheVariants as event
 use Rattle.rc_types.specs.declared.events.Order.{Order}
 use Rattle.rc_codec.specs.Reading.{◌>>=◌, Reader, made, Fails}
 use Rattle.rc_codec.specs.declared.faults.DecodeFault.{DecodeFault}
 use Rattle.rc_codec.specs.declared.faults.DecodeFault.TheVariants.{OutOfMemory, Malformed}
-use Rattle.rc_codec.specs.Readers.{chosen_at, bodies, ask_at, deliver_at, tick_at, stop_at, start_at, events, orders, ordered, order_at}
-use Rattle.rc_codec.specs.Readers.{event_at}
+use Rattle.rc_codec.specs.Fields.{chosen_at}
+use Rattle.rc_codec.specs.Bodies.{bodies}
+use Rattle.rc_codec.specs.Events.{ask_at, deliver_at, tick_at, stop_at, start_at, events, orders, ordered, order_at, event_at}
 
 pub past : {A : Type 0} (table : List A) (k : ℕ) → length table ≤ k → slice_get table k ≡ None
 past [] k h = refl
@@ -53,7 +55,8 @@ pub event_ordered : (k : ℕ) (xs : List ℕ) (x : Order) (rest : List ℕ) → 
 unfolding event_at
 event_ordered k xs x rest far read = event_orders k xs far ∙ ap (with_order event.Order) read
 
-pub event_fails : (k : ℕ) (xs : List ℕ) (fault : DecodeFault) → 5 ≤ k → Fails fault (order_at k xs) → Fails fault (event_at (k ∷ xs))
+pub event_fails : (k : ℕ) (xs : List ℕ) (fault : DecodeFault) → 5 ≤ k → Fails fault (order_at k xs) →
+    Fails fault (event_at (k ∷ xs))
 unfolding event_at
 event_fails k xs OutOfMemory far read = tt
 event_fails k xs Malformed far read = event_orders k xs far ∙ ap (with_order event.Order) read

@@ -1,5 +1,6 @@
 -- Each coding is read back, and nothing else is: the parts, the messages, the events.
-use Rattle.std.proofs.Common.{◌≡◌, ℕ, zero, suc, ◌+◌, ◌≤◌, List, [], ◌∷◌, ◌++◌, Option, Some, None, refl, sym, ap, ◌∙◌, arith}
+use Rattle.std.proofs.Common.{◌≡◌, ℕ, zero, suc, ◌+◌, ◌≤◌, List, [], ◌∷◌}
+use Rattle.std.proofs.Common.{◌++◌, Option, Some, None, refl, sym, ap, ◌∙◌, arith}
 use Rattle.std.specs.Prelude.{map, slice_get}
 use Rattle.rc_types.specs.Codes.{code_number}
 use Rattle.rc_types.specs.declared.events.Event.{Event}
@@ -13,14 +14,13 @@ use Rattle.rc_types.specs.declared.ids.Addr.TheVariants as addr
 use Rattle.rc_types.specs.declared.messages.Body.{Body}
 use Rattle.rc_types.specs.declared.messages.Body.TheVariants as body
 use Rattle.rc_codec.specs.Parts.{number, byte, two_bytes, four_bytes, eight_bytes, flag}
-use Rattle.rc_codec.specs.Spelling.{id_code, addr_code, refusal_code, value_code, entry_code, row_code, plan_row_code, range_code}
-use Rattle.rc_codec.specs.Spelling.{part_code, up_code}
-use Rattle.rc_codec.specs.Spelling.{kept_code, body_code, message_code, order_code, event_code, coded_message, coded_event}
+use Rattle.rc_codec.specs.Fields.{id_code, addr_code, refusal_code, value_code, entry_code, row_code, plan_row_code, range_code}
+use Rattle.rc_codec.specs.Fields.{part_code, up_code, kept_code, u8_at, u16_at, u32_at, u64_at, id_at, addr_at, addrs, chosen_at}
+use Rattle.rc_codec.specs.Fields.{refusals, refusal_at, value_at, entry_at, row_at, plan_row_at, range_at, part_at, up_at, kept_at}
+use Rattle.rc_codec.specs.Fields.{versioned_at}
+use Rattle.rc_codec.specs.Bodies.{body_code, message_code, coded_message, bodies, body_at, message_at}
+use Rattle.rc_codec.specs.Events.{order_code, event_code, coded_event, events, orders, order_at, ordered, event_at}
 use Rattle.rc_codec.specs.Reading.{◌>>=◌, Reader, made, flag_at}
-use Rattle.rc_codec.specs.Readers.{u8_at, u16_at, u32_at, u64_at, id_at, addr_at, addrs, chosen_at, refusals, refusal_at, value_at}
-use Rattle.rc_codec.specs.Readers.{entry_at, row_at, plan_row_at, range_at, part_at, up_at, kept_at, bodies, body_at, message_at, events}
-use Rattle.rc_codec.specs.Readers.{orders, order_at, ordered, event_at}
-use Rattle.rc_codec.specs.Readers.{versioned_at}
 use Rattle.rc_codec.proofs.Lawful.{IsBytes, Lawful, bind_some, some_is, made_again, made_lawful, pair_lawful, three_lawful, four_lawful}
 use Rattle.rc_codec.proofs.Lawful.{five_lawful, six_lawful, number_lawful, flag_lawful, bytes_lawful, optional_lawful, listed_lawful}
 use Rattle.rc_codec.proofs.Lawful.{nothing_lawful, AreRight, all_right, kind_right, made_right, chosen_lawful, versioned_lawful}

@@ -9,7 +9,7 @@ use Rattle.std.proofs.lemmas.List.Concat.{flat_map-cons}
 use Rattle.rc_codec.specs.Parts.{number, flag, bytes, optional, listed}
 use Rattle.rc_codec.specs.Reading.{◌>>=◌, Reader, made, ◌⊗◌, nothing_at, three, four, five, six, number_at, flag_at, bytes_at, optional_at}
 use Rattle.rc_codec.specs.Reading.{each_at, listed_at}
-use Rattle.rc_codec.specs.Readers.{chosen_at, versioned_at}
+use Rattle.rc_codec.specs.Fields.{chosen_at, versioned_at}
 
 abbrev pub IsBytes : List ℕ → Type 0
 IsBytes xs = (i : ℕ) → get_or xs i 0 < 256

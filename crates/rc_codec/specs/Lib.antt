@@ -1,5 +1,6 @@
 pub mod Parts
-pub mod Spelling
 pub mod Reading
-pub mod Readers
+pub mod Fields
+pub mod Bodies
+pub mod Events
 pub mod Claims

@@ -2,7 +2,7 @@
 
 ghost use Rattle.std.specs.Prelude.{◌∷◌, ◌≤◌};
 ghost use Rattle.rc_codec.specs.Reading.{Gives};
-ghost use Rattle.rc_codec.specs.Readers.{ask_at, start_at, create_at, split_at, order_at, event_at};
+ghost use Rattle.rc_codec.specs.Events.{ask_at, start_at, create_at, split_at, order_at, event_at};
 
 use crate::coded::{Put, Take, put_kind};
 use crate::faults::DecodeFault;
@@ -10,7 +10,7 @@ use rc_types::{Addr, Body, Event, Order, Seq, ServerId};
 use std::alloc::{AllocError, Global};
 
 impl Put for Event {
-    ghost use Rattle.rc_codec.specs.Spelling.{event_code};
+    ghost use Rattle.rc_codec.specs.Events.{event_code};
 
     ghost code = { event_code };
 
@@ -29,7 +29,7 @@ impl Put for Event {
 impl Take for Event {
     ghost read = { event_at };
 
-    #[tactic(auto, unfolding(crate::specs::Readers::event_at))]
+    #[tactic(auto, unfolding(crate::specs::Events::event_at))]
     fn take(alloc: Global, bytes: &[u8]) -> Result<(Event, &[u8]), DecodeFault> {
         match bytes {
             [kind, rest @ ..] => take_kind(alloc, *kind, rest),
@@ -39,7 +39,7 @@ impl Take for Event {
 }
 
 /// What stands behind a kind.
-#[tactic(auto, unfolding(crate::specs::Readers::event_at))]
+#[tactic(auto, unfolding(crate::specs::Events::event_at))]
 fn take_kind(alloc: Global, kind: u8, bytes: &[u8]) -> Result<(Event, &[u8]), DecodeFault>
     ensures { Gives (λ x. (x.0, x.1.now)) result (event_at (kind ∷ bytes.now)) }
 {
@@ -86,7 +86,7 @@ fn take_start(alloc: Global, bytes: &[u8]) -> Result<(Event, &[u8]), DecodeFault
 }
 
 impl Put for Order {
-    ghost use Rattle.rc_codec.specs.Spelling.{order_code};
+    ghost use Rattle.rc_codec.specs.Events.{order_code};
 
     ghost code = { order_code };
 

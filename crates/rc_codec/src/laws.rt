@@ -1,7 +1,8 @@
 //! What the bytes of messages and events have in common, as contracts of functions that do nothing.
 
 ghost use Rattle.rc_codec.specs.Claims.{IsPrefixFree};
-ghost use Rattle.rc_codec.specs.Spelling.{coded_message, coded_event};
+ghost use Rattle.rc_codec.specs.Bodies.{coded_message};
+ghost use Rattle.rc_codec.specs.Events.{coded_event};
 
 /// Bytes that begin with a message begin with one only, and no message's bytes begin another's. So it
 /// is of events.

@@ -12,10 +12,10 @@
 //! is taken by a length that was only read: a value's bytes are copied once they are seen to be there,
 //! and a list grows as its elements are read.
 //!
-//! To be read in this order: `specs/Parts.antt` and `specs/Spelling.antt`, the bytes of each part and of
-//! each kind; `specs/Claims.antt`, what is promised; `whole`, the calls; `coded`, the two traits that
-//! the parts have in common. `specs/Reading.antt` and `specs/Readers.antt` say how bytes are read, which
-//! only proofs need.
+//! To be read in this order: `specs/Parts.antt`, `Fields.antt`, `Bodies.antt` and `Events.antt`, the bytes
+//! of numbers and lists, of the parts, and of each kind, with how each of them is read; `specs/Claims.antt`,
+//! what is promised; `whole`, the calls; `coded`, the two traits that the parts have in common.
+//! `specs/Reading.antt` has what readers are made of, which only proofs need.
 #![tactic(auto)]
 
 mod bodies;

@@ -12,7 +12,7 @@ use std::alloc::{AllocError, Global};
 
 /// 0 where there is none; else 1, the length in eight bytes, and the bytes.
 impl Put for Option<Shared<u8>> {
-    ghost use Rattle.rc_codec.specs.Spelling.{value_code};
+    ghost use Rattle.rc_codec.specs.Fields.{value_code};
 
     ghost code = { value_code };
 
@@ -49,7 +49,7 @@ fn put_all(value: &[u8], out: &mut Vec<u8>) -> Result<(), AllocError>
 }
 
 impl Take for Option<Shared<u8>> {
-    ghost use Rattle.rc_codec.specs.Readers.{value_at};
+    ghost use Rattle.rc_codec.specs.Fields.{value_at};
 
     ghost read = { value_at };
 

@@ -6,7 +6,7 @@ use rc_types::{Addr, Body, Message};
 use std::alloc::{AllocError, Global};
 
 impl Put for Message {
-    ghost use Rattle.rc_codec.specs.Spelling.{message_code};
+    ghost use Rattle.rc_codec.specs.Bodies.{message_code};
 
     ghost code = { message_code };
 
@@ -16,7 +16,7 @@ impl Put for Message {
 }
 
 impl Take for Message {
-    ghost use Rattle.rc_codec.specs.Readers.{message_at};
+    ghost use Rattle.rc_codec.specs.Bodies.{message_at};
 
     ghost read = { message_at };
 

@@ -17,7 +17,7 @@ impl Put for u8 {
 }
 
 impl Take for u8 {
-    ghost use Rattle.rc_codec.specs.Readers.{u8_at};
+    ghost use Rattle.rc_codec.specs.Fields.{u8_at};
 
     ghost read = { u8_at };
 
@@ -42,7 +42,7 @@ impl Put for u16 {
 }
 
 impl Take for u16 {
-    ghost use Rattle.rc_codec.specs.Readers.{u16_at};
+    ghost use Rattle.rc_codec.specs.Fields.{u16_at};
 
     ghost read = { u16_at };
 
@@ -68,7 +68,7 @@ impl Put for u32 {
 }
 
 impl Take for u32 {
-    ghost use Rattle.rc_codec.specs.Readers.{u32_at};
+    ghost use Rattle.rc_codec.specs.Fields.{u32_at};
 
     ghost read = { u32_at };
 
@@ -94,7 +94,7 @@ impl Put for u64 {
 }
 
 impl Take for u64 {
-    ghost use Rattle.rc_codec.specs.Readers.{u64_at};
+    ghost use Rattle.rc_codec.specs.Fields.{u64_at};
 
     ghost read = { u64_at };
 
@@ -122,7 +122,7 @@ impl Put for usize {
 }
 
 impl Take for usize {
-    ghost use Rattle.rc_codec.specs.Readers.{u64_at};
+    ghost use Rattle.rc_codec.specs.Fields.{u64_at};
 
     ghost read = { u64_at };
 

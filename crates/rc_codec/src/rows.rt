@@ -9,7 +9,7 @@ use rc_types::{
 use std::alloc::{AllocError, Global};
 
 impl Put for ServerId {
-    ghost use Rattle.rc_codec.specs.Spelling.{id_code};
+    ghost use Rattle.rc_codec.specs.Fields.{id_code};
 
     ghost code = { id_code };
 
@@ -19,7 +19,7 @@ impl Put for ServerId {
 }
 
 impl Take for ServerId {
-    ghost use Rattle.rc_codec.specs.Readers.{id_at};
+    ghost use Rattle.rc_codec.specs.Fields.{id_at};
 
     ghost read = { id_at };
 
@@ -32,7 +32,7 @@ impl Take for ServerId {
 
 /// The coordinator is 0, a server 1 and its id, the outside 2.
 impl Put for Addr {
-    ghost use Rattle.rc_codec.specs.Spelling.{addr_code};
+    ghost use Rattle.rc_codec.specs.Fields.{addr_code};
 
     ghost code = { addr_code };
 
@@ -46,7 +46,7 @@ impl Put for Addr {
 }
 
 impl Take for Addr {
-    ghost use Rattle.rc_codec.specs.Readers.{addr_at};
+    ghost use Rattle.rc_codec.specs.Fields.{addr_at};
 
     ghost read = { addr_at };
 
@@ -65,7 +65,7 @@ impl Take for Addr {
 
 /// A refusal is the number behind its `F`.
 impl Put for Code {
-    ghost use Rattle.rc_codec.specs.Spelling.{refusal_code};
+    ghost use Rattle.rc_codec.specs.Fields.{refusal_code};
 
     ghost code = { refusal_code };
 
@@ -75,7 +75,7 @@ impl Put for Code {
 }
 
 impl Take for Code {
-    ghost use Rattle.rc_codec.specs.Readers.{refusal_at};
+    ghost use Rattle.rc_codec.specs.Fields.{refusal_at};
 
     ghost read = { refusal_at };
 
@@ -112,7 +112,7 @@ impl Take for Code {
 }
 
 impl Put for Entry {
-    ghost use Rattle.rc_codec.specs.Spelling.{entry_code};
+    ghost use Rattle.rc_codec.specs.Fields.{entry_code};
 
     ghost code = { entry_code };
 
@@ -122,7 +122,7 @@ impl Put for Entry {
 }
 
 impl Take for Entry {
-    ghost use Rattle.rc_codec.specs.Readers.{entry_at};
+    ghost use Rattle.rc_codec.specs.Fields.{entry_at};
 
     ghost read = { entry_at };
 
@@ -146,7 +146,7 @@ impl Take for Entry {
 }
 
 impl Put for Row {
-    ghost use Rattle.rc_codec.specs.Spelling.{row_code};
+    ghost use Rattle.rc_codec.specs.Fields.{row_code};
 
     ghost code = { row_code };
 
@@ -156,7 +156,7 @@ impl Put for Row {
 }
 
 impl Take for Row {
-    ghost use Rattle.rc_codec.specs.Readers.{row_at};
+    ghost use Rattle.rc_codec.specs.Fields.{row_at};
 
     ghost read = { row_at };
 
@@ -180,7 +180,7 @@ impl Take for Row {
 }
 
 impl Put for PlanRow {
-    ghost use Rattle.rc_codec.specs.Spelling.{plan_row_code};
+    ghost use Rattle.rc_codec.specs.Fields.{plan_row_code};
 
     ghost code = { plan_row_code };
 
@@ -190,7 +190,7 @@ impl Put for PlanRow {
 }
 
 impl Take for PlanRow {
-    ghost use Rattle.rc_codec.specs.Readers.{plan_row_at};
+    ghost use Rattle.rc_codec.specs.Fields.{plan_row_at};
 
     ghost read = { plan_row_at };
 
@@ -202,7 +202,7 @@ impl Take for PlanRow {
 }
 
 impl Put for Part {
-    ghost use Rattle.rc_codec.specs.Spelling.{part_code};
+    ghost use Rattle.rc_codec.specs.Fields.{part_code};
 
     ghost code = { part_code };
 
@@ -212,7 +212,7 @@ impl Put for Part {
 }
 
 impl Take for Part {
-    ghost use Rattle.rc_codec.specs.Readers.{part_at};
+    ghost use Rattle.rc_codec.specs.Fields.{part_at};
 
     ghost read = { part_at };
 
@@ -228,7 +228,7 @@ impl Take for Part {
 }
 
 impl Put for Pair {
-    ghost use Rattle.rc_codec.specs.Spelling.{pair_code};
+    ghost use Rattle.rc_codec.specs.Fields.{pair_code};
 
     ghost code = { pair_code };
 
@@ -238,7 +238,7 @@ impl Put for Pair {
 }
 
 impl Take for Pair {
-    ghost use Rattle.rc_codec.specs.Readers.{pair_at};
+    ghost use Rattle.rc_codec.specs.Fields.{pair_at};
 
     ghost read = { pair_at };
 
@@ -249,7 +249,7 @@ impl Take for Pair {
 }
 
 impl Put for Tablet {
-    ghost use Rattle.rc_codec.specs.Spelling.{tablet_code};
+    ghost use Rattle.rc_codec.specs.Fields.{tablet_code};
 
     ghost code = { tablet_code };
 
@@ -259,7 +259,7 @@ impl Put for Tablet {
 }
 
 impl Take for Tablet {
-    ghost use Rattle.rc_codec.specs.Readers.{tablet_at};
+    ghost use Rattle.rc_codec.specs.Fields.{tablet_at};
 
     ghost read = { tablet_at };
 
@@ -278,7 +278,7 @@ impl Take for Tablet {
 }
 
 impl Put for KeyRange {
-    ghost use Rattle.rc_codec.specs.Spelling.{range_code};
+    ghost use Rattle.rc_codec.specs.Fields.{range_code};
 
     ghost code = { range_code };
 
@@ -288,7 +288,7 @@ impl Put for KeyRange {
 }
 
 impl Take for KeyRange {
-    ghost use Rattle.rc_codec.specs.Readers.{range_at};
+    ghost use Rattle.rc_codec.specs.Fields.{range_at};
 
     ghost read = { range_at };
 
@@ -299,7 +299,7 @@ impl Take for KeyRange {
 }
 
 impl Put for MasterSetup {
-    ghost use Rattle.rc_codec.specs.Spelling.{setup_code};
+    ghost use Rattle.rc_codec.specs.Fields.{setup_code};
 
     ghost code = { setup_code };
 
@@ -309,7 +309,7 @@ impl Put for MasterSetup {
 }
 
 impl Take for MasterSetup {
-    ghost use Rattle.rc_codec.specs.Readers.{setup_at};
+    ghost use Rattle.rc_codec.specs.Fields.{setup_at};
 
     ghost read = { setup_at };
 
@@ -320,7 +320,7 @@ impl Take for MasterSetup {
 }
 
 impl Put for Grant {
-    ghost use Rattle.rc_codec.specs.Spelling.{grant_code};
+    ghost use Rattle.rc_codec.specs.Fields.{grant_code};
 
     ghost code = { grant_code };
 
@@ -337,7 +337,7 @@ impl Put for Grant {
 }
 
 impl Take for Grant {
-    ghost use Rattle.rc_codec.specs.Readers.{grant_at};
+    ghost use Rattle.rc_codec.specs.Fields.{grant_at};
 
     ghost read = { grant_at };
 

@@ -4,8 +4,9 @@ ghost use Rattle.std.specs.Prelude.{◌≡◌, ◌++◌, ◌∷◌, IfOk, IfErr,
 ghost use Rattle.rc_codec.specs.Claims.{IsFront, DecodesFront, BeginsWithNone};
 ghost use Rattle.rc_codec.specs.Parts.{Begins};
 ghost use Rattle.rc_codec.specs.Reading.{Gives};
-ghost use Rattle.rc_codec.specs.Readers.{versioned_at};
-ghost use Rattle.rc_codec.specs.Spelling.{coded_message, coded_event};
+ghost use Rattle.rc_codec.specs.Fields.{versioned_at};
+ghost use Rattle.rc_codec.specs.Bodies.{coded_message};
+ghost use Rattle.rc_codec.specs.Events.{coded_event};
 ghost use Rattle.rc_codec.specs.declared.faults.DecodeFault.TheVariants.{Malformed};
 
 use crate::coded::{Put, Take};

@@ -3,8 +3,7 @@ use Rattle.std.proofs.Common.{ℕ, Bool, List, ◌++◌, refl}
 use Rattle.rc_model.specs.Model.{Pair, ServerId, Grant, Tablet, Attempt}
 use Rattle.rc_codec.specs.Parts.{four_bytes, listed}
 use Rattle.rc_codec.specs.Reading.{◌⊗◌}
-use Rattle.rc_codec.specs.Spelling.{id_code, pair_code, tablet_code, grant_code, up_code}
-use Rattle.rc_codec.specs.Readers.{u32_at, id_at, pair_at, tablet_at, grant_at}
+use Rattle.rc_codec.specs.Fields.{id_code, pair_code, tablet_code, grant_code, up_code, u32_at, id_at, pair_at, tablet_at, grant_at}
 use Rattle.rc_codec.proofs.Lawful.{Lawful, made_lawful, pair_lawful, three_lawful, four_lawful, five_lawful}
 use Rattle.rc_codec.proofs.Lawful.{optional_lawful, listed_lawful}
 use Rattle.rc_codec.proofs.EachKind.{u16_law, u32_law, flag_law, id_law, row_law, plan_row_law, range_law, part_law, up_law}

@@ -1,8 +1,7 @@
 -- A host without its master is read back, and nothing else is.
 use Rattle.std.proofs.Common.{refl, sym, append_assoc}
 use Rattle.rc_codec.specs.Parts.{listed}
-use Rattle.rc_codec.specs.Spelling.{id_code, setup_code}
-use Rattle.rc_codec.specs.Readers.{setup_at}
+use Rattle.rc_codec.specs.Fields.{id_code, setup_code, setup_at}
 use Rattle.rc_codec.proofs.Lawful.{Lawful, made_lawful, three_lawful, four_lawful, five_lawful, listed_lawful}
 use Rattle.rc_codec.proofs.EachKind.{u8_law, u16_law, u32_law, flag_law, id_law, entry_law}
 use Rattle.rc_keeping.specs.Saved.{replica_code, held_code, head_code, host_code}

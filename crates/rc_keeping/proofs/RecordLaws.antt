@@ -5,7 +5,7 @@ use Rattle.std.proofs.lemmas.Bool.{ltb-false, le-ltb, eqb-true}
 use Rattle.std.proofs.lemmas.List.{take_at, drop_at, take-append-drop, length-append, length-take, append-nil}
 use Rattle.rc_codec.specs.Parts.{four_bytes, eight_bytes}
 use Rattle.rc_codec.specs.Reading.{◌>>=◌, ◌⊗◌}
-use Rattle.rc_codec.specs.Readers.{u32_at, u64_at}
+use Rattle.rc_codec.specs.Fields.{u32_at, u64_at}
 use Rattle.rc_codec.proofs.Lawful.{IsBytes, Lawful, bind_some, some_is, parts, pair_lawful, number_lawful}
 use Rattle.rc_types.specs.declared.events.NodeWork.{NodeWork}
 use Rattle.rc_keeping.specs.Spelling.{coded_work, sum_of, sealed, record_of}

@@ -5,7 +5,7 @@ use Rattle.std.proofs.lemmas.Bool.{ltb-false, le-ltb, eqb-true}
 use Rattle.std.proofs.lemmas.List.{take_at, drop_at, take-append-drop, length-append, length-take}
 use Rattle.rc_codec.specs.Parts.{four_bytes, eight_bytes}
 use Rattle.rc_codec.specs.Reading.{◌>>=◌, ◌⊗◌}
-use Rattle.rc_codec.specs.Readers.{u32_at, u64_at}
+use Rattle.rc_codec.specs.Fields.{u32_at, u64_at}
 use Rattle.rc_codec.proofs.Lawful.{IsBytes, Lawful, bind_some, some_is, parts}
 use Rattle.rc_keeping.specs.Spelling.{sum_of, sealed}
 use Rattle.rc_keeping.specs.Readers.{opened_with, opened_at}

@@ -1,6 +1,6 @@
 -- Each work is read back, and nothing else is.
 use Rattle.std.proofs.Common.{◌≡◌, ℕ, List, ◌∷◌, ◌++◌, Some, refl}
-use Rattle.rc_codec.specs.Readers.{chosen_at}
+use Rattle.rc_codec.specs.Fields.{chosen_at}
 use Rattle.rc_codec.proofs.Lawful.{Lawful, made_again, pair_lawful, listed_lawful, nothing_lawful, AreRight, kind_right, chosen_lawful}
 use Rattle.rc_codec.proofs.Lawful.{versioned_lawful}
 use Rattle.rc_codec.proofs.EachKind.{id_law, kept_law, body_law, message_law, ordered_again, ordered_right}

@@ -1,7 +1,8 @@
 -- A work whose first byte is that of an order.
 use Rattle.std.proofs.Common.{◌≡◌, ℕ, ◌≤◌, List, ◌∷◌, Option, Some, ap, ◌∙◌}
 use Rattle.rc_codec.specs.Reading.{◌>>=◌, made, nothing_at, Fails}
-use Rattle.rc_codec.specs.Readers.{chosen_at, order_at}
+use Rattle.rc_codec.specs.Fields.{chosen_at}
+use Rattle.rc_codec.specs.Events.{order_at}
 use Rattle.rc_codec.specs.declared.faults.DecodeFault.{DecodeFault}
 use Rattle.rc_codec.specs.declared.faults.DecodeFault.TheVariants.{OutOfMemory, Malformed}
 use Rattle.rc_codec.proofs.Choices.{after_five}

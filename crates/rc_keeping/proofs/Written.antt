@@ -4,7 +4,7 @@ use Rattle.std.specs.List.{flat_map}
 use Rattle.std.proofs.lemmas.List.{take_more, flat_map_more}
 use Rattle.rc_model.specs.Model.{Pair, ServerId, Grant, Row, Decision, Attempt, ServerList}
 use Rattle.rc_codec.specs.Parts.{four_bytes, eight_bytes, optional, listed}
-use Rattle.rc_codec.specs.Spelling.{id_code, tablet_code, grant_code, up_code}
+use Rattle.rc_codec.specs.Fields.{id_code, tablet_code, grant_code, up_code}
 use Rattle.rc_coordinator.specs.Book.{Book}
 use Rattle.rc_keeping.specs.Saved.{reply_code, decision_code, attempt_code, least_code, current_code, known_code, begun_code}
 

@@ -1,8 +1,9 @@
 -- Reading of works and of records.
 use Rattle.std.specs.Prelude.{ℕ, List, [], ◌∷◌, length, take, drop, Option, Some, None, nat_eq, nat_lt, if◌then◌else◌}
 use Rattle.rc_codec.specs.Reading.{◌>>=◌, Reader, made, ◌⊗◌, nothing_at, listed_at}
-use Rattle.rc_codec.specs.Readers.{u32_at, u64_at, id_at, kept_at, body_at, message_at, ordered, chosen_at}
-use Rattle.rc_codec.specs.Readers.{versioned_at}
+use Rattle.rc_codec.specs.Fields.{u32_at, u64_at, id_at, kept_at, chosen_at, versioned_at}
+use Rattle.rc_codec.specs.Bodies.{body_at, message_at}
+use Rattle.rc_codec.specs.Events.{ordered}
 use Rattle.rc_types.specs.declared.events.NodeWork.{NodeWork}
 use Rattle.rc_types.specs.declared.events.NodeWork.TheVariants as work
 use Rattle.rc_keeping.specs.Spelling.{sum_of}

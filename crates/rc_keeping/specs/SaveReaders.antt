@@ -9,8 +9,8 @@ use Rattle.rc_model.specs.Attempts.{GivenPart, Decision, Attempt}
 use Rattle.rc_model.specs.Replica.{Replica}
 use Rattle.rc_model.specs.Backup.{Held}
 use Rattle.rc_codec.specs.Reading.{◌>>=◌, Reader, made, ◌⊗◌, three, four, five, flag_at, optional_at, listed_at}
-use Rattle.rc_codec.specs.Readers.{u8_at, u16_at, u32_at, id_at, entry_at, row_at, plan_row_at, part_at, pair_at}
-use Rattle.rc_codec.specs.Readers.{tablet_at, grant_at, up_at, setup_at, versioned_at}
+use Rattle.rc_codec.specs.Fields.{u8_at, u16_at, u32_at, id_at, entry_at, row_at, plan_row_at, part_at, pair_at}
+use Rattle.rc_codec.specs.Fields.{tablet_at, grant_at, up_at, setup_at, versioned_at}
 use Rattle.rc_coordinator.specs.Book.{Book}
 use Rattle.rc_world.specs.declared.head.HostHead.{HostHead}
 use Rattle.rc_world.specs.HostParts.{HostParts}

@@ -7,8 +7,8 @@ use Rattle.rc_model.specs.Backup.{Held}
 use Rattle.rc_model.specs.Attempts.{GivenPart, Decision, Attempt}
 use Rattle.rc_types.specs.declared.rows.Row.{Row}
 use Rattle.rc_codec.specs.Parts.{byte, two_bytes, four_bytes, flag, optional, listed}
-use Rattle.rc_codec.specs.Spelling.{id_code, entry_code, row_code, plan_row_code, part_code, pair_code, tablet_code}
-use Rattle.rc_codec.specs.Spelling.{grant_code, up_code, setup_code}
+use Rattle.rc_codec.specs.Fields.{id_code, entry_code, row_code, plan_row_code, part_code, pair_code, tablet_code}
+use Rattle.rc_codec.specs.Fields.{grant_code, up_code, setup_code}
 use Rattle.rc_backup.specs.BackupView.{Holdings}
 use Rattle.rc_coordinator.specs.Book.{Book, coordinator_of}
 use Rattle.rc_history.specs.Nodes.{Node, TheCoordinator, TheHost}

@@ -2,7 +2,9 @@
 use Rattle.std.specs.Prelude.{ℕ, ◌*◌, ◌/◌, ◌%◌, bit_xor, List, [], ◌∷◌, ◌++◌, length}
 use Rattle.std.specs.Int.{w64, from_le_bytes}
 use Rattle.rc_codec.specs.Parts.{four_bytes, eight_bytes, listed}
-use Rattle.rc_codec.specs.Spelling.{id_code, kept_code, body_code, message_code, order_code}
+use Rattle.rc_codec.specs.Fields.{id_code, kept_code}
+use Rattle.rc_codec.specs.Bodies.{body_code, message_code}
+use Rattle.rc_codec.specs.Events.{order_code}
 use Rattle.rc_types.specs.declared.events.NodeWork.{NodeWork}
 use Rattle.rc_types.specs.declared.events.NodeWork.TheVariants as work
 

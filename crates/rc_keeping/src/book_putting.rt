@@ -5,7 +5,7 @@ ghost use Rattle.std.specs.List.{flat_map, IsDistinct};
 ghost use Rattle.std.specs.Option.{option_copied};
 ghost use Rattle.std.specs.Map.{keys_of};
 ghost use Rattle.rc_codec.specs.Parts.{four_bytes, optional, listed};
-ghost use Rattle.rc_codec.specs.Spelling.{id_code, up_code, tablet_code};
+ghost use Rattle.rc_codec.specs.Fields.{id_code, up_code, tablet_code};
 ghost use Rattle.rc_model.specs.Ids.{same_id};
 ghost use Rattle.rc_rangetree.specs.Ranges.{AreTablets};
 ghost use Rattle.rc_coordinator.specs.Book.{IsBook};

@@ -90,7 +90,8 @@ way-found {whole} {to} {from} grant {grants} {earlier} {later} at_whole at_to at
     search (arith, or_right, nat_eq, and_from, at_or-found)
 
 -- what the test finds is before
-pub is_before-finds : (grants : List Granted) {earlier later : ℕ} → is_before grants earlier later ≡ true → IsBefore grants earlier later
+pub is_before-finds : (grants : List Granted) {earlier later : ℕ} →
+    is_before grants earlier later ≡ true → IsBefore grants earlier later
 is_before-finds [] e = cc
 is_before-finds (grant ∷ grants) e = before_by (way-finds grant
     (is_before-finds grants) (is_before-finds grants) (is_before-finds grants) e)
@@ -100,7 +101,8 @@ none_before (previous k one at) = cc
 none_before (onward _ k one at rest) = cc
 
 -- and the test finds what is before
-pub is_before-found : (grants : List Granted) {earlier later : ℕ} → IsBefore grants earlier later → is_before grants earlier later ≡ true
+pub is_before-found : (grants : List Granted) {earlier later : ℕ} → IsBefore grants earlier later →
+    is_before grants earlier later ≡ true
 is_before-found [] before = absurd (none_before before)
 is_before-found (grant ∷ grants) before = way-found grant
     (is_before-found grants) (is_before-found grants) (is_before-found grants) (way_of before)

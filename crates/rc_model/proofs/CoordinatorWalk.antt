@@ -1,5 +1,6 @@
 -- One walk over the rules of the coordinator: what holds of each single rule holds of its whole steps.
-use Rattle.std.proofs.Common.{◌≡◌, ℕ, suc, ◌+◌, not, Bool, true, false, cond, nat_eq, ◌&&◌, List, [], ◌∷◌, ◌++◌, filter}
+use Rattle.std.proofs.Common.{◌≡◌, ℕ, suc, ◌+◌, not, Bool, true, false}
+use Rattle.std.proofs.Common.{cond, nat_eq, ◌&&◌, List, [], ◌∷◌, ◌++◌, filter}
 use Rattle.std.proofs.Common.{slice_get, Option, Some, None, Result, Ok, Err, refl, ◌∙◌, subst, arith}
 use Rattle.std.proofs.lemmas.Bool.{and_parts, not-false}
 use Rattle.std.proofs.lemmas.Bool.Decides.{nat_tests}
@@ -19,6 +20,8 @@ use Rattle.rc_model.specs.Model.{takes_recovered, creates_table, is_too_many, cr
 use Rattle.rc_model.specs.Model.{has_open_part, asks_again, asks_again_of, coordinator_ticks, coordinator_takes, NodeWork, Deliver}
 use Rattle.rc_model.specs.Model.{coordinator_step}
 use Rattle.rc_types.specs.declared.rows.Plan.{Plan}
+use Rattle.rc_types.specs.declared.ids.Addr.TheVariants.{Coordinator as AtCoordinator}
+use Rattle.rc_types.specs.declared.messages.Body.TheVariants as body
 use Rattle.rc_types.specs.declared.messages.Body.TheVariants.{Plan as PlanBody}
 use Rattle.rc_model.specs.Coordinator.{Coordinator}
 use Rattle.rc_model.specs.Nodes.{Tick, Ordered, obeys_order}
@@ -36,6 +39,32 @@ abbrev pub is_lack : Fault → Bool
 is_lack NoTable = true
 is_lack _ = false
 
+-- a kind that no law of the coordinator speaks of: by it nothing is granted, refused for want of a tablet, or said of a log
+abbrev pub is_plain : Body → Bool
+is_plain (body.Write table key value) = false
+is_plain (body.Read table key) = false
+is_plain (body.WriteOk seg offset term table key version) = false
+is_plain (body.ReadOk table key version value) = false
+is_plain (body.Refused reason) = false
+is_plain (body.Place seg epoch digest entries closed) = false
+is_plain (body.Append seg offset entries) = false
+is_plain (body.Close seg len) = false
+is_plain (body.Stored seg epoch len closed) = false
+is_plain (body.Commit seg epoch) = false
+is_plain (body.CommitOk seg epoch) = false
+is_plain body.Enlist = false
+is_plain body.Ready = false
+is_plain (body.List version rows) = false
+is_plain (body.Gather attempt master) = false
+is_plain (body.Replicas attempt rows) = false
+is_plain (body.Plan head attempt master rows parts) = false
+is_plain (body.Fetch attempt master seg len part) = false
+is_plain (body.Data attempt seg term entries) = false
+is_plain (body.Recovered attempt term) = false
+is_plain (body.Own range term previous attempt) = false
+is_plain (body.Free seg) = false
+is_plain _ = true
+
 -- what a split does, given why it can't be made, if so
 abbrev splits_unless : Coordinator → ℕ → ℕ → Option Fault → Coordinator × List Message
 splits_unless c table at fault = option_map_or (λ why. (c, coordinator_refuses why ∷ [])) fault
@@ -50,6 +79,7 @@ pub record IsAsked (c : Coordinator) (H : Addr → Body → Type 0) (id : Server
 
 -- where it stays as it is
 pub record Stays (c : Coordinator) (H : Addr → Body → Type 0) (M : Coordinator × List Message → Type 0) : Type 0 where
+  pub tells : (to : Addr) (body : Body) → is_plain body ≡ true → M (c, record { from = AtCoordinator; to = to; body = body } ∷ [])
   pub refuses : (fault : Fault) → M (c, coordinator_refuses fault ∷ [])
   pub denies : (id : ServerId) (fault : Fault) → is_lack fault ≡ false → M (c, refuses_server id fault ∷ [])
   pub lists : (id : ServerId) → M (c, from_coordinator id (list_body c.servers) ∷ [])

@@ -1,5 +1,6 @@
 -- What the digest of the next head leaves out, and when a segment is dead.
-use Rattle.std.proofs.Common.{◌≡◌, ℕ, zero, suc, ◌+◌, ◌<◌, Bool, true, false, cond, ◌&&◌, ◌||◌, nat_eq, nat_lt, List, [], ◌∷◌, ◌++◌}
+use Rattle.std.proofs.Common.{◌≡◌, ℕ, zero, suc, ◌+◌, ◌<◌, Bool, true, false}
+use Rattle.std.proofs.Common.{cond, ◌&&◌, ◌||◌, nat_eq, nat_lt, List, [], ◌∷◌, ◌++◌}
 use Rattle.std.proofs.Common.{map, filter, Option, Some, None, Result, Ok, Err, slice_get, refl, sym, ap, ◌∙◌, subst, arith}
 use Rattle.std.specs.List.{list_any, list_all}
 use Rattle.std.proofs.lemmas.Bool.{and_parts, eqb-true, ltb-true, or_left, or_right, or_parts, not-false}
@@ -38,7 +39,8 @@ any-get {test} (y ∷ ys) any = by (test y) refl any (any-get ys)
         let rest : Passes test ys = rec any in record { place = suc rest.place; one = rest.one; found = rest.found; passes = rest.passes }
 
 -- a number that is there and passes is there among those that pass
-kept : (test : ℕ → Bool) {n : ℕ} (ns : List ℕ) → list_any (nat_eq n) ns ≡ true → test n ≡ true → list_any (nat_eq n) (filter test ns) ≡ true
+kept : (test : ℕ → Bool) {n : ℕ} (ns : List ℕ) → list_any (nat_eq n) ns ≡ true → test n ≡ true →
+    list_any (nat_eq n) (filter test ns) ≡ true
 kept test [] there is = cc
 kept test {n} (m ∷ ms) there is = by (nat_eq n m) refl (test m) refl there (λ rest. kept test ms rest is)
   where

@@ -1,6 +1,6 @@
 -- The coordinator grants commits and ranges only to ids that are up.
 use Rattle.std.proofs.Common.{◌≡◌, ℕ, ◌+◌, true, false, List, [], ◌∷◌, length, refl, sym, ◌∙◌, subst}
-use Rattle.rc_model.specs.Model.{ServerId, Server, Message, Body, CommitOk, Gather, from_coordinator}
+use Rattle.rc_model.specs.Model.{ServerId, Server, Message, Body, CommitOk, Own, Gather, from_coordinator}
 use Rattle.rc_model.specs.Model.{is_up, up, ServerList, Decision, list_body, spreads_list}
 use Rattle.rc_model.specs.Model.{own_body, grant_of, first_grant, decision_of}
 use Rattle.rc_model.specs.Model.{begins_attempt, with_crashed, enlisted, plan_messages}
@@ -10,7 +10,7 @@ use Rattle.rc_model.specs.CoordinatorClaims.{is_granting, GrantsGoOnlyToTheUp}
 use Rattle.rc_model.proofs.Tests.{true_false}
 use Rattle.rc_model.proofs.Ids.{server-same}
 use Rattle.rc_model.proofs.Sending.{Each, each-none, each-one, each-both}
-use Rattle.rc_model.proofs.CoordinatorWalk.{Stays, Moves, walked-step, each-to, each-plans, each-ticks}
+use Rattle.rc_model.proofs.CoordinatorWalk.{is_plain, Stays, Moves, walked-step, each-to, each-plans, each-ticks}
 
 module _ (c : Coordinator) where
   -- a message that grants goes to an id that is up
@@ -33,8 +33,14 @@ module _ (c : Coordinator) where
   plain-list : (servers : ServerList) → Each ToUp (spreads_list servers)
   plain-list servers = each-to ToUp (λ id. plain (from_coordinator id (list_body servers)) refl) (up servers)
 
+  plain-ungranting : (body : Body) → is_plain body ≡ true → is_granting body ≡ false
+  plain-ungranting (CommitOk seg epoch) e = cc
+  plain-ungranting (Own range term previous attempt) e = cc
+  plain-ungranting _ e = refl
+
   up-stays : Stays c (λ _ _. Unit {0}) After
   up-stays = record {
+    tells = λ to body is. plain-one (plain-ungranting body is);
     refuses = λ fault. plain-one refl;
     denies = λ id fault other. plain-one refl;
     lists = λ id. plain-one refl;

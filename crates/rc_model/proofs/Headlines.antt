@@ -42,7 +42,8 @@ all_agree-true ack (first ∷ entries) e entry (inl same) = search (arith, and_p
 all_agree-true ack (first ∷ entries) e entry (inr rest) =
     let parts = and_parts (agrees ack first) (all_agree ack entries) e in all_agree-true ack entries parts.1 entry rest
 
-all_agree-from : {ack : Ack} (entries : List Entry) → ((entry : Entry) → In entry entries → Agrees ack entry) → all_agree ack entries ≡ true
+all_agree-from : {ack : Ack} (entries : List Entry) →
+    ((entry : Entry) → In entry entries → Agrees ack entry) → all_agree ack entries ≡ true
 all_agree-from [] each = refl
 all_agree-from {ack} (entry ∷ entries) each = and_from (agrees ack entry) (all_agree ack entries)
     (agrees-from (each entry (inl refl))) (all_agree-from entries (λ other at. each other (inr at)))
@@ -186,7 +187,8 @@ is_superseded-true sent plan ack e =
       greater = ltb-true ack.version g.entry.version parts.1;
     }
 
-is_superseded-from : {sent : List Message} {plan : Accepted} {ack : Ack} → IsSuperseded sent plan ack → is_superseded sent plan ack ≡ true
+is_superseded-from : {sent : List Message} {plan : Accepted} {ack : Ack} →
+    IsSuperseded sent plan ack → is_superseded sent plan ack ≡ true
 is_superseded-from {sent} {plan} {ack} p =
     search (
       arith,
@@ -231,7 +233,8 @@ is_missing-from {sent} {plan} {ack} p =
     by (inr h) = or_right (is_recovered plan.rows ack.seg ack.offset) (is_superseded sent plan ack) (is_superseded-from h)
 
 -- the choice between a breach and what follows is None exactly where the test passes and so does what follows
-some_or-false : (b : Bool) (breach : Breach) {rest : Option Breach} → cond b (Some breach) rest ≡ None → (b ≡ false) × (rest ≡ None)
+some_or-false : (b : Bool) (breach : Breach) {rest : Option Breach} →
+    cond b (Some breach) rest ≡ None → (b ≡ false) × (rest ≡ None)
 some_or-false true breach e = cc
 some_or-false false breach e = (refl, e)
 
@@ -364,7 +367,8 @@ made-is_one_entry {sent} {m} {s} {o} p =
     (λ other at. p.only other (HasMade-from sent m s o other at))
 
 -- the choice between what follows and a breach
-or_some-true : (b : Bool) (breach : Breach) {rest : Option Breach} → cond b rest (Some breach) ≡ None → (b ≡ true) × (rest ≡ None)
+or_some-true : (b : Bool) (breach : Breach) {rest : Option Breach} →
+    cond b rest (Some breach) ≡ None → (b ≡ true) × (rest ≡ None)
 or_some-true true breach e = (refl, e)
 or_some-true false breach e = cc
 

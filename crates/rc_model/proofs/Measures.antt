@@ -309,7 +309,8 @@ lowers-data : (master : Master) → master.log.factor ≢ 0 → AllLower master 
 lowers-data master factor = search (arith, either, lowers-replay)
 
 -- one part fewer waits for its answer
-answered-lower : (durable : List Entry) (states : List PartState) {state : PartState} → find (is_to_answer durable) states ≡ Some state →
+answered-lower : (durable : List Entry) (states : List PartState) {state : PartState} →
+    find (is_to_answer durable) states ≡ Some state →
     parts_unanswered (answered_in durable states) < parts_unanswered states
 answered-lower durable [] e = cc
 answered-lower durable (one ∷ others) {state} e = by (is_to_answer durable one) refl one.answered refl (answered-lower durable others) e

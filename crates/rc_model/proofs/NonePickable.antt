@@ -33,7 +33,8 @@ module _ (min : Pair) (replies : List (ServerId × List Row)) where
     taken_none : {seg : ℕ} → seg ≢ head.row.seg → row_of min replies seg ≡ None → taken_row min replies head seg ≡ None
     taken_none {seg} other none = let test : nat_eq seg head.row.seg ≡ false = ne_eqb seg head.row.seg other in rw test none
 
-    none-from_taken : {seg : ℕ} → taken_row min replies head seg ≡ None → (seg ≢ head.row.seg) × (row_of min replies seg ≡ None)
+    none-from_taken : {seg : ℕ} → taken_row min replies head seg ≡ None →
+        (seg ≢ head.row.seg) × (row_of min replies seg ≡ None)
     none-from_taken {seg} none = search (arith, nat_eq, eq-eqb, ne_eqb, cases_eq)
 
     -- this is the first of the segments of which no row is taken

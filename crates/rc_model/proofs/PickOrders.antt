@@ -41,7 +41,8 @@ apart_flags Rab Rba rest (inl p) (inr q) = cc
 apart_flags Rab Rba rest (inr p) (inl q) = cc
 apart_flags Rab Rba rest (inr p) (inr q) = rest p.1 q.1
 
-split_flags : {a : Bool} (b : Bool) {c : Bool} (Rac Rab Rbc : Type 0) → (Rac → Rab ⊎ Rbc) → ((a ≡ true) × (c ≡ false)) ⊎ ((a ≡ c) × Rac) →
+split_flags : {a : Bool} (b : Bool) {c : Bool} (Rac Rab Rbc : Type 0) → (Rac → Rab ⊎ Rbc) →
+    ((a ≡ true) × (c ≡ false)) ⊎ ((a ≡ c) × Rac) →
     (((a ≡ true) × (b ≡ false)) ⊎ ((a ≡ b) × Rab)) ⊎ (((b ≡ true) × (c ≡ false)) ⊎ ((b ≡ c) × Rbc))
 split_flags true Rac Rab Rbc rest (inl p) = inr (inl (refl, p.1))
 split_flags false Rac Rab Rbc rest (inl p) = inl (inl (p.0, refl))

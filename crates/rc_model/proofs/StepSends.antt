@@ -1,7 +1,8 @@
 -- When a master asks for commits and closes the old head: by the log after the step that says it.
 use Rattle.std.proofs.Common.{◌≡◌, ◌⊎◌, inl, inr, ℕ, zero, suc, ◌+◌, ◌-◌, ◌<◌, ◌≤◌, Bool, true, false, cond, not, nat_eq, nat_lt, ◌&&◌}
 use Rattle.std.proofs.Common.{List, arith}
-use Rattle.std.proofs.Common.{[], ◌∷◌, ◌++◌, map, filter, length, find, is_some, Option, Some, None, refl, sym, ap, ◌∙◌, subst}
+use Rattle.std.proofs.Common.{[], ◌∷◌, ◌++◌, map, filter, length, find, is_some}
+use Rattle.std.proofs.Common.{Option, Some, None, refl, sym, ap, ◌∙◌, subst}
 use Rattle.std.proofs.lemmas.Bool.{and_parts, eqb-true, ltb-true, not-false}
 use Rattle.rc_model.specs.Model.{Addr, Body, Message, Close, Commit, Enlist, Told, Member, Config, all_placed, Segment}
 use Rattle.rc_model.specs.Model.{between, to_coordinator, Log, old_head_of, has_old_head, numbers_to, is_closing}
@@ -169,7 +170,8 @@ goes-joined = record {
   };
 }
 
-goes-plain : {old new : Master} {messages : List Message} → FollowLeads old.log new.log → Each Plain messages → Goes old (new, messages)
+goes-plain : {old new : Master} {messages : List Message} → FollowLeads old.log new.log →
+    Each Plain messages → Goes old (new, messages)
 goes-plain {old} {new} leads plain =
     record { leads = leads; says = λ message at. plain-go old.log new.log message.body (plain message at) }
 

@@ -111,7 +111,8 @@ refused-nothing : {backup : Backup} (master : ServerId) (seg : ℕ) (body : Body
     stores backup master seg body ≡ (backup, [])
 refused-nothing {backup} master seg body fenced = search (arith, either, true_false, or_left)
 
-frees-nothing : {backup : Backup} (master : ServerId) (seg : ℕ) → (backup.held master).fenced ≡ true → frees backup master seg ≡ backup
+frees-nothing : {backup : Backup} (master : ServerId) (seg : ℕ) →
+    (backup.held master).fenced ≡ true → frees backup master seg ≡ backup
 frees-nothing master seg fenced = rw fenced refl
 
 -- a fenced master stores nothing and frees nothing

@@ -29,7 +29,8 @@ module _ (P : Message → Type 0) (backup : Backup)
   each-data attempt seg len part None = each-none _
   each-data {asker} attempt seg len part (Some replica) = search (arith, each-if, each-one)
 
-  each-answers : {asker : ServerId} (master : ServerId) (bodies : List Body) → Each (λ body. P (between backup.own asker body)) bodies →
+  each-answers : {asker : ServerId} (master : ServerId) (bodies : List Body) →
+      Each (λ body. P (between backup.own asker body)) bodies →
       Each P (answers_fetch backup asker master bodies)
   each-answers master [] all = each-none P
   each-answers {asker} master (body ∷ bodies) all =

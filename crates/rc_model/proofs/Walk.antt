@@ -1,5 +1,6 @@
 -- One walk over the rules of a master: a relation that each single rule keeps is kept by its whole steps.
-use Rattle.std.proofs.Common.{◌≡◌, ℕ, zero, suc, ◌+◌, ◌-◌, ◌<◌, not, Bool, true, false, cond, nat_lt, nat_eq, List, [], ◌∷◌}
+use Rattle.std.proofs.Common.{◌≡◌, ℕ, zero, suc, ◌+◌, ◌-◌, ◌<◌, not}
+use Rattle.std.proofs.Common.{Bool, true, false, cond, nat_lt, nat_eq, List, [], ◌∷◌}
 use Rattle.std.proofs.Common.{◌++◌, map, filter, length, Option, Some, None, Result, Ok, Err, refl, inl, inr, option_and_then, arith}
 use Rattle.std.proofs.lemmas.Bool.{and_parts, eqb-true, ltb-true}
 use Rattle.rc_model.specs.Heads.{opened_on}

@@ -9,9 +9,11 @@ use Rattle.rc_model.specs.Model.{Attempt, Decision, plan_messages, new_coordinat
 use Rattle.rc_model.specs.Model.{begins_attempt, with_attempt, with_answer, decision_of, decides_on, own_body}
 use Rattle.rc_model.specs.Model.{grant_of, first_grant, coordinator_ticks, creates_table, is_too_many, NodeWork, coordinator_step, Pair}
 use Rattle.rc_types.specs.declared.rows.Plan.{Plan}
+use Rattle.rc_types.specs.declared.ids.Addr.TheVariants.{Coordinator as AtCoordinator}
+use Rattle.rc_types.specs.declared.messages.Body.TheVariants as body
 use Rattle.rc_model.specs.Coordinator.{Coordinator}
 use Rattle.rc_model.proofs.Sending.{each-all}
-use Rattle.rc_model.proofs.CoordinatorWalk.{Stays, Moves, each-to, each-plans, each-ticks, walked-step}
+use Rattle.rc_model.proofs.CoordinatorWalk.{is_plain, Stays, Moves, each-to, each-plans, each-ticks, walked-step}
 use Rattle.rc_numbers.specs.Numbers.{CoordinatorWithin, body_within, MessagesWithin}
 use Rattle.rc_numbers.proofs.Entries.{none-within, one-within, both-within}
 use Rattle.rc_numbers.proofs.Tablets.{length-marked, length-assigned, length-inserted, length-split, length-owned, length-parts}
@@ -79,6 +81,13 @@ ticks-within n c = each-all (λ (message : Message). body_within n message.body)
       plans = λ number attempt decision is decided id part parts e. tt;
     }))
 
+-- a kind that no law speaks of has no number
+plain-within : (n : ℕ) (body : Body) → is_plain body ≡ true → body_within n body
+plain-within n (body.Place seg epoch digest entries closed) e = cc
+plain-within n (body.Append seg offset entries) e = cc
+plain-within n (body.Data attempt seg term entries) e = cc
+plain-within n _ e = tt
+
 -- All of them
 
 module _ (c : Coordinator) (n : ℕ) (h : CoordinatorWithin n c) where
@@ -93,6 +102,7 @@ module _ (c : Coordinator) (n : ℕ) (h : CoordinatorWithin n c) where
 
   stays : Stays c (λ _ _. Unit {0}) (After n)
   stays = record {
+    tells = λ to body is. answers (record { from = AtCoordinator; to = to; body = body }) (plain-within (n + 1) body is);
     refuses = λ fault. answers (coordinator_refuses fault) tt;
     denies = λ id fault other. answers (refuses_server id fault) tt;
     lists = λ id. answers (from_coordinator id (list_body c.servers)) tt;

@@ -18,16 +18,17 @@ use Rattle.rc_model.specs.Model.{own_body, grant_of, is_grant_to, grant_to}
 use Rattle.rc_model.specs.Model.{first_grant}
 use Rattle.rc_model.specs.Model.{NodeWork, coordinator_step}
 use Rattle.rc_model.specs.Model.{in_range, In}
+use Rattle.rc_types.specs.declared.messages.Body.TheVariants as body
 use Rattle.rc_types.specs.declared.rows.Plan.{Plan}
 use Rattle.rc_model.specs.Coordinator.{Coordinator}
 use Rattle.rc_model.proofs.Sending.{Each, each-none, each-one, each-both}
-use Rattle.rc_model.proofs.CoordinatorWalk.{Stays, Moves, walked-step, each-to, each-plans, each-ticks}
+use Rattle.rc_model.proofs.CoordinatorWalk.{is_plain, Stays, Moves, walked-step, each-to, each-plans, each-ticks}
 use Rattle.rc_model.proofs.Members.{In-left, In-right, In-append}
 use Rattle.rc_step_laws.specs.All.{IsNumbered, GoodCoordinator}
 use Rattle.rc_step_laws.proofs.Servers.{crashed-not-up, crashed-stays-crashed, crashed-stays-enlisted}
 use Rattle.rc_step_laws.proofs.Attempting.{numbered-at, numbered-same, numbered-set}
 use Rattle.rc_owner_laws.specs.Grants.{TabletsApart, owner_of, owner_at, term_in, term_at, IsGiven, PartsApart}
-use Rattle.rc_owner_laws.specs.Grants.{IsDecided, GoodGrants, GrantsMoved}
+use Rattle.rc_owner_laws.specs.Grants.{IsDecided, GoodGrants, GrantsMoved, own_said}
 use Rattle.rc_owner_laws.proofs.Tablets.{some-none, owner_at-marked, apart-marked, owner_at-split, apart-split, owner_at-new}
 use Rattle.rc_owner_laws.proofs.Tablets.{owner_at-beside, owner_at-before, apart-new, assigned-beside, assigned-within, apart-assigned}
 use Rattle.rc_owner_laws.proofs.Chains.{found-at, of_owner, apart-of_owner, IsPartOf, part-of, length-gives, parts-apart, part-once}
@@ -41,6 +42,12 @@ use Rattle.rc_step_laws.proofs.Tests.{find-one}
 -- a split begins above its tablet's first key
 above-first : (table at : ℕ) (tablet : Tablet) → holds tablet table at ≡ true → nat_eq at tablet.range.lo ≡ false → 0 < at
 above-first table at tablet p q = grind (arith, nat_tests)
+
+-- a kind that no law speaks of
+plain-own : (c : Coordinator) (to : Addr) (body : Body) → is_plain body ≡ true → own_said c to body
+plain-own c to (body.Own range term previous attempt) e = cc
+plain-own c to (body.Plan head number master rows parts) e = cc
+plain-own c to _ e = tt
 
 module _ (sent : List Message) (c : Coordinator) (base : GoodCoordinator sent c) (good : GoodGrants c) where
   abbrev Hears : Addr → Body → Type 0
@@ -59,6 +66,7 @@ module _ (sent : List Message) (c : Coordinator) (base : GoodCoordinator sent c)
 
   stays : Stays c Hears Moved
   stays = record {
+    tells = λ to body is. still (plain-own c to body is);
     refuses = λ fault. still tt;
     denies = λ id fault other. still tt;
     lists = λ id. still tt;

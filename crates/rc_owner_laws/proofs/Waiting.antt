@@ -2,8 +2,8 @@
 use Rattle.std.proofs.Common.{◌≡◌, ◌⊎◌, ℕ, ◌+◌, ◌-◌, ◌≤◌, Bool, true, false, List, [], ◌∷◌, ◌++◌, length, nat_eq}
 use Rattle.std.proofs.Common.{Option, Some, None, refl, sym, ap, ◌∙◌, inl, inr, arith}
 use Rattle.std.proofs.lemmas.Bool.Decides.{nat_tests}
-use Rattle.rc_model.specs.Model.{ServerId, Pair, Addr, Row, Part, Tablet, Fault}
-use Rattle.rc_model.specs.Model.{NoTable, Message, Body}
+use Rattle.rc_model.specs.Model.{ServerId, Pair, Addr, Server, Row, Part, Tablet, Fault}
+use Rattle.rc_model.specs.Model.{NoTable, Message, Body, Refused}
 use Rattle.rc_model.specs.Model.{CommitOk, Gather, SplitOk, same_id}
 use Rattle.rc_model.specs.Model.{from_coordinator, coordinator_tells, ServerList, is_up}
 use Rattle.rc_model.specs.Model.{enlisted, crashed, up, holds, tablet_of, tablets_of, whole_table, split_at}
@@ -15,10 +15,11 @@ use Rattle.rc_model.specs.Model.{with_answer, decision_of, decides_on}
 use Rattle.rc_model.specs.Model.{own_body, grant_of, grant_to}
 use Rattle.rc_model.specs.Model.{first_grant, creates_table}
 use Rattle.rc_model.specs.Model.{NodeWork, coordinator_step, In}
+use Rattle.rc_types.specs.declared.ids.Addr.TheVariants.{Coordinator as AtCoordinator}
 use Rattle.rc_types.specs.declared.rows.Plan.{Plan}
 use Rattle.rc_model.specs.Coordinator.{Coordinator}
 use Rattle.rc_model.proofs.Sending.{each-none, each-one, each-both}
-use Rattle.rc_model.proofs.CoordinatorWalk.{is_lack, Stays, Moves, walked-step, each-to, each-plans, each-ticks}
+use Rattle.rc_model.proofs.CoordinatorWalk.{is_lack, is_plain, Stays, Moves, walked-step, each-to, each-plans, each-ticks}
 use Rattle.rc_step_laws.specs.All.{GoodCoordinator, IsNumbered}
 use Rattle.rc_step_laws.proofs.Servers.{crashed-not-up}
 use Rattle.rc_step_laws.proofs.Attempting.{numbered-at}
@@ -45,6 +46,11 @@ Fine message = lacks_tablet message.from message.to message.body ≡ false
 refused-fine : (id : ServerId) (fault : Fault) → is_lack fault ≡ false → Fine (refuses_server id fault)
 refused-fine id NoTable e = true_false e
 refused-fine id _ e = refl
+
+-- a kind that no law speaks of
+plain-fine : (to : Addr) (body : Body) → is_plain body ≡ true → lacks_tablet AtCoordinator to body ≡ false
+plain-fine (Server id) (Refused reason) e = cc
+plain-fine _ _ e = refl
 
 -- What stays
 
@@ -252,6 +258,7 @@ module _ (sent : List Message) (c : Coordinator) (base : GoodCoordinator sent c)
 
   stays : Stays c Hears After
   stays = record {
+    tells = λ to body is. still (plain-fine to body is);
     refuses = λ fault. still refl;
     denies = λ id fault other. still (refused-fine id fault other);
     lists = λ id. still refl;

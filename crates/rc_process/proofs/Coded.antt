@@ -6,7 +6,7 @@ use Rattle.rc_types.specs.declared.events.NodeWork.{NodeWork}
 use Rattle.rc_types.specs.declared.events.NodeWork.TheVariants as work
 use Rattle.rc_types.specs.declared.messages.Message.{Message}
 use Rattle.rc_codec.specs.Claims.{DecodesFront, BeginsWithNone}
-use Rattle.rc_codec.specs.Spelling.{coded_message}
+use Rattle.rc_codec.specs.Bodies.{coded_message}
 use Rattle.rc_codec.specs.declared.faults.DecodeFault.{DecodeFault}
 use Rattle.rc_codec.specs.declared.faults.DecodeFault.TheVariants.{OutOfMemory as F1}
 use Rattle.rc_backup.specs.BackupView.{Holdings, backup_of}

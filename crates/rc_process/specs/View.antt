@@ -6,7 +6,7 @@ use Rattle.std.specs.Option.{option_map}
 use Rattle.rc_types.specs.declared.events.NodeWork.{NodeWork}
 use Rattle.rc_types.specs.declared.events.NodeWork.TheVariants as work
 use Rattle.rc_types.specs.declared.messages.Message.{Message}
-use Rattle.rc_codec.specs.Spelling.{coded_message}
+use Rattle.rc_codec.specs.Bodies.{coded_message}
 use Rattle.rc_model.specs.Backup.{open_names}
 use Rattle.rc_model.specs.Headline.{In}
 use Rattle.rc_history.specs.Nodes.{Node, TheHost, name_of, node_step}

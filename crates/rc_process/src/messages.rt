@@ -2,7 +2,7 @@
 
 ghost use Rattle.std.specs.Prelude.{◌≡◌, ◌↔◌, ◌⊎◌, ◌++◌, Err, OnOk, OnErr, IfOk, IfErr};
 ghost use Rattle.rc_types.specs.declared.events.NodeWork.TheVariants.{Deliver};
-ghost use Rattle.rc_codec.specs.Spelling.{coded_message};
+ghost use Rattle.rc_codec.specs.Bodies.{coded_message};
 ghost use Rattle.rc_world.specs.NodeView.{node_seen, NodeHasRoom};
 ghost use Rattle.rc_process.specs.View.{IsNoMessage, IsDelivery, IsDeliveryOf, process_seen, written_down, given};
 ghost use Rattle.rc_process.specs.declared.faults.MessageFault.TheVariants.{Malformed, NoMemory, NoRoom};

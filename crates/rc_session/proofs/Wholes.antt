@@ -5,7 +5,7 @@ use Rattle.std.proofs.lemmas.List.{append-nil}
 use Rattle.rc_types.specs.declared.events.NodeWork.{NodeWork}
 use Rattle.rc_types.specs.declared.events.NodeWork.TheVariants.{Deliver}
 use Rattle.rc_types.specs.declared.messages.Message.{Message}
-use Rattle.rc_codec.specs.Spelling.{coded_message}
+use Rattle.rc_codec.specs.Bodies.{coded_message}
 use Rattle.rc_codec.proofs.EachKind.{coded_message_law}
 use Rattle.rc_codec.proofs.Promises.{is_prefix_free}
 use Rattle.rc_keeping.specs.Spelling.{coded_work}

@@ -2,7 +2,7 @@
 use Rattle.std.proofs.Common.{◌≡◌, ℕ, List, Some, sym}
 use Rattle.rc_types.specs.declared.ids.ServerId.{ServerId}
 use Rattle.rc_codec.specs.Parts.{listed}
-use Rattle.rc_codec.specs.Spelling.{id_code}
+use Rattle.rc_codec.specs.Fields.{id_code}
 use Rattle.rc_coordinator.specs.Book.{Book}
 use Rattle.rc_world.specs.NodeView.{NodeData, book_in}
 use Rattle.rc_runbook.specs.Runbook.{dues}

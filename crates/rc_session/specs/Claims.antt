@@ -7,7 +7,7 @@ use Rattle.rc_types.specs.declared.events.NodeWork.TheVariants.{Deliver}
 use Rattle.rc_types.specs.declared.limits.TheConstants.{MAX_HOSTS, MAX_FACTOR, MAX_SEGMENT}
 use Rattle.rc_types.specs.declared.messages.Message.{Message}
 use Rattle.rc_history.specs.Nodes.{Node, node_can}
-use Rattle.rc_codec.specs.Spelling.{coded_message}
+use Rattle.rc_codec.specs.Bodies.{coded_message}
 use Rattle.rc_keeping.specs.Spelling.{coded_work}
 use Rattle.rc_world.specs.NodeView.{NodeData, node_seen}
 use Rattle.rc_keeping.specs.SaveClaims.{IsSaved}

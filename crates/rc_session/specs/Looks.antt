@@ -6,7 +6,7 @@ use Rattle.rc_types.specs.declared.ids.ServerId.{ServerId}
 use Rattle.rc_history.specs.Nodes.{own_server}
 use Rattle.rc_model.specs.Log.{Log, has_segment}
 use Rattle.rc_codec.specs.Parts.{listed}
-use Rattle.rc_codec.specs.Spelling.{id_code, tablet_code, up_code}
+use Rattle.rc_codec.specs.Fields.{id_code, tablet_code, up_code}
 use Rattle.rc_coordinator.specs.Book.{Book}
 use Rattle.rc_master.specs.Data.{MasterData, master_of}
 use Rattle.rc_world.specs.NodeView.{NodeData, node_seen, node_runs, master_in, book_in}

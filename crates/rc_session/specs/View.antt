@@ -5,7 +5,7 @@ use Rattle.rc_types.specs.declared.events.NodeWork.{NodeWork}
 use Rattle.rc_types.specs.declared.events.NodeWork.TheVariants as work
 use Rattle.rc_types.specs.declared.messages.Message.{Message}
 use Rattle.rc_codec.specs.Parts.{four_bytes}
-use Rattle.rc_codec.specs.Spelling.{coded_message}
+use Rattle.rc_codec.specs.Bodies.{coded_message}
 use Rattle.rc_world.specs.NodeView.{node_runs}
 use Rattle.rc_process.specs.View.{ProcessData, ProcessView, process_seen, written_down, given, whole_start}
 

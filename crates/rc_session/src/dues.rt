@@ -2,7 +2,7 @@
 
 ghost use Rattle.std.specs.Prelude.{◌≡◌, ◌++◌, Err, Some, IfOk, OnOk};
 ghost use Rattle.rc_codec.specs.Parts.{listed};
-ghost use Rattle.rc_codec.specs.Spelling.{id_code};
+ghost use Rattle.rc_codec.specs.Fields.{id_code};
 ghost use Rattle.rc_session.specs.Looks.{AreDue, due_code, all_due};
 
 use crate::faults::SessionFault;

@@ -4,7 +4,7 @@ ghost use Rattle.std.specs.Prelude.{◌≡◌, ◌++◌, Err, Some, IfOk, OnOk};
 ghost use Rattle.std.specs.Option.{option_map};
 ghost use Rattle.std.specs.List.{flat_map};
 ghost use Rattle.rc_codec.specs.Parts.{listed};
-ghost use Rattle.rc_codec.specs.Spelling.{tablet_code};
+ghost use Rattle.rc_codec.specs.Fields.{tablet_code};
 ghost use Rattle.rc_world.specs.NodeView.{book_in};
 ghost use Rattle.rc_session.specs.Looks.{tablets_code, servers_code};
 

@@ -10,11 +10,12 @@ use Rattle.rc_model.specs.Model.{plan_messages, list_body, spreads_list, begins_
 use Rattle.rc_model.specs.Model.{with_attempt, suspects, with_answer, decision_of, decides_on, decides, grant_of}
 use Rattle.rc_model.specs.Model.{creates_table, creates, splits, tablet_of, coordinator_ticks, coordinator_takes, In}
 use Rattle.rc_types.specs.declared.ids.Addr.TheVariants.{Coordinator as AtCoordinator}
+use Rattle.rc_types.specs.declared.messages.Body.TheVariants as body
 use Rattle.rc_model.specs.Coordinator.{Coordinator}
 use Rattle.rc_model.proofs.Members.{In-left, In-append}
 use Rattle.rc_model.proofs.Sending.{Each, each-none, each-one, each-both}
-use Rattle.rc_model.proofs.CoordinatorWalk.{Stays, Moves, each-to, each-plans, each-ticks, walked-suspects, walked-decides}
-use Rattle.rc_model.proofs.CoordinatorWalk.{walked-creates, walked-splits, walked-takes, walked-step}
+use Rattle.rc_model.proofs.CoordinatorWalk.{is_plain, Stays, Moves, each-to, each-plans, each-ticks}
+use Rattle.rc_model.proofs.CoordinatorWalk.{walked-suspects, walked-decides, walked-creates, walked-splits, walked-takes, walked-step}
 use Rattle.rc_model.specs.Model.{NodeWork, Deliver, coordinator_step}
 use Rattle.rc_step_laws.specs.All.{OnDifferentHosts, IsNumbered, IsPlan, GoodAttempt, GoodCoordinator, CoordinatorMoved}
 use Rattle.rc_step_laws.specs.All.{CoordinatorMayHear, coordinator_body_said}
@@ -28,6 +29,30 @@ use Rattle.rc_model.proofs.Granting.{greater-left, greater-right}
 says-one : (c : Coordinator) {to : Addr} {body : Body} → coordinator_body_said c to body →
     Each (Says c) (record { from = AtCoordinator; to = to; body = body } ∷ [])
 says-one c {to} {body} holds = each-one (Says c) (refl, holds)
+
+-- a kind that no law speaks of
+plain-said : (c : Coordinator) (to : Addr) (body : Body) → is_plain body ≡ true → coordinator_body_said c to body
+plain-said c to (body.Write table key value) e = cc
+plain-said c to (body.Read table key) e = cc
+plain-said c to (body.WriteOk seg offset term table key version) e = cc
+plain-said c to (body.ReadOk table key version value) e = cc
+plain-said c to (body.Place seg epoch digest entries closed) e = cc
+plain-said c to (body.Append seg offset entries) e = cc
+plain-said c to (body.Close seg len) e = cc
+plain-said c to (body.Stored seg epoch len closed) e = cc
+plain-said c to (body.Commit seg epoch) e = cc
+plain-said c to (body.CommitOk seg epoch) e = cc
+plain-said c to body.Enlist e = cc
+plain-said c to body.Ready e = cc
+plain-said c to (body.List version rows) e = cc
+plain-said c to (body.Gather attempt master) e = cc
+plain-said c to (body.Replicas attempt rows) e = cc
+plain-said c to (body.Plan head attempt master rows parts) e = cc
+plain-said c to (body.Fetch attempt master seg len part) e = cc
+plain-said c to (body.Data attempt seg term entries) e = cc
+plain-said c to (body.Recovered attempt term) e = cc
+plain-said c to (body.Free seg) e = cc
+plain-said c to _ e = tt
 
 module _ (sent : List Message) (c : Coordinator) (good : GoodCoordinator sent c) where
   abbrev Hears : Addr → Body → Type 0
@@ -49,6 +74,7 @@ module _ (sent : List Message) (c : Coordinator) (good : GoodCoordinator sent c)
 
   stays : Stays c Hears Moved
   stays = record {
+    tells = λ to body is. still (plain-said c to body is);
     refuses = λ fault. still tt;
     denies = λ id fault other. still tt;
     lists = λ id. still good.servers;

@@ -2,7 +2,7 @@
 use Rattle.std.specs.Prelude.{ℕ, ◌+◌, List, ◌++◌, length}
 use Rattle.std.specs.List.{flat_map}
 use Rattle.rc_types.specs.declared.messages.Message.{Message}
-use Rattle.rc_codec.specs.Spelling.{coded_message}
+use Rattle.rc_codec.specs.Bodies.{coded_message}
 
 pub record CodesView : Type 0 where
   pub bytes : List ℕ

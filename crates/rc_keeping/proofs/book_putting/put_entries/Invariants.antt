@@ -1,6 +1,6 @@
 use Rattle.std.proofs.Common.{◌≡◌, ◌++◌}
 use Rattle.std.specs.List.{flat_map}
-use Rattle.rc_codec.specs.Spelling.{id_code}
+use Rattle.rc_codec.specs.Fields.{id_code}
 use Rattle.rc_keeping.proofs.book_putting.put_entries.Given as goal
 
 -- what stands there so far, and then what is left

@@ -1,6 +1,6 @@
 use Rattle.std.proofs.Common.{arith}
 use Rattle.rc_codec.specs.Parts.{listed}
-use Rattle.rc_codec.specs.Spelling.{id_code}
+use Rattle.rc_codec.specs.Fields.{id_code}
 use Rattle.rc_codec.proofs.Lawful.{listed_lawful}
 use Rattle.rc_codec.proofs.EachKind.{id_law}
 use Rattle.rc_session.proofs.Wholes.{nothing_behind}

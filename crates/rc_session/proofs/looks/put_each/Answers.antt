@@ -1,7 +1,7 @@
 use Rattle.std.proofs.Common.{◌≡◌, ◌++◌, ◌+◌, ◌<◌, ℕ, List, length, take, get_or, arith}
 use Rattle.std.proofs.lemmas.Grind.{common_steps}
 use Rattle.std.specs.List.{flat_map}
-use Rattle.rc_codec.specs.Spelling.{tablet_code}
+use Rattle.rc_codec.specs.Fields.{tablet_code}
 use Rattle.rc_session.proofs.looks.put_each.Goals as goal
 
 one_more : {X A : Type 0} (f : X → List A) (xs : List X) (i : ℕ) (d : X) (before now after : List A) →
