@@ -27,7 +27,7 @@ _ramseg() {
     check) words="--help --output" ;;
   esac
   [ "$last" != --without ] || words=$(cat "$_ramseg_words/rules")
-  [ "$command" != explain ] || words="$words $(cat "$_ramseg_words/words")"
+  [ "$command" != explain ] || words="$words $(sh "$_ramseg_words/words")"
   mapfile -t COMPREPLY < <(compgen -W "$words" -- "$word")
   case $command in
     run|trace|audit|log|picture|shrink|heal|history|check|test|script)

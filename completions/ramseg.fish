@@ -73,7 +73,7 @@ complete -c ramseg -n '__fish_seen_subcommand_from heal' -l help -d 'Print help'
 complete -c ramseg -n '__fish_seen_subcommand_from heal' -l output -r -d 'Writes what is told of each file into a folder'
 complete -c ramseg -n '__fish_seen_subcommand_from explain' -l format -x -d 'Prints one JSON document in place of the text'
 complete -c ramseg -n '__fish_seen_subcommand_from explain' -l help -d 'Print help'
-complete -c ramseg -n '__fish_seen_subcommand_from explain' -f -a "(cat "(string escape $beside/words)")"
+complete -c ramseg -n '__fish_seen_subcommand_from explain' -f -a "(sh "(string escape $beside/words)")"
 complete -c ramseg -n '__fish_seen_subcommand_from history' -l help -d 'Print help'
 complete -c ramseg -n '__fish_seen_subcommand_from history' -l output -r -d 'Writes what is told of each file into a folder'
 complete -c ramseg -n '__fish_seen_subcommand_from check' -l help -d 'Print help'
