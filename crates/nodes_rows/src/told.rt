@@ -1,4 +1,4 @@
-//! What a node is told: a message, by the command of a line and its numbers.
+//! What a node is told, by the command of a line and its numbers: a message, or an order to the coordinator.
 
 use rc_types::{Addr, Body, Code, Order, Part, PlanRow, Row, Seq, Shared};
 use rows::{Desk, Numbers};

@@ -1,5 +1,5 @@
 -- A first byte that names no kind, or that of an order.
-use Rattle.std.proofs.Common.{◌≡◌, ℕ, zero, suc, ◌-◌, ◌≤◌, List, []}
+use Rattle.std.proofs.Common.{◌≡◌, ℕ, zero, suc, ◌+◌, ◌-◌, ◌≤◌, List, []}
 use Rattle.std.proofs.Common.{◌∷◌, length, Option, Some, None, refl, ap, ◌∙◌, arith}
 use Rattle.std.specs.Prelude.{slice_get, map}
 use Rattle.rc_types.specs.declared.events.Event.TheVariants as event
@@ -19,7 +19,7 @@ past (x ∷ table) (suc k) h = past table k (omega arith)
 pub past_bodies : (k : ℕ) (rest : List ℕ) → length bodies ≤ k → chosen_at bodies (k ∷ rest) ≡ None
 past_bodies k rest h = rw (past bodies k h) refl
 
-pub past_orders : (k : ℕ) (rest : List ℕ) → 9 ≤ k → order_at k rest ≡ None
+pub past_orders : (k : ℕ) (rest : List ℕ) → 5 + length orders ≤ k → order_at k rest ≡ None
 past_orders k rest h = rw (past orders (k - 5) (omega arith)) refl
 
 -- what is made of a reader at its place in a table
@@ -47,7 +47,7 @@ event_orders = after_five event.Order ask_at deliver_at tick_at stop_at start_at
 
 -- as what is read of an event
 
-abbrev with_order : {A : Type 0} → (Order → A) → Option (Order × List ℕ) → Option (A × List ℕ)
+abbrev pub with_order : {A : Type 0} → (Order → A) → Option (Order × List ℕ) → Option (A × List ℕ)
 with_order f read = read >>= λ x. Some (f x.0, x.1)
 
 pub event_ordered : (k : ℕ) (xs : List ℕ) (x : Order) (rest : List ℕ) → 5 ≤ k → order_at k xs ≡ Some (x, rest) →

@@ -24,7 +24,7 @@ use Rattle.rc_codec.specs.Reading.{◌>>=◌, Reader, made, flag_at}
 use Rattle.rc_codec.proofs.Lawful.{IsBytes, Lawful, bind_some, some_is, made_again, made_lawful, pair_lawful, three_lawful, four_lawful}
 use Rattle.rc_codec.proofs.Lawful.{five_lawful, six_lawful, number_lawful, flag_lawful, bytes_lawful, optional_lawful, listed_lawful}
 use Rattle.rc_codec.proofs.Lawful.{nothing_lawful, AreRight, all_right, kind_right, made_right, chosen_lawful, versioned_lawful}
-use Rattle.rc_codec.proofs.Choices.{event_orders}
+use Rattle.rc_codec.proofs.Choices.{event_orders, with_order}
 
 pub u8_law : Lawful byte u8_at
 u8_law = number_lawful 0
@@ -237,8 +237,6 @@ order_right = all_right order_code 5 orders (AreRight order_code 5 orders) (λ a
 abbrev IsMadeBy : {A : Type 0} → (Order → A) → List (Reader A) → Type 0
 IsMadeBy f table = (k : ℕ) (xs : List ℕ) → 5 ≤ k → chosen_at table (k ∷ xs) ≡ made (order_at k) f xs
 
-abbrev with_order : {A : Type 0} → (Order → A) → Option (Order × List ℕ) → Option (A × List ℕ)
-with_order f read = read >>= λ x. Some (f x.0, x.1)
 
 pub ordered_again : {A : Type 0} (f : Order → A) (readers : List (Reader A)) → IsMadeBy f readers → (x : Order) (rest : List ℕ) →
     chosen_at readers (order_code x ++ rest) ≡ Some (f x, rest)
@@ -247,9 +245,11 @@ ordered_again f readers made_by (order.Suspect id) rest =
 ordered_again f readers made_by (order.Decide id) rest =
     made_by 6 (id_code id ++ rest) (omega arith) ∙ ap (with_order f) (order_again (order.Decide id) rest)
 ordered_again f readers made_by (order.Create table owner) rest =
-    made_by 7 ((four_bytes table ++ id_code owner) ++ rest) (omega arith) ∙ ap (with_order f) (order_again (order.Create table owner) rest)
+    made_by 7 ((four_bytes table ++ id_code owner) ++ rest) (omega arith)
+    ∙ ap (with_order f) (order_again (order.Create table owner) rest)
 ordered_again f readers made_by (order.Split table at) rest =
-    made_by 8 ((four_bytes table ++ eight_bytes at) ++ rest) (omega arith) ∙ ap (with_order f) (order_again (order.Split table at) rest)
+    made_by 8 ((four_bytes table ++ eight_bytes at) ++ rest) (omega arith)
+    ∙ ap (with_order f) (order_again (order.Split table at) rest)
 
 pub ordered_right : {A : Type 0} (f : Order → A) (code : A → List ℕ) → ((x : Order) → code (f x) ≡ order_code x) →
     AreRight code 5 (ordered f)

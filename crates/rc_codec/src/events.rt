@@ -62,6 +62,7 @@ fn take_kind(alloc: Global, kind: u8, bytes: &[u8]) -> Result<(Event, &[u8]), De
     }
 }
 
+/// An order, which has a kind of 5 or more.
 #[tactic(auto, using(crate::proofs::Choices::event_ordered, crate::proofs::Choices::event_fails))]
 fn take_told(alloc: Global, kind: u8, bytes: &[u8]) -> Result<(Event, &[u8]), DecodeFault>
     requires { 5 ≤ kind }
@@ -104,7 +105,7 @@ impl Put for Order {
 ///
 /// # Errors
 ///
-/// `Malformed` where the kind is no order's, or no fields stand there; `OutOfMemory` is answered to nobody.
+/// `Malformed` where the kind is no order's, or its fields do not stand there. No order takes memory.
 #[tactic(auto, using(crate::proofs::Choices::past_orders))]
 pub fn take_order(alloc: Global, kind: u8, bytes: &[u8]) -> Result<(Order, &[u8]), DecodeFault>
     requires { 5 ≤ kind }
