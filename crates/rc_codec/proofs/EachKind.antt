@@ -237,7 +237,6 @@ order_right = all_right order_code 5 orders (AreRight order_code 5 orders) (λ a
 abbrev IsMadeBy : {A : Type 0} → (Order → A) → List (Reader A) → Type 0
 IsMadeBy f table = (k : ℕ) (xs : List ℕ) → 5 ≤ k → chosen_at table (k ∷ xs) ≡ made (order_at k) f xs
 
-
 pub ordered_again : {A : Type 0} (f : Order → A) (readers : List (Reader A)) → IsMadeBy f readers → (x : Order) (rest : List ℕ) →
     chosen_at readers (order_code x ++ rest) ≡ Some (f x, rest)
 ordered_again f readers made_by (order.Suspect id) rest =
