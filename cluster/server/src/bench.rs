@@ -160,21 +160,48 @@ impl Asked {
     }
 }
 
-/// Sends what waits, and adds what comes.
-fn exchange(stream: &mut TcpStream, out: &mut Vec<u8>, buffer: &mut Vec<u8>) -> Result<(), String> {
-    let told = |error: std::io::Error| match error.kind() {
-        ErrorKind::WouldBlock | ErrorKind::TimedOut => "the server does not answer".to_string(),
-        _ => format!("the server has gone: {error}"),
-    };
-    stream.write_all(out).map_err(told)?;
-    out.clear();
-    let mut more = [0; 1 << 16];
-    match stream.read(&mut more).map_err(told)? {
-        0 => Err("the server has gone".into()),
-        count => {
-            buffer.extend_from_slice(&more[..count]);
-            Ok(())
+/// What has come on a connection and was not taken yet, with room behind it.
+struct Came {
+    room: Vec<u8>,
+    filled: usize,
+}
+
+/// There is room for so many bytes at once, at least.
+const ROOM: usize = 1 << 16;
+
+impl Came {
+    fn new() -> Came {
+        Came { room: vec![0; 2 * ROOM], filled: 0 }
+    }
+
+    /// Sends what waits, and adds what comes.
+    fn exchange(&mut self, stream: &mut TcpStream, out: &mut Vec<u8>) -> Result<(), String> {
+        let told = |error: std::io::Error| match error.kind() {
+            ErrorKind::WouldBlock | ErrorKind::TimedOut => "the server does not answer".to_string(),
+            _ => format!("the server has gone: {error}"),
+        };
+        stream.write_all(out).map_err(told)?;
+        out.clear();
+        if self.room.len() < self.filled + ROOM {
+            self.room.resize(2 * self.room.len(), 0);
         }
+        match stream.read(&mut self.room[self.filled..]).map_err(told)? {
+            0 => Err("the server has gone".into()),
+            count => {
+                self.filled += count;
+                Ok(())
+            }
+        }
+    }
+
+    fn bytes(&self) -> &[u8] {
+        &self.room[..self.filled]
+    }
+
+    /// So many bytes at the front were taken.
+    fn drop_front(&mut self, count: usize) {
+        self.room.copy_within(count..self.filled, 0);
+        self.filled -= count;
     }
 }
 
@@ -193,11 +220,11 @@ fn ask_all(mut stream: TcpStream, talk: &mut dyn Talk, load: &Load) -> Result<Me
         goes_on = goes_on && ask(talk, &mut out, &mut asked, began);
     }
     let mut measured = Measured::default();
-    let (mut buffer, mut answers) = (Vec::new(), Vec::new());
+    let (mut came, mut answers) = (Came::new(), Vec::new());
     while !asked.at.is_empty() {
-        let came = exchange(&mut stream, &mut out, &mut buffer);
-        match came.and_then(|()| talk.take(&buffer, &mut answers, &mut out)) {
-            Ok(used) => drop(buffer.drain(..used)),
+        let exchanged = came.exchange(&mut stream, &mut out);
+        match exchanged.and_then(|()| talk.take(came.bytes(), &mut answers, &mut out)) {
+            Ok(used) => came.drop_front(used),
             Err(why) => {
                 measured.ended = Some(why);
                 break;

@@ -7,7 +7,7 @@ use std::os::unix::fs::{FileExt, OpenOptionsExt};
 use std::path::Path;
 
 /// A file is written so in whole blocks of so many bytes, which lie in memory at a multiple of that.
-const BLOCK: usize = 4096;
+pub const BLOCK: usize = 4096;
 
 /// So many bytes are written at once, at the most.
 const ROOM: usize = 1 << 18;
@@ -33,6 +33,11 @@ impl Blocks {
         let kept = &bytes[bytes.len() / BLOCK * BLOCK..];
         room.get_mut(front..front + kept.len())?.copy_from_slice(kept);
         Some(Blocks { file, room, front, length: bytes.len() })
+    }
+
+    /// The file, of which whole blocks are written past the page cache.
+    pub fn file(&self) -> &File {
+        &self.file
     }
 }
 

@@ -3,6 +3,7 @@
 //! the protocol.
 
 use crate::net::Writer;
+use std::cell::Cell;
 use std::sync::Arc;
 use std::sync::atomic::{AtomicBool, Ordering};
 use std::sync::mpsc::{self, Receiver, Sender};
@@ -55,6 +56,8 @@ pub struct EventSender {
 /// Takes events.
 pub struct EventReceiver {
     urgent: Receiver<Event>,
+    /// The next urgent event, if it was looked at.
+    at_hand: Cell<Option<Event>>,
     peers: Receiver<Option<Event>>,
     clients: Receiver<Event>,
     keeps_others: Arc<AtomicBool>,
@@ -67,7 +70,8 @@ pub fn channel() -> (EventSender, EventReceiver) {
     let (clients, from_clients) = mpsc::channel();
     let keeps_others = Arc::new(AtomicBool::new(false));
     let sender = EventSender { urgent, peers, clients, keeps_others: Arc::clone(&keeps_others) };
-    (sender, EventReceiver { urgent: from_urgent, peers: from_peers, clients: from_clients, keeps_others })
+    let at_hand = Cell::new(None);
+    (sender, EventReceiver { urgent: from_urgent, at_hand, peers: from_peers, clients: from_clients, keeps_others })
 }
 
 impl EventSender {
@@ -93,9 +97,21 @@ impl EventReceiver {
         self.keeps_others.store(keeps, Ordering::Relaxed);
     }
 
+    fn next_urgent(&self) -> Option<Event> {
+        self.at_hand.take().or_else(|| self.urgent.try_recv().ok())
+    }
+
+    /// Whether something urgent is there, which is taken next.
+    pub fn has_urgent(&self) -> bool {
+        let next = self.next_urgent();
+        let has = next.is_some();
+        self.at_hand.set(next);
+        has
+    }
+
     /// The next event, if one is there: of clients only where nothing else is.
     fn next(&self) -> Option<Event> {
-        let urgent = || self.urgent.try_recv().ok();
+        let urgent = || self.next_urgent();
         let of_peers = || self.peers.try_iter().flatten().next();
         // what has become urgent meanwhile was told of in the peers' queue, and passed over there
         urgent().or_else(of_peers).or_else(urgent).or_else(|| self.clients.try_recv().ok())
@@ -157,6 +173,22 @@ mod tests {
         assert_eq!(taken(&receiver), []);
         assert!(sender.send(client(6)));
         assert_eq!(taken(&receiver), [106]);
+    }
+
+    #[test]
+    fn what_is_urgent_is_seen_and_then_taken_once() {
+        let (sender, receiver) = channel();
+        let urgent = |number| sender.send(Event::Urgent(number, Vec::new()));
+        assert!(!receiver.has_urgent());
+        assert!(sender.send(Event::PeerDown(0)) && urgent(1));
+        let (mut taken, mut seen) = (Vec::new(), Vec::new());
+        receiver.take_turn(Duration::ZERO, |event| {
+            taken.extend(number(event));
+            // one comes while the first is taken
+            assert!(taken.len() != 1 || urgent(2));
+            seen.push(receiver.has_urgent() && receiver.has_urgent());
+        });
+        assert_eq!((taken, seen), (vec![11, 12, 0], vec![true, false, false]));
     }
 
     #[test]

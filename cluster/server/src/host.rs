@@ -122,7 +122,9 @@ impl Host {
                 let many = most_before(&event);
                 self.roll_waits |= matches!(&event, Event::Urgent(_, batch) if framed(batch).any(is_of_roll));
                 self.take(event);
-                if passed_on + many <= self.core.counts.works || !self.waiting.is_empty() {
+                let is_due = passed_on + many <= self.core.counts.works || !self.waiting.is_empty();
+                // what is urgent is soon taken, and what that sends leaves in the same batches
+                if is_due && !events.has_urgent() {
                     passed_on = self.core.counts.works;
                     self.pass_on();
                 }

@@ -1,6 +1,6 @@
 //! A node's folder: its lock, its journal, and how many bytes of that were safe.
 
-use crate::blocks::Blocks;
+use crate::blocks::{BLOCK, Blocks};
 use crate::faults::Failing;
 use std::fs::{self, File, OpenOptions};
 use std::io::{self, ErrorKind, Seek, SeekFrom};
@@ -17,11 +17,15 @@ use std::time::{Duration, Instant};
 const AHEAD: usize = 1 << 20;
 
 /// So many bytes of a file are freed at once, with a pause behind them: all other syncs on its disk wait meanwhile.
-const PIECE: u64 = 16 << 20;
+/// Hosts that share a disk free their files at about the same time: of 16 MB at once syncs waited for most of that.
+const PIECE: u64 = 1 << 20;
 const PAUSE: Duration = Duration::from_millis(20);
 
-/// So many zeros.
-static ZEROS: [u8; AHEAD] = [0; AHEAD];
+/// So many zeros, as they are written past the page cache.
+#[repr(align(4096))]
+struct Zeros([u8; AHEAD]);
+
+static ZEROS: Zeros = Zeros([0; AHEAD]);
 
 /// The file of a node's journal, locked. Behind the journal's bytes it has zeros.
 pub struct Journal {
@@ -136,10 +140,13 @@ impl Files {
             return;
         }
         self.filled = self.filled.max(self.length);
-        let end = count + AHEAD;
+        let end = (count + AHEAD).next_multiple_of(BLOCK);
         while self.filled < end {
-            let zeros = &ZEROS[..AHEAD.min(end - self.filled)];
-            if failing.write_ahead(&self.file, zeros, self.filled as u64).is_err() {
+            // what begins within a block goes to its end first; whole blocks go past the page cache, as the bytes will
+            let part = if self.filled.is_multiple_of(BLOCK) { AHEAD } else { BLOCK - self.filled % BLOCK };
+            let zeros = &ZEROS.0[..part.min(end - self.filled)];
+            let file = self.blocks.as_ref().filter(|_| part == AHEAD).map_or(&self.file, Blocks::file);
+            if failing.write_ahead(file, zeros, self.filled as u64).is_err() {
                 return;
             }
             self.filled += zeros.len();
@@ -378,6 +385,24 @@ mod tests {
         assert_eq!(journal.sync()?.safe, 38);
         let bytes = fs::read(folder.join("journal"))?;
         assert!(bytes.starts_with(b"first and more and more and more again\0"));
+        fs::remove_dir_all(&folder)
+    }
+
+    /// Over several times as many bytes as have zeros ahead of them at once, from a length that is no whole block.
+    #[test]
+    fn behind_bytes_of_any_length_there_are_zeros() -> io::Result<()> {
+        let folder = empty_folder("ahead");
+        let mut bytes = b"first".to_vec();
+        let mut journal = Journal::create(&folder, find(&folder)?, &bytes, Failing::default())?;
+        for length in [1, BLOCK - 6, BLOCK, AHEAD - 1, 7, AHEAD + BLOCK, 2 * AHEAD + 9, 300] {
+            let more = vec![1 + (length % 200) as u8; length];
+            journal.add(&more)?;
+            bytes.extend_from_slice(&more);
+            assert_eq!(journal.sync()?.safe, bytes.len());
+            let stand = fs::read(folder.join("journal"))?;
+            let (front, zeros) = stand.split_at(bytes.len());
+            assert!(front == bytes && !zeros.is_empty() && zeros.iter().all(|byte| *byte == 0), "{length}");
+        }
         fs::remove_dir_all(&folder)
     }
 
