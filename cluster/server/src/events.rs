@@ -37,13 +37,10 @@ pub const LEAST_PART: usize = 32;
 /// And at most so many.
 const MOST_PART: usize = 64;
 
-/// So many requests are a part at a host that keeps others' entries too: it has work while its own are on their way, and
-/// each part costs it, and each backup, a batch.
-const LARGE_PART: usize = 128;
-
-/// How many of so many requests are a part.
+/// How many of so many requests are a part. A host that keeps others' entries too has work while its own are on their
+/// way, and each part costs it a batch to each backup: there parts are as large as they may be.
 pub fn part_of(count: usize, keeps_others: bool) -> usize {
-    if keeps_others { LARGE_PART } else { count.div_ceil(2).clamp(LEAST_PART, MOST_PART) }
+    if keeps_others { MOST_PART } else { count.div_ceil(2).clamp(LEAST_PART, MOST_PART) }
 }
 
 /// Hands events over.
@@ -157,7 +154,7 @@ mod tests {
         let parts = || [1, 64, 100, 1000].map(|count| part_of(count, sender.keeps_others()));
         assert_eq!(parts(), [32, 32, 50, 64]);
         receiver.say_keeps_others(true);
-        assert_eq!(parts(), [128; 4]);
+        assert_eq!(parts(), [64; 4]);
         receiver.say_keeps_others(false);
         assert_eq!(parts(), [32, 32, 50, 64]);
     }

@@ -25,12 +25,8 @@ const KEPT_IN: &str = "options";
 
 /// A node takes and frees as many pieces of memory of a size as it is given messages at once. Where there is no
 /// mimalloc the C library keeps but seven of them at hand for a thread, unless it is told otherwise. Queues hand pieces
-/// of 1,000 bytes to threads that would only gather them. mimalloc is told to ask for large pages: where the kernel has
-/// them the first use of 2 MB is one fault, and not 512.
-const TUNABLES: [(&str, &str); 2] = [
-    ("GLIBC_TUNABLES", "glibc.malloc.tcache_count=8000:glibc.malloc.tcache_max=900"),
-    ("MIMALLOC_LARGE_OS_PAGES", "1"),
-];
+/// of 1,000 bytes to threads that would only gather them.
+const TUNABLES: (&str, &str) = ("GLIBC_TUNABLES", "glibc.malloc.tcache_count=8000:glibc.malloc.tcache_max=900");
 
 /// Runs one node, until its input ends: whoever started it has then ended.
 pub fn serve(options: &Options) -> Result<(), String> {
@@ -170,9 +166,9 @@ impl Cluster {
         let is_coordinator = place + 1 == self.places();
         let index = if is_coordinator { Vec::new() } else { vec!["--index".to_string(), place.to_string()] };
         let program = std::env::current_exe().map_err(|error| error.to_string())?;
-        let tunables = TUNABLES.map(|(name, value)| (name, std::env::var(name).unwrap_or_else(|_| value.to_string())));
+        let tunables = std::env::var(TUNABLES.0).unwrap_or_else(|_| TUNABLES.1.to_string());
         let child = Command::new(program)
-            .envs(tunables)
+            .env(TUNABLES.0, tunables)
             .args(["serve", "--hosts", &self.target.hosts.to_string()])
             .args(&index)
             .args(["--address", &self.target.address, "--port", &self.target.port.to_string()])
