@@ -17,7 +17,7 @@ use std::time::{Duration, Instant};
 const AHEAD: usize = 1 << 20;
 
 /// So many bytes of a file are freed at once, with a pause behind them: all other syncs on its disk wait meanwhile.
-/// Hosts that share a disk free their files at about the same time: of 16 MB at once syncs waited for most of that.
+/// Hosts that share a disk free their files at about the same time: with 16 MB at once a sync took four times as long.
 const PIECE: u64 = 1 << 20;
 const PAUSE: Duration = Duration::from_millis(20);
 
