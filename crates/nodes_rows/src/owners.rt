@@ -1,6 +1,5 @@
 //! What a master owns: parts of crashed masters' logs, and the replay of their entries.
 
-use crate::bodies;
 use crate::cases::unknown;
 use rc_ownership::Ownership;
 use rc_types::{Entry, Fault, KeyRange, Part, ServerId};
@@ -95,11 +94,22 @@ fn next(alloc: Global, owner: &mut Ownership) -> Result<Option<Entry>, Fault> {
     Ok(Some(entry))
 }
 
+/// An entry in brackets, with the bytes of its value.
+fn write_entry(entry: &Entry, page: &mut Page) {
+    write!(page, " (term {} table {}", entry.term, entry.table);
+    write!(page, " key {} version {}", entry.key, entry.version);
+    match &entry.value {
+        None => page.put(" value none"),
+        Some(bytes) => page.list(" value", bytes.as_slice()),
+    }
+    page.put(")");
+}
+
 fn replay(owner: &mut Ownership, desk: &mut Desk) -> Result<(), Fault> {
     match next(desk.alloc, owner)? {
         Some(entry) => {
             desk.page.put("\n   ");
-            bodies::write_entry(&entry, &mut desk.page);
+            write_entry(&entry, &mut desk.page);
         }
         None => desk.page.put("\n    none waits"),
     }

@@ -1,6 +1,6 @@
 -- Each coding is read back, and nothing else is: the parts, the messages, the events.
 use Rattle.std.proofs.Common.{◌≡◌, ℕ, zero, suc, ◌+◌, ◌≤◌, List, [], ◌∷◌}
-use Rattle.std.proofs.Common.{◌++◌, Option, Some, None, refl, sym, ap, ◌∙◌, arith}
+use Rattle.std.proofs.Common.{◌++◌, Some, None, refl, sym, ap, ◌∙◌, arith}
 use Rattle.std.specs.Prelude.{map, slice_get}
 use Rattle.rc_types.specs.Codes.{code_number}
 use Rattle.rc_types.specs.declared.events.Event.{Event}
@@ -20,7 +20,7 @@ use Rattle.rc_codec.specs.Fields.{refusals, refusal_at, value_at, entry_at, row_
 use Rattle.rc_codec.specs.Fields.{versioned_at}
 use Rattle.rc_codec.specs.Bodies.{body_code, message_code, coded_message, bodies, body_at, message_at}
 use Rattle.rc_codec.specs.Events.{order_code, event_code, coded_event, events, orders, order_at, ordered, event_at}
-use Rattle.rc_codec.specs.Reading.{◌>>=◌, Reader, made, flag_at}
+use Rattle.rc_codec.specs.Reading.{Reader, made, flag_at}
 use Rattle.rc_codec.proofs.Lawful.{IsBytes, Lawful, bind_some, some_is, made_again, made_lawful, pair_lawful, three_lawful, four_lawful}
 use Rattle.rc_codec.proofs.Lawful.{five_lawful, six_lawful, number_lawful, flag_lawful, bytes_lawful, optional_lawful, listed_lawful}
 use Rattle.rc_codec.proofs.Lawful.{nothing_lawful, AreRight, all_right, kind_right, made_right, chosen_lawful, versioned_lawful}

@@ -3,7 +3,7 @@ use Rattle.std.specs.Prelude.{ℕ, List, [], ◌∷◌, ◌++◌}
 use Rattle.rc_types.specs.declared.messages.Message.{Message}
 use Rattle.rc_types.specs.declared.messages.Body.{Body}
 use Rattle.rc_types.specs.declared.messages.Body.TheVariants as body
-use Rattle.rc_codec.specs.Parts.{byte, two_bytes, four_bytes, eight_bytes, flag, listed}
+use Rattle.rc_codec.specs.Parts.{two_bytes, four_bytes, eight_bytes, flag, listed}
 use Rattle.rc_codec.specs.Reading.{Reader, made, ◌⊗◌, nothing_at, three, four, five, six, flag_at, listed_at}
 use Rattle.rc_codec.specs.Fields.{u16_at, u32_at, u64_at, chosen_at, id_code, id_at, addr_code, addr_at, refusal_code}
 use Rattle.rc_codec.specs.Fields.{refusal_at, value_code, value_at, entry_code, entry_at, row_code, row_at}

@@ -75,19 +75,8 @@ impl<A: Allocator + Clone> Coordinator<A> {
 
     /// Takes a work, and adds what follows to those sent.
     ///
-    /// - An Enlist of an id that is up is answered by the list; that of its host's newest id takes it
-    ///   in, spreads the list, and begins the recovery of an older generation that was up; another is
-    ///   refused (F21).
-    /// - A Ready is noted, a Commit raises the sender's least pair and is answered, and a Recovered is
-    ///   answered by a grant (else F10, or F13 where no tablet has exactly the range), where the sender
-    ///   is up; else each is refused (F5).
-    /// - Replicas are kept where their attempt is current, nothing is decided on it, and it has no
-    ///   answer of the sender.
-    /// - A Suspect of an id that is up makes it crash, and all are told; an attempt to recover it
-    ///   begins where it still has tablets. A Decide, a Create and a Split do what they say, or are
-    ///   refused to the outside (F8, F9, F10, F11; F11, F12, F15; F13, F14, F16, F15).
-    /// - The timer sends the list again, and to whom it still waits for what he was sent.
-    /// - Anything else does nothing.
+    /// What follows each kind of message and each order is said where it is taken: `enlisting` has who is up,
+    /// `granting` who owns what, `deciding` which log is recovered, `asking` the timer. Anything else does nothing.
     ///
     /// # Errors
     ///

@@ -21,7 +21,8 @@ use rc_types::{Fault, Message, Row, Seq, ServerId, TryClone};
 use std::alloc::{AllocError, Allocator};
 
 impl<A: Allocator + Clone> State<A> {
-    /// Takes the answer of a backup.
+    /// Takes the answer of a backup. It is kept where its attempt is current, nothing is decided on it, and it has no
+    /// answer of the sender.
     pub(crate) fn keep_answer(
         &mut self,
         from: ServerId,
@@ -44,7 +45,7 @@ impl<A: Allocator + Clone> State<A> {
         self.recoveries.keep(number, from, rows)
     }
 
-    /// Takes a Decide.
+    /// Takes a Decide, or refuses it to the outside (F8, F9, F10, F11).
     pub(crate) fn decide(
         &mut self,
         master: ServerId,

@@ -15,7 +15,8 @@ use rc_types::{Fault, Message, ServerId, TryClone};
 use std::alloc::{AllocError, Allocator};
 
 impl<A: Allocator + Clone> State<A> {
-    /// Takes an Enlist.
+    /// Takes an Enlist. That of an id that is up is answered by the list. That of its host's newest id takes it in,
+    /// spreads the list, and begins the recovery of an older generation that was up. Another is refused (F21).
     pub(crate) fn enlist(&mut self, id: ServerId, sent: &mut Vec<Message>) -> Result<(), AllocError>
         requires { HasNumbers (state_view self.old) }
         ensures state { OnOk result (state_view self.new ≡ (enlists (state_view self.old) id).0) }
@@ -121,7 +122,7 @@ impl<A: Allocator + Clone> State<A> {
         Ok(tablets.len() > 0)
     }
 
-    /// Takes a Ready.
+    /// Takes a Ready. It is noted where the sender is up, else refused (F5).
     pub(crate) fn note_ready(
         &mut self,
         id: ServerId,
@@ -140,7 +141,8 @@ impl<A: Allocator + Clone> State<A> {
         Ok(())
     }
 
-    /// Takes a suspicion.
+    /// Takes a Suspect. An id that is up crashes, and all are told; an attempt to recover it begins where it still has
+    /// tablets.
     pub(crate) fn suspect(
         &mut self,
         id: ServerId,

@@ -16,7 +16,7 @@ use rc_types::{Fault, Message, Pair, Part, ServerId};
 use std::alloc::{AllocError, Allocator};
 
 impl<A: Allocator + Clone> State<A> {
-    /// Takes a Commit.
+    /// Takes a Commit. Where the sender is up it raises his least pair and is answered, else it is refused (F5).
     pub(crate) fn commit(
         &mut self,
         id: ServerId,
@@ -38,7 +38,7 @@ impl<A: Allocator + Clone> State<A> {
         Ok(())
     }
 
-    /// Takes a Create.
+    /// Takes a Create, or refuses it to the outside (F11, F12, F15).
     pub(crate) fn create(
         &mut self,
         table: u32,
@@ -98,7 +98,7 @@ impl<A: Allocator + Clone> State<A> {
         }
     }
 
-    /// Takes a Split.
+    /// Takes a Split, or refuses it to the outside (F13, F14, F15, F16).
     pub(crate) fn split(
         &mut self,
         table: u32,
@@ -128,7 +128,8 @@ impl<A: Allocator + Clone> State<A> {
         }
     }
 
-    /// Takes a Recovered.
+    /// Takes a Recovered. It is answered by a grant where the sender is up, else refused (F5); also where its attempt
+    /// was replaced (F10), and where no tablet has exactly the range (F13).
     pub(crate) fn take_recovered(
         &mut self,
         id: ServerId,

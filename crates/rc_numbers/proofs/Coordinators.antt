@@ -1,13 +1,13 @@
 -- What each rule of the coordinator does to its numbers.
 use Rattle.std.proofs.Common.{ℕ, ◌≡◌, ◌+◌, ◌-◌, ◌*◌, ◌≤◌, true, false, Bool, List}
 use Rattle.std.proofs.Common.{[], ◌∷◌, ◌++◌, length, Some, refl, arith, leb-false, length-append, length-set}
-use Rattle.rc_model.specs.Model.{ServerId, Tablet, Grant, Message, Body, CommitOk, SplitOk, Gather, MAX_TABLETS}
-use Rattle.rc_model.specs.Model.{NoTable, from_coordinator, to_each, coordinator_refuses, coordinator_tells}
-use Rattle.rc_model.specs.Model.{put_id, ServerList, is_up, enlisted, crashed}
-use Rattle.rc_model.specs.Model.{id_crashed, up, whole_table, tablets_of, assigned, marked_crashed, split_at, greater_pair}
+use Rattle.rc_model.specs.Model.{ServerId, Tablet, Grant, Message, Body, Gather, MAX_TABLETS}
+use Rattle.rc_model.specs.Model.{NoTable, from_coordinator, to_each, coordinator_refuses}
+use Rattle.rc_model.specs.Model.{put_id, ServerList, is_up, crashed}
+use Rattle.rc_model.specs.Model.{id_crashed, up, whole_table, tablets_of, assigned, greater_pair}
 use Rattle.rc_model.specs.Model.{Attempt, Decision, plan_messages, new_coordinator, refuses_server, list_body, spreads_list}
 use Rattle.rc_model.specs.Model.{begins_attempt, with_attempt, with_answer, decision_of, decides_on, own_body}
-use Rattle.rc_model.specs.Model.{grant_of, first_grant, coordinator_ticks, creates_table, is_too_many, NodeWork, coordinator_step, Pair}
+use Rattle.rc_model.specs.Model.{grant_of, coordinator_ticks, is_too_many, NodeWork, coordinator_step, Pair}
 use Rattle.rc_types.specs.declared.rows.Plan.{Plan}
 use Rattle.rc_types.specs.declared.ids.Addr.TheVariants.{Coordinator as AtCoordinator}
 use Rattle.rc_types.specs.declared.messages.Body.TheVariants as body

@@ -6,8 +6,8 @@ use Rattle.std.proofs.lemmas.Bool.{and_parts}
 use Rattle.std.proofs.lemmas.Bool.Decides.{nat_tests}
 use Rattle.rc_model.specs.Model.{ServerId, Pair, Addr, Server, Row, Part, Tablet, Grant}
 use Rattle.rc_model.specs.Model.{Message, Body}
-use Rattle.rc_model.specs.Model.{CommitOk, Gather, SplitOk, put_id}
-use Rattle.rc_model.specs.Model.{from_coordinator, coordinator_tells, same_id, ServerList, is_up, has_crashed}
+use Rattle.rc_model.specs.Model.{put_id}
+use Rattle.rc_model.specs.Model.{from_coordinator, same_id, ServerList, is_up, has_crashed}
 use Rattle.rc_model.specs.Model.{up, holds, has_table, tablets_of, with_table, whole_table}
 use Rattle.rc_model.specs.Model.{split_at, has_range, assigned, greater_pair, Attempt, Decision, GivenPart}
 use Rattle.rc_model.specs.Model.{gives_parts, new_coordinator}

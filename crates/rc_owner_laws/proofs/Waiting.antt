@@ -1,18 +1,18 @@
 -- Each step of the coordinator keeps each part that waits for its grant a tablet of the list, and refuses nobody for want of one.
-use Rattle.std.proofs.Common.{◌≡◌, ◌⊎◌, ℕ, ◌+◌, ◌-◌, ◌≤◌, Bool, true, false, List, [], ◌∷◌, ◌++◌, length, nat_eq}
+use Rattle.std.proofs.Common.{◌≡◌, ◌⊎◌, ℕ, ◌+◌, ◌-◌, ◌≤◌, Bool, true, false, List, [], ◌∷◌, ◌++◌, nat_eq}
 use Rattle.std.proofs.Common.{Option, Some, None, refl, sym, ap, ◌∙◌, inl, inr, arith}
 use Rattle.std.proofs.lemmas.Bool.Decides.{nat_tests}
 use Rattle.rc_model.specs.Model.{ServerId, Pair, Addr, Server, Row, Part, Tablet, Fault}
 use Rattle.rc_model.specs.Model.{NoTable, Message, Body, Refused}
-use Rattle.rc_model.specs.Model.{CommitOk, Gather, SplitOk, same_id}
-use Rattle.rc_model.specs.Model.{from_coordinator, coordinator_tells, ServerList, is_up}
+use Rattle.rc_model.specs.Model.{same_id}
+use Rattle.rc_model.specs.Model.{ServerList, is_up}
 use Rattle.rc_model.specs.Model.{enlisted, crashed, up, holds, tablet_of, tablets_of, whole_table, split_at}
 use Rattle.rc_model.specs.Model.{marked_crashed, is_range, has_range, assigned, Attempt, Decision, GivenPart}
 use Rattle.rc_model.specs.Model.{new_coordinator, refuses_server}
-use Rattle.rc_model.specs.Model.{list_body, spreads_list, begins_attempt, attempt_at}
+use Rattle.rc_model.specs.Model.{spreads_list, begins_attempt, attempt_at}
 use Rattle.rc_model.specs.Model.{with_attempt, up_of_host, with_crashed}
 use Rattle.rc_model.specs.Model.{with_answer, decision_of, decides_on}
-use Rattle.rc_model.specs.Model.{own_body, grant_of, grant_to}
+use Rattle.rc_model.specs.Model.{grant_of, grant_to}
 use Rattle.rc_model.specs.Model.{first_grant, creates_table}
 use Rattle.rc_model.specs.Model.{NodeWork, coordinator_step, In}
 use Rattle.rc_types.specs.declared.ids.Addr.TheVariants.{Coordinator as AtCoordinator}

@@ -4,6 +4,7 @@ ghost use Rattle.std.specs.Prelude.{◌≡◌, ◌^◌, ◌-◌, if◌then◌els
 
 use rc_types::{Addr, Code, ServerId};
 use std::alloc::{AllocError, Global};
+use std::fmt::Display;
 
 /// How the letters of what is said are spelled.
 #[derive(Clone, Copy)]
@@ -54,12 +55,31 @@ pub struct Pen {
 impl Pen {
     /// A pen that has written nothing yet.
     pub fn new(alloc: Global, spelling: Spelling) -> Pen {
+        Pen::on(String::new(alloc), spelling)
+    }
+
+    /// A pen that writes at the end of this text.
+    pub fn on(text: String, spelling: Spelling) -> Pen {
         Pen {
-            text: String::new(alloc),
+            text,
             spelling,
             whole: false,
             refused: false,
         }
+    }
+
+    /// Takes away what was written.
+    pub fn clear(&mut self) {
+        self.text.clear();
+        self.refused = false;
+    }
+
+    /// What was written, if memory was not refused.
+    pub fn text(&self) -> Option<&str> {
+        if self.refused {
+            return None;
+        }
+        Some(self.text.as_str())
     }
 
     /// From here on long lists are told whole, or not.
@@ -80,6 +100,13 @@ impl Pen {
     pub fn take(&mut self, wanted: Result<(), AllocError>) {
         if wanted.is_err() {
             self.refused = true;
+        }
+    }
+
+    /// Writes a text as it is: `write!(pen, " seg {seg}")` calls it.
+    pub fn write_fmt<T: Display + Drop>(&mut self, text: T) {
+        if !self.refused {
+            self.refused = write!(self.text, "{text}").is_err();
         }
     }
 

@@ -2,7 +2,7 @@
 use Rattle.std.specs.Prelude.{◌≡◌, ℕ, ◌<◌, ◌||◌, nat_eq}
 use Rattle.rc_types.specs.declared.limits.TheConstants.{MAX_HOSTS}
 use Rattle.rc_reading.specs.declared.hosts.Hosts.{Hosts}
-use Rattle.rc_types.specs.declared.kinds.Kind.{Kind}
+use Rattle.rc_types.specs.declared.messages.Kind.{Kind}
 use Rattle.rc_reading.specs.declared.kinds.Kinds.{Kinds}
 use Rattle.rc_reading.specs.Hosts.{has_host, with_host}
 use Rattle.rc_types.specs.Kinds.{kind_number}

@@ -1,6 +1,6 @@
 -- Sets of kinds: a bit for each kind.
 use Rattle.std.specs.Prelude.{Bool}
-use Rattle.rc_types.specs.declared.kinds.Kind.{Kind}
+use Rattle.rc_types.specs.declared.messages.Kind.{Kind}
 use Rattle.rc_types.specs.Kinds.{kind_number}
 use Rattle.rc_reading.specs.declared.kinds.Kinds.{Kinds}
 use Rattle.rc_reading.specs.Bits.{with_bit, has_bit}

@@ -5,7 +5,7 @@ use Rattle.std.proofs.Common.{subst, ◌-◌, length-drop}
 use Rattle.std.proofs.lemmas.List.{take_all}
 use Rattle.std.specs.List.{find}
 use Rattle.rc_types.specs.declared.ids.Addr.{Addr}
-use Rattle.rc_types.specs.declared.kinds.Kind.{Kind}
+use Rattle.rc_types.specs.declared.messages.Kind.{Kind}
 use Rattle.rc_runs.specs.declared.passing.Passing.{Passing}
 use Rattle.rc_runs.specs.Lanes.{In, Ascends, marked, Lane, is_lane_left, InLanes, AllAscend, IsLeast, lesser, earlier_of}
 use Rattle.rc_runs.specs.Lanes.{Joins, AreTidied}

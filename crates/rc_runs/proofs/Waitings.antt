@@ -11,7 +11,7 @@ use Rattle.rc_model.specs.Model.{Outside, Message, Event}
 use Rattle.rc_runs.specs.declared.passing.Passing.{Passing}
 use Rattle.rc_runs.specs.Delivered.{is_delivered}
 use Rattle.rc_runs.specs.Settling.{next_due, due_from}
-use Rattle.rc_types.specs.declared.kinds.Kind.{Kind}
+use Rattle.rc_types.specs.declared.messages.Kind.{Kind}
 use Rattle.rc_types.specs.Kinds.{kind_of}
 use Rattle.rc_runs.specs.Passing.{is_left_alone}
 use Rattle.rc_runs.specs.Lanes.{In, Ascends, marked, Lane, is_lane_left, InLanes, IsLeast, Joins, AreTidied}

@@ -2,7 +2,7 @@
 use Rattle.std.specs.Prelude.{◌≡◌, ◌⊎◌, ◌≤◌, ◌<◌, ℕ, ◌+◌, Bool, true, false, nat_lt, ◌||◌, List, [], ◌∷◌, ⊤, Option}
 use Rattle.std.specs.Prelude.{Some, None, slice_get, unwrap_or}
 use Rattle.rc_types.specs.declared.ids.Addr.{Addr}
-use Rattle.rc_types.specs.declared.kinds.Kind.{Kind}
+use Rattle.rc_types.specs.declared.messages.Kind.{Kind}
 use Rattle.rc_reading.specs.Kinds.{has_kind}
 use Rattle.rc_runs.specs.declared.passing.Passing.{Passing}
 use Rattle.rc_runs.specs.Passing.{is_for_one_of}

@@ -6,7 +6,7 @@ use Rattle.rc_model.specs.Model.{ServerId, Pair, Addr, Row, Tablet, Grant, Messa
 use Rattle.rc_model.specs.Model.{Replicas, Gather, put_id, from_coordinator, to_coordinator}
 use Rattle.rc_model.specs.Model.{ServerList, is_up, has_crashed, crashed, up, up_rows}
 use Rattle.rc_model.specs.Model.{split_at, assigned, is_below, pick, greater_pair, Attempt, Decision, new_attempt}
-use Rattle.rc_model.specs.Model.{plan_messages, list_body, spreads_list, begins_attempt, attempt_at}
+use Rattle.rc_model.specs.Model.{plan_messages, spreads_list, begins_attempt, attempt_at}
 use Rattle.rc_model.specs.Model.{with_attempt, suspects, with_answer, decision_of, decides_on, decides, grant_of}
 use Rattle.rc_model.specs.Model.{creates_table, creates, splits, tablet_of, coordinator_ticks, coordinator_takes, In}
 use Rattle.rc_types.specs.declared.ids.Addr.TheVariants.{Coordinator as AtCoordinator}

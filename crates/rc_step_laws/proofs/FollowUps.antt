@@ -6,7 +6,7 @@ use Rattle.std.specs.List.{list_any}
 use Rattle.std.proofs.lemmas.List.{length-map}
 use Rattle.rc_model.specs.Model.{ServerId, Server, Entry, Member, Phase, Opening, Closing, Writing, Message, Body, Place, WriteOk, Close}
 use Rattle.rc_model.specs.Model.{Commit, Ready, Recovered, between, to_coordinator, told_closed, is_closed, all_placed, all_closed}
-use Rattle.rc_model.specs.Model.{Segment, is_ready, is_all_closed, is_unclosed, has_unclosed, with_closes_sent, Log, LogPlace, places_of}
+use Rattle.rc_model.specs.Model.{Segment, is_ready, is_all_closed, is_unclosed, has_unclosed, Log, LogPlace, places_of}
 use Rattle.rc_model.specs.Model.{head_of, old_head_of, has_old_head, with_segment, numbers_to, is_opening, is_closing, durable_now, shuts}
 use Rattle.rc_model.specs.Model.{may_start, may_close, may_write, left_out, with_freed, starts, closes_old, writes_on, after_replay}
 use Rattle.rc_model.specs.Model.{Master, with_log, to_ids, ids_of, appends_entry, close_is_due}

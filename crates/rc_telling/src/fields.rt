@@ -24,9 +24,15 @@ const MOST_BYTES: usize = 32;
 
 /// A message: its number, its kind, from where to where, and what it says.
 pub(crate) fn tell_message(pen: &mut Pen, number: usize, message: &Message) {
+    pen.put_all("% ", &[Piece::Size(number)]);
+    tell_sent(pen, message);
+}
+
+/// A message in a line: its kind, from where to where, and what it says.
+pub fn tell_sent(pen: &mut Pen, message: &Message) {
     let kind = Piece::Words(Kind::of(&message.body).name());
     let (from, to) = (Piece::Node(message.from), Piece::Node(message.to));
-    pen.put_all("% % % -> %", &[Piece::Size(number), kind, from, to]);
+    pen.put_all("% % -> %", &[kind, from, to]);
     tell_fields_if_any(pen, &message.body);
 }
 

@@ -37,6 +37,7 @@ mod writes;
 
 pub use changes::Changes;
 pub use diagrams::mermaid;
+pub use fields::tell_sent;
 pub use hinting::{Factors, hints};
 pub use json::log_json;
 pub use logs::log;

@@ -1,7 +1,7 @@
 -- Each kind stands at its number among all kinds.
 use Rattle.std.proofs.Common.{◌≡◌, Some, slice_get, refl, sym, ap, ◌∙◌}
-use Rattle.rc_types.specs.declared.kinds.Kind.{Kind}
-use Rattle.rc_types.specs.declared.kinds.Kind.TheVariants as kind
+use Rattle.rc_types.specs.declared.messages.Kind.{Kind}
+use Rattle.rc_types.specs.declared.messages.Kind.TheVariants as kind
 use Rattle.rc_types.specs.Kinds.{all_kinds, kind_number}
 
 placed : (k : Kind) → slice_get all_kinds (kind_number k) ≡ Some k

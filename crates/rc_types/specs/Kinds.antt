@@ -6,10 +6,10 @@ use Rattle.rc_types.specs.declared.events.Event.TheVariants as event
 use Rattle.rc_types.specs.declared.events.Order.TheVariants as order
 use Rattle.rc_types.specs.declared.messages.Body.{Body}
 use Rattle.rc_types.specs.declared.messages.Body.TheVariants as body
-use Rattle.rc_types.specs.declared.kinds.Kind.{Kind}
-use Rattle.rc_types.specs.declared.kinds.Kind.TheVariants as kind
-use Rattle.rc_types.specs.declared.kinds.EventKind.{EventKind}
-use Rattle.rc_types.specs.declared.kinds.EventKind.TheVariants as of_event
+use Rattle.rc_types.specs.declared.messages.Kind.{Kind}
+use Rattle.rc_types.specs.declared.messages.Kind.TheVariants as kind
+use Rattle.rc_types.specs.declared.events.EventKind.{EventKind}
+use Rattle.rc_types.specs.declared.events.EventKind.TheVariants as of_event
 
 abbrev pub kind_of : Body → Kind
 kind_of (body.Write table key value) = kind.Write

@@ -1,4 +1,6 @@
-//! What can happen in a world, and what a node can be given.
+//! What can happen in a world, with the kinds of events, and what a node can be given.
+
+ghost use Rattle.std.specs.Prelude.{◌≡◌, ◌<◌};
 
 use crate::ids::{Addr, ServerId};
 use crate::messages::{Body, Message};
@@ -134,4 +136,86 @@ pub enum NodeWork {
     },
     /// To the coordinator, by who runs the cluster.
     Order(Order),
+}
+
+/// Which kind of event it is. "Scenarios" in `docs/FORMATS.md` says how each one is written.
+#[derive(Clone, Copy, PartialEq, Eq)]
+pub enum EventKind {
+    /// The outside asks a server to write or read.
+    Ask,
+    /// A message reaches its addressee.
+    Deliver,
+    /// A timer goes off.
+    Tick,
+    /// A server stops.
+    Stop,
+    /// A host is started.
+    Start,
+    /// A server is believed dead.
+    Suspect,
+    /// A recovery is decided.
+    Decide,
+    /// A table is created.
+    Create,
+    /// A tablet is split.
+    Split,
+}
+
+impl EventKind {
+    ghost use Rattle.rc_types.specs.Kinds.{event_kind_of, event_name, event_number};
+
+    /// Every kind.
+    pub const ALL: [EventKind; 9] = [
+        EventKind::Ask,
+        EventKind::Deliver,
+        EventKind::Tick,
+        EventKind::Stop,
+        EventKind::Start,
+        EventKind::Suspect,
+        EventKind::Decide,
+        EventKind::Create,
+        EventKind::Split,
+    ];
+
+    /// The kind of this event.
+    pub fn of(event: &Event) -> EventKind
+        ensures { result ≡ event_kind_of event.now }
+    {
+        match event {
+            Event::Ask { .. } => EventKind::Ask,
+            Event::Deliver(_) => EventKind::Deliver,
+            Event::Tick(_) => EventKind::Tick,
+            Event::Stop(_) => EventKind::Stop,
+            Event::Start { .. } => EventKind::Start,
+            Event::Order(Order::Suspect(_)) => EventKind::Suspect,
+            Event::Order(Order::Decide(_)) => EventKind::Decide,
+            Event::Order(Order::Create { .. }) => EventKind::Create,
+            Event::Order(Order::Split { .. }) => EventKind::Split,
+        }
+    }
+
+    /// Its name. Scenarios spell it with a small letter, and an Ask as what is asked: `write` or `read`.
+    pub fn name(self) -> &'static str
+        ensures { result.now ≡ event_name self }
+    {
+        match self {
+            EventKind::Ask => "Ask",
+            EventKind::Deliver => "Deliver",
+            EventKind::Tick => "Tick",
+            EventKind::Stop => "Stop",
+            EventKind::Start => "Start",
+            EventKind::Suspect => "Suspect",
+            EventKind::Decide => "Decide",
+            EventKind::Create => "Create",
+            EventKind::Split => "Split",
+        }
+    }
+
+    /// Its number: its place among all kinds, from 0.
+    pub fn number(self) -> u8
+        ensures is { result ≡ event_number self }
+        ensures few { result < 9 }
+    {
+        self as u8
+    }
 }

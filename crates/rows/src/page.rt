@@ -1,5 +1,6 @@
 //! The page that an answer is written on.
 
+use rc_pen::{Pen, Spelling};
 use rc_types::{Fault, ServerId};
 use std::alloc::{AllocError, Global};
 use std::fmt::Display;
@@ -7,11 +8,10 @@ use std::fmt::Display;
 /// So many bytes of an answer need no memory while they are written.
 const EXPECTED: usize = 131_072;
 
-/// An answer. Once it was refused memory, nothing more is written on it, and it says so at the end.
+/// An answer, on which a pen writes: once it was refused memory, nothing more is written, and it says so at the end.
 #[derive(Drop)]
 pub struct Page {
-    text: String,
-    refused: bool,
+    pen: Pen,
 }
 
 impl Page {
@@ -22,38 +22,34 @@ impl Page {
     /// Memory was refused.
     pub fn new(alloc: Global) -> Result<Page, AllocError> {
         let text = String::with_capacity(alloc, EXPECTED)?;
-        Ok(Page {
-            text,
-            refused: false,
-        })
+        let mut pen = Pen::on(text, Spelling::Plain);
+        pen.tell_whole(true);
+        Ok(Page { pen })
     }
 
     /// Takes away what was written.
     pub fn clear(&mut self) {
-        self.text.clear();
-        self.refused = false;
+        self.pen.clear();
     }
 
     /// What was written, if memory was not refused.
     pub(crate) fn text(&self) -> Option<&str> {
-        if self.refused {
-            return None;
-        }
-        Some(self.text.as_str())
+        self.pen.text()
+    }
+
+    /// Its pen, with which long lists are told whole.
+    pub fn pen(&mut self) -> &mut Pen {
+        &mut self.pen
     }
 
     /// Writes these words.
     pub fn put(&mut self, words: &str) {
-        if !self.refused {
-            self.refused = self.text.push_str(words).is_err();
-        }
+        self.pen.put(words);
     }
 
     /// Writes a text: `write!(page, " seg {seg}")` calls it.
     pub fn write_fmt<T: Display + Drop>(&mut self, text: T) {
-        if !self.refused {
-            self.refused = write!(self.text, "{text}").is_err();
-        }
+        self.pen.write_fmt(text);
     }
 
     /// Writes these words, and `yes` or `no`.
