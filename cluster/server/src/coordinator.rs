@@ -152,8 +152,12 @@ impl Coordinator {
 
     fn take(&mut self, event: Event) {
         match event {
-            Event::Peer(connection, batch) | Event::Urgent(connection, batch) => self.take_batch(connection, &batch),
-            Event::Synced => self.core.end_sync(),
+            Event::Peer(connection, batch)
+            | Event::Closing(connection, batch)
+            | Event::Urgent(connection, batch)
+            | Event::Roll(connection, batch) => self.take_batch(connection, &batch),
+            Event::Synced | Event::RollSynced => self.core.end_sync(),
+            Event::Hurry => {}
             Event::PeerDown(connection) => self.gone.extend(self.connections.remove(&connection)),
             Event::Client(client, bytes) => {
                 for bytes in framed(&bytes) {

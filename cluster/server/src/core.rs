@@ -138,7 +138,8 @@ impl Core {
         let (events, from) = events::channel();
         let text = Arc::new(Mutex::new(String::new()));
         let done = events.clone();
-        journal.sync_beside(move || _ = done.send(Event::Synced));
+        let ended = |is_of_roll| if is_of_roll { Event::RollSynced } else { Event::Synced };
+        journal.sync_beside(move |is_of_roll| _ = done.send(ended(is_of_roll)));
         listen(&config.at(config.place()), config.secret.clone(), events, Arc::clone(&text))?;
         let places = 0..=usize::from(config.hosts);
         let record = config.record.then(|| Record::open(&config.folder)).transpose()?;
@@ -316,20 +317,42 @@ impl Core {
     }
 
     /// Where something waits until what the node has written down is safe, has it written and synced beside, while more
-    /// is taken. Says whether that is under way: what comes meanwhile has to wait, and a long journal is left alone.
-    pub fn begin_sync(&mut self) -> bool {
-        if !self.journal.is_syncing && self.ready.waits && !self.is_long() {
+    /// is taken, but where so many syncs are under way. Says whether one is: what comes meanwhile has to wait, and a
+    /// long journal is left alone.
+    fn begin_sync(&mut self, most: usize, is_of_roll: bool) -> bool {
+        if self.journal.under_way() < most && self.ready.waits && !self.is_long() {
             self.synced_at = self.counts.works;
             let bytes = self.take_journal();
-            self.journal.begin_sync(bytes).unwrap_or_else(|error| failed("the journal can't be written", error));
+            let begun = self.journal.begin_sync(bytes, is_of_roll);
+            begun.unwrap_or_else(|error| failed("the journal can't be written", error));
         }
-        self.journal.is_syncing
+        0 < self.journal.under_way()
     }
 
-    /// A sync that was begun may have ended.
+    /// Whether something that was sent waits until what the node has written down is safe.
+    pub fn is_waiting(&self) -> bool {
+        self.ready.waits
+    }
+
+    /// Begins a sync beside, where none is under way.
+    pub fn begin_sync_beside(&mut self) {
+        self.begin_sync(1, false);
+    }
+
+    /// Begins one for which a roll waits, behind the one that is under way. Says whether it did so.
+    pub fn begin_sync_of_roll(&mut self) -> bool {
+        let before = self.journal.under_way();
+        self.begin_sync(2, true);
+        before < self.journal.under_way()
+    }
+
+    /// Syncs that were begun may have ended.
     pub fn end_sync(&mut self) {
-        let synced = self.journal.poll_sync().unwrap_or_else(|error| failed("the journal can't be synced", error));
-        synced.into_iter().for_each(|synced| _ = self.note_synced(synced));
+        while let Some(synced) =
+            self.journal.poll_sync().unwrap_or_else(|error| failed("the journal can't be synced", error))
+        {
+            self.note_synced(synced);
+        }
     }
 
     fn note_synced(&mut self, synced: Synced) -> bool {
@@ -341,7 +364,7 @@ impl Core {
     /// taken since the last sync, or writes of its own are under way, else at once. Says whether it did so at once.
     pub fn make_safe(&mut self, has_own_writes: bool) -> bool {
         let is_much = self.config.beside <= self.since_sync();
-        if (self.journal.is_syncing || is_much || has_own_writes) && self.begin_sync() {
+        if (0 < self.journal.under_way() || is_much || has_own_writes) && self.begin_sync(1, false) {
             return false;
         }
         self.make_safe_now()
@@ -349,8 +372,11 @@ impl Core {
 
     /// The same, but always at once.
     pub fn make_safe_now(&mut self) -> bool {
-        let synced = self.journal.wait_sync().unwrap_or_else(|error| failed("the journal can't be synced", error));
-        synced.into_iter().for_each(|synced| _ = self.note_synced(synced));
+        while let Some(synced) =
+            self.journal.wait_sync().unwrap_or_else(|error| failed("the journal can't be synced", error))
+        {
+            self.note_synced(synced);
+        }
         if !self.ready.journal.is_empty() {
             let bytes = self.take_journal();
             self.journal.add(&bytes).unwrap_or_else(|error| failed("the journal can't be written", error));
@@ -386,7 +412,7 @@ impl Core {
 
     /// Makes a long journal short.
     pub fn shorten(&mut self) {
-        if !self.is_long() || self.journal.is_syncing || !self.ready.journal.is_empty() {
+        if !self.is_long() || 0 < self.journal.under_way() || !self.ready.journal.is_empty() {
             return;
         }
         match self.node.save() {

@@ -1,6 +1,6 @@
-//! What comes to the node's thread. That something is safe now, here or at a backup, and what a roll waits for, is taken
-//! before all else that peers say, and that before what clients ask: where there is much to do clients wait, and not
-//! the protocol.
+//! What comes to the node's thread. What a roll waits for is taken first, also in the middle of what takes long; then
+//! that something is safe now, here or at a backup; then all else that peers say, and then what clients ask: where
+//! there is much to do clients wait, and not the protocol.
 
 use crate::net::Writer;
 use std::cell::Cell;
@@ -13,12 +13,20 @@ use std::time::{Duration, Instant};
 pub enum Event {
     /// The frames of a batch that came on the peer's connection of this number.
     Peer(u64, Vec<u8>),
+    /// The same, and one of them closes a segment, for which a roll waits.
+    Closing(u64, Vec<u8>),
     /// Frames of that batch that are urgent.
     Urgent(u64, Vec<u8>),
+    /// Frames of that batch for which a roll waits.
+    Roll(u64, Vec<u8>),
     /// That connection has ended.
     PeerDown(u64),
     /// A sync of the journal has ended.
     Synced,
+    /// One has ended for which a roll waits.
+    RollSynced,
+    /// Of what peers have said, something closes a segment.
+    Hurry,
     /// Whole requests of a client, each behind its length.
     Client(u64, Vec<u8>),
     /// A client is there, to be answered here.
@@ -46,6 +54,7 @@ pub fn part_of(count: usize, keeps_others: bool) -> usize {
 /// Hands events over.
 #[derive(Clone)]
 pub struct EventSender {
+    roll: Sender<Event>,
     urgent: Sender<Event>,
     /// None says that there is one in another queue.
     peers: Sender<Option<Event>>,
@@ -55,23 +64,48 @@ pub struct EventSender {
 
 /// Takes events.
 pub struct EventReceiver {
-    urgent: Receiver<Event>,
-    /// The next urgent event, if it was looked at.
-    at_hand: Cell<Option<Event>>,
+    roll: Queue,
+    urgent: Queue,
     peers: Receiver<Option<Event>>,
     clients: Receiver<Event>,
     keeps_others: Arc<AtomicBool>,
 }
 
+/// A queue of events of which one can see whether it has any.
+struct Queue {
+    from: Receiver<Event>,
+    /// The next event, if it was looked at.
+    at_hand: Cell<Option<Event>>,
+}
+
+impl Queue {
+    fn new(from: Receiver<Event>) -> Queue {
+        Queue { from, at_hand: Cell::new(None) }
+    }
+
+    fn next(&self) -> Option<Event> {
+        self.at_hand.take().or_else(|| self.from.try_recv().ok())
+    }
+
+    /// Whether an event is there, which is the next one.
+    fn has(&self) -> bool {
+        let next = self.next();
+        let has = next.is_some();
+        self.at_hand.set(next);
+        has
+    }
+}
+
 /// The two ends of what comes to a node's thread.
 pub fn channel() -> (EventSender, EventReceiver) {
+    let (roll, from_roll) = mpsc::channel();
     let (urgent, from_urgent) = mpsc::channel();
     let (peers, from_peers) = mpsc::channel();
     let (clients, from_clients) = mpsc::channel();
     let keeps_others = Arc::new(AtomicBool::new(false));
-    let sender = EventSender { urgent, peers, clients, keeps_others: Arc::clone(&keeps_others) };
-    let at_hand = Cell::new(None);
-    (sender, EventReceiver { urgent: from_urgent, at_hand, peers: from_peers, clients: from_clients, keeps_others })
+    let sender = EventSender { roll, urgent, peers, clients, keeps_others: Arc::clone(&keeps_others) };
+    let [roll, urgent] = [from_roll, from_urgent].map(Queue::new);
+    (sender, EventReceiver { roll, urgent, peers: from_peers, clients: from_clients, keeps_others })
 }
 
 impl EventSender {
@@ -84,6 +118,10 @@ impl EventSender {
     pub fn send(&self, event: Event) -> bool {
         match event {
             Event::Peer(..) | Event::PeerDown(_) => return self.peers.send(Some(event)).is_ok(),
+            Event::Closing(..) => {
+                return self.peers.send(Some(event)).is_ok_and(|()| self.roll.send(Event::Hurry).is_ok());
+            }
+            Event::Roll(..) | Event::RollSynced | Event::Hurry => self.roll.send(event),
             Event::Synced | Event::Urgent(..) => self.urgent.send(event),
             Event::Client(..) | Event::ClientUp(..) | Event::ClientDown(_) => self.clients.send(event),
         }
@@ -97,24 +135,26 @@ impl EventReceiver {
         self.keeps_others.store(keeps, Ordering::Relaxed);
     }
 
-    fn next_urgent(&self) -> Option<Event> {
-        self.at_hand.take().or_else(|| self.urgent.try_recv().ok())
+    /// The next event for which a roll waits.
+    pub fn next_of_roll(&self) -> Option<Event> {
+        self.roll.next()
     }
 
-    /// Whether something urgent is there, which is taken next.
+    /// The next event of peers but those.
+    pub fn next_of_peers(&self) -> Option<Event> {
+        self.peers.try_iter().flatten().next()
+    }
+
+    /// Whether something urgent is there, or something for which a roll waits: that is taken next.
     pub fn has_urgent(&self) -> bool {
-        let next = self.next_urgent();
-        let has = next.is_some();
-        self.at_hand.set(next);
-        has
+        self.roll.has() || self.urgent.has()
     }
 
     /// The next event, if one is there: of clients only where nothing else is.
     fn next(&self) -> Option<Event> {
-        let urgent = || self.next_urgent();
-        let of_peers = || self.peers.try_iter().flatten().next();
+        let urgent = || self.roll.next().or_else(|| self.urgent.next());
         // what has become urgent meanwhile was told of in the peers' queue, and passed over there
-        urgent().or_else(of_peers).or_else(urgent).or_else(|| self.clients.try_recv().ok())
+        urgent().or_else(|| self.next_of_peers()).or_else(urgent).or_else(|| self.clients.try_recv().ok())
     }
 
     /// Waits so long for an event, and then takes what is there, for a turn; at its end one of clients, so that none of
@@ -134,11 +174,11 @@ mod tests {
 
     fn number(event: Event) -> Option<u64> {
         match event {
-            Event::Peer(number, _) | Event::PeerDown(number) => Some(number),
+            Event::Peer(number, _) | Event::Closing(number, _) | Event::PeerDown(number) => Some(number),
             Event::Urgent(number, _) => Some(10 + number),
+            Event::Roll(number, _) => Some(20 + number),
             Event::Client(number, _) | Event::ClientDown(number) => Some(100 + number),
-            Event::Synced => None,
-            Event::ClientUp(..) => None,
+            Event::Synced | Event::RollSynced | Event::Hurry | Event::ClientUp(..) => None,
         }
     }
 
@@ -173,6 +213,22 @@ mod tests {
         assert_eq!(taken(&receiver), []);
         assert!(sender.send(client(6)));
         assert_eq!(taken(&receiver), [106]);
+    }
+
+    #[test]
+    fn what_a_roll_waits_for_can_be_taken_by_itself() {
+        let (sender, receiver) = channel();
+        let peer = |number| Event::Peer(number, Vec::new());
+        for event in [peer(1), Event::Closing(2, Vec::new()), peer(3), Event::Roll(4, Vec::new())] {
+            assert!(sender.send(event));
+        }
+        assert!(receiver.has_urgent());
+        assert!(matches!(receiver.next_of_roll(), Some(Event::Hurry)));
+        assert_eq!(receiver.next_of_roll().and_then(number), Some(24));
+        assert!(receiver.next_of_roll().is_none() && !receiver.has_urgent());
+        assert_eq!(receiver.next_of_peers().and_then(number), Some(1));
+        assert!(sender.send(Event::Roll(5, Vec::new())));
+        assert_eq!(taken(&receiver), [25, 2, 3]);
     }
 
     #[test]

@@ -3,7 +3,7 @@
 use crate::core::{BEAT, Config, Core, Frame, failed, tell};
 use crate::events::{Event, EventReceiver, LEAST_PART, TURN, part_of};
 use crate::protocol::{DONE, NO_VALUE, Op, Reply, Request, UNKNOWN, WRONG};
-use crate::wire::{HEARTBEAT, is_of_roll};
+use crate::wire::{HEARTBEAT, is_place};
 use sevunthi::message::{self, framed, kind, u32_at, u64_at};
 use sevunthi::{Address, Answer, Envelope, Fault, Id, Work};
 use std::borrow::Cow;
@@ -26,6 +26,11 @@ const MANY: u64 = 128;
 
 /// After so much was taken since the last sync, the next one begins, though more has come.
 const MUCH: u64 = 96;
+
+/// Between so many requests, and so many frames of a batch, what a roll waits for is seen to: an owner takes no writes
+/// while it rolls its head, and each backup is asked twice meanwhile.
+const REQUESTS: usize = 8;
+const FRAMES: usize = 32;
 
 /// F3: the head is being rolled, so that a write has to wait.
 const ROLLING: u8 = 3;
@@ -55,8 +60,12 @@ struct Host {
     /// Ranges that were granted: table, first and last key.
     grants: Vec<(u32, u64, u64)>,
     is_replaced: bool,
-    /// Something that a roll waits for came since a sync was last begun for that.
+    /// Something that has to be safe for a roll came since a sync was last begun for that.
     roll_waits: bool,
+    /// Since when writes wait for a roll; how many rolls they have waited for, and for how long.
+    rolling: Option<Instant>,
+    rolls: u64,
+    in_rolls: Duration,
     /// When the coordinator was told last that the server lives.
     beat: Instant,
     code: Vec<u8>,
@@ -75,6 +84,9 @@ pub fn run(config: Config) -> io::Result<()> {
         grants: Vec::new(),
         is_replaced: false,
         roll_waits: false,
+        rolling: None,
+        rolls: 0,
+        in_rolls: Duration::ZERO,
         beat: Instant::now(),
         code: Vec::new(),
     };
@@ -101,6 +113,7 @@ impl Host {
         self.grants.clear();
         self.core.waits.clear();
         self.next = (0, 0);
+        self.rolling = None;
         let taken = std::mem::take(&mut self.pending).into_iter().filter_map(|(_, asked)| asked);
         for Asked { client, request } in taken.chain(std::mem::take(&mut self.waiting)) {
             self.reply(client, &Reply::bare(UNKNOWN, request.number));
@@ -120,12 +133,12 @@ impl Host {
             let mut passed_on = self.core.counts.works;
             events.take_turn(wait, |event| {
                 let many = most_before(&event);
-                self.roll_waits |= matches!(&event, Event::Urgent(_, batch) if framed(batch).any(is_of_roll));
-                self.take(event);
+                self.take(event, events);
                 let is_due = passed_on + many <= self.core.counts.works || !self.waiting.is_empty();
                 // what is urgent is soon taken, and what that sends leaves in the same batches
                 if is_due && !events.has_urgent() {
                     passed_on = self.core.counts.works;
+                    self.retry(events);
                     self.pass_on();
                 }
             });
@@ -140,7 +153,7 @@ impl Host {
                 tick = Instant::now();
                 let _ = self.core.node.step(Work::Tick);
             }
-            self.retry();
+            self.retry(events);
             self.confirm();
             self.settle();
             let info = self.core.node.info();
@@ -158,36 +171,49 @@ impl Host {
     /// What was taken leaves, as far as it may. Where a roll waits, or there is much, all else is made safe beside,
     /// while more is taken.
     fn pass_on(&mut self) {
-        self.retry();
         self.route();
-        let is_due = self.roll_waits || MUCH <= self.core.since_sync();
-        if is_due && !self.core.journal.is_syncing && self.core.begin_sync() {
-            self.roll_waits = false;
+        if self.roll_waits {
+            self.roll_waits = !self.core.begin_sync_of_roll() && self.core.is_waiting();
+        } else if MUCH <= self.core.since_sync() {
+            self.core.begin_sync_beside();
         }
         self.core.flush();
     }
 
-    fn take(&mut self, event: Event) {
-        match event {
-            Event::Peer(_, batch) | Event::Urgent(_, batch) => {
-                let (server, beat) = (self.server, &mut self.beat);
-                let (mut is_replaced, mut grants) = (false, Vec::new());
-                self.core.each_frame(&batch, |core, frame| match frame {
-                    Frame::Message(message) => {
-                        grants.extend(core.deliver(message).and_then(|envelope| granted(&envelope, server)));
-                        // a batch may take long
-                        if core.counts.works.is_multiple_of(FEW) {
-                            beat_if_due(beat, server, core);
-                        }
-                    }
-                    Frame::NotUp(id) => is_replaced |= id == server,
-                    Frame::Heartbeat(..) => {}
-                });
-                self.is_replaced |= is_replaced;
-                grants.into_iter().for_each(|grant| self.note_grant(grant));
+    /// In the middle of what takes long: takes what a roll waits for, here or at another, and what that sends leaves.
+    /// Between the events of peers their next ones are taken too, where one of them closes a segment.
+    fn see_to_rolls(&mut self, events: &EventReceiver, is_between: bool) {
+        let mut is_due = false;
+        while let Some(event) = events.next_of_roll() {
+            is_due = true;
+            let hurries = is_between && matches!(event, Event::Hurry);
+            self.take(event, events);
+            while hurries && let Some(event) = events.next_of_peers() {
+                self.take(event, events);
             }
+        }
+        if is_due {
+            self.pass_on();
+        }
+    }
+
+    fn take(&mut self, event: Event, events: &EventReceiver) {
+        match event {
+            Event::Peer(_, batch) | Event::Urgent(_, batch) => self.take_batch(&batch, events),
+            Event::Closing(_, batch) => {
+                self.take_batch(&batch, events);
+                self.roll_waits = true;
+            }
+            Event::Roll(_, batch) => {
+                self.take_frames(&batch);
+                self.roll_waits |= framed(&batch).any(is_place);
+            }
+            Event::Hurry => {}
             Event::Client(client, bytes) => {
-                for request in framed(&bytes) {
+                for (number, request) in framed(&bytes).enumerate() {
+                    if number % REQUESTS == 0 {
+                        self.see_to_rolls(events, true);
+                    }
                     match Request::read(request) {
                         Some(request) => self.ask(client, request),
                         None => self.core.answer(client, &Reply::bare(WRONG, 0)),
@@ -197,8 +223,41 @@ impl Host {
             Event::ClientUp(client, writer) => self.core.set_client(client, Some(writer)),
             Event::ClientDown(client) => self.core.set_client(client, None),
             Event::PeerDown(_) => {}
-            Event::Synced => self.core.end_sync(),
+            Event::Synced | Event::RollSynced => self.core.end_sync(),
         }
+    }
+
+    /// The frames of a peer's batch, in pieces.
+    fn take_batch(&mut self, batch: &[u8], events: &EventReceiver) {
+        let mut rest = batch;
+        while !rest.is_empty() {
+            let length = framed(rest).take(FRAMES).map(|frame| 4 + frame.len()).sum();
+            let (piece, others) = rest.split_at(length);
+            self.take_frames(piece);
+            if piece.is_empty() || others.is_empty() {
+                return;
+            }
+            self.see_to_rolls(events, false);
+            rest = others;
+        }
+    }
+
+    fn take_frames(&mut self, frames: &[u8]) {
+        let (server, beat) = (self.server, &mut self.beat);
+        let (mut is_replaced, mut grants) = (false, Vec::new());
+        self.core.each_frame(frames, |core, frame| match frame {
+            Frame::Message(message) => {
+                grants.extend(core.deliver(message).and_then(|envelope| granted(&envelope, server)));
+                // a batch may take long
+                if core.counts.works.is_multiple_of(FEW) {
+                    beat_if_due(beat, server, core);
+                }
+            }
+            Frame::NotUp(id) => is_replaced |= id == server,
+            Frame::Heartbeat(..) => {}
+        });
+        self.is_replaced |= is_replaced;
+        grants.into_iter().for_each(|grant| self.note_grant(grant));
     }
 
     /// A client's request.
@@ -267,6 +326,10 @@ impl Host {
 
     /// A write was taken at this place.
     fn await_durable(&mut self, place: Place, asked: &Asked<'_>) -> bool {
+        if let Some(since) = self.rolling.take() {
+            self.rolls += 1;
+            self.in_rolls += since.elapsed();
+        }
         self.next = (place.0, place.1 + 1);
         self.pending.push_back((place, Some(Asked { client: asked.client, request: asked.request.bare() })));
         true
@@ -288,6 +351,7 @@ impl Host {
                 true
             }
             Some(Answer::Refused(ROLLING)) => {
+                self.rolling.get_or_insert_with(Instant::now);
                 self.waiting.push_front(asked.into_owned());
                 false
             }
@@ -333,7 +397,7 @@ impl Host {
     }
 
     /// What had to wait for a roll is asked again.
-    fn retry(&mut self) {
+    fn retry(&mut self, events: &EventReceiver) {
         let part = part_of(self.waiting.len(), self.core.keeps_others());
         for number in 1.. {
             let Some(asked) = self.waiting.pop_front() else { return };
@@ -343,6 +407,9 @@ impl Host {
             if number % part == 0 {
                 self.route();
                 self.core.flush();
+            }
+            if number % REQUESTS == 0 {
+                self.see_to_rolls(events, true);
             }
         }
     }
@@ -423,6 +490,8 @@ impl Host {
             ("runs", u64::from(info.runs)),
             ("head_segment", u64::from(info.head)),
             ("head_entries", info.entries),
+            ("rolls", self.rolls),
+            ("roll_nanoseconds", self.in_rolls.as_nanos() as u64),
             ("journal_bytes", info.written as u64),
             ("journal_safe_bytes", info.safe as u64),
             ("journal_syncs", self.core.journal.syncs),
@@ -455,7 +524,7 @@ impl Host {
 /// How much may have been taken, with this event, before what that has to say leaves.
 fn most_before(event: &Event) -> u64 {
     match event {
-        Event::Synced | Event::Urgent(..) => 0,
+        Event::Synced | Event::RollSynced | Event::Urgent(..) | Event::Roll(..) | Event::Closing(..) => 0,
         Event::Client(..) => LEAST_PART as u64,
         _ => MANY,
     }

@@ -43,9 +43,9 @@ pub struct Journal {
     pub failing: Failing,
     /// The thread that writes and syncs it beside, if there is one.
     beside: Option<Beside>,
-    /// Whether that thread was asked, and its answer was not taken.
-    pub is_syncing: bool,
-    /// When it was asked last.
+    /// How often that thread was asked without its answer being taken.
+    under_way: usize,
+    /// Since when it is at what it was asked first of these.
     began: Instant,
 }
 
@@ -67,9 +67,10 @@ struct Files {
     filled: usize,
 }
 
-/// What was asked of the thread beside: these bytes are to be added, and all made safe.
+/// What was asked of the thread beside: these bytes are to be added, and all made safe, perhaps for a roll.
 struct Asked {
     bytes: Vec<u8>,
+    is_of_roll: bool,
     failing: Failing,
 }
 
@@ -224,7 +225,7 @@ impl Journal {
             safe: good,
             failing,
             beside: None,
-            is_syncing: false,
+            under_way: 0,
             began: Instant::now(),
         })
     }
@@ -244,13 +245,14 @@ impl Journal {
         Ok(synced)
     }
 
-    /// From now on a thread of its own can write and sync it, while the node goes on. It says when it has done so.
-    pub fn sync_beside(&mut self, tell: impl Fn() + Send + 'static) {
+    /// From now on a thread of its own can write and sync it, while the node goes on. It says when it has done so, and
+    /// whether for a roll.
+    pub fn sync_beside(&mut self, tell: impl Fn(bool) + Send + 'static) {
         let (ask, asked) = channel::<Asked>();
         let (answer, done) = channel();
         let files = Arc::clone(&self.files);
         thread::spawn(move || {
-            for Asked { bytes, failing } in asked {
+            for Asked { bytes, is_of_roll, failing } in asked {
                 let synced = lock(&files).and_then(|mut files| {
                     files.add(&bytes, &failing)?;
                     failing.sync()?;
@@ -259,31 +261,39 @@ impl Journal {
                 if answer.send(synced).is_err() {
                     return;
                 }
-                tell();
+                tell(is_of_roll);
             }
         });
         self.beside = Some(Beside { asked: ask, done });
     }
 
-    /// Has that thread, which is not at it, add bytes and make all safe. After an error the process has to end.
-    pub fn begin_sync(&mut self, bytes: Vec<u8>) -> io::Result<()> {
+    /// Has that thread add bytes and make all safe, perhaps for a roll, when it has done what it was asked before. After
+    /// an error the process has to end.
+    pub fn begin_sync(&mut self, bytes: Vec<u8>, is_of_roll: bool) -> io::Result<()> {
         let length = self.length + bytes.len();
-        let asked = Asked { bytes, failing: self.failing.clone() };
+        let asked = Asked { bytes, is_of_roll, failing: self.failing.clone() };
         if self.beside.as_ref().is_none_or(|beside| beside.asked.send(asked).is_err()) {
             return Err(no_thread());
         }
         self.length = length;
-        self.is_syncing = true;
-        self.began = Instant::now();
+        if self.under_way == 0 {
+            self.began = Instant::now();
+        }
+        self.under_way += 1;
         Ok(())
     }
 
-    /// Whether the thread has been at it for longer than this.
-    pub fn is_stuck(&self, most: Duration) -> bool {
-        self.is_syncing && most < self.began.elapsed()
+    /// How many syncs were begun and are not ended.
+    pub fn under_way(&self) -> usize {
+        self.under_way
     }
 
-    /// What came of the sync that was begun, if it has ended. After an error the process has to end.
+    /// Whether the thread has been at a sync for longer than this.
+    pub fn is_stuck(&self, most: Duration) -> bool {
+        0 < self.under_way && most < self.began.elapsed()
+    }
+
+    /// What came of the sync that was begun first, if it has ended. After an error the process has to end.
     pub fn poll_sync(&mut self) -> io::Result<Option<Synced>> {
         self.end_sync(|beside| match beside.done.try_recv() {
             Ok(synced) => Some(synced),
@@ -292,15 +302,17 @@ impl Journal {
         })
     }
 
-    /// Waits for the sync that was begun, if it was, and says what came of it. After an error the process has to end.
+    /// Waits for the sync that was begun first, if one was, and says what came of it. After an error the process has to
+    /// end.
     pub fn wait_sync(&mut self) -> io::Result<Option<Synced>> {
         self.end_sync(|beside| Some(beside.done.recv().unwrap_or_else(|_| Err(no_thread()))))
     }
 
     fn end_sync(&mut self, answer: impl FnOnce(&Beside) -> Option<io::Result<Synced>>) -> io::Result<Option<Synced>> {
-        let beside = self.beside.as_ref().filter(|_| self.is_syncing);
+        let beside = self.beside.as_ref().filter(|_| 0 < self.under_way);
         let Some(synced) = beside.and_then(answer).transpose()? else { return Ok(None) };
-        self.is_syncing = false;
+        self.under_way -= 1;
+        self.began = Instant::now();
         self.note_synced(synced);
         Ok(Some(synced))
     }
@@ -410,26 +422,32 @@ mod tests {
     fn a_thread_writes_and_syncs_while_its_node_goes_on() -> io::Result<()> {
         let folder = empty_folder("beside");
         let mut journal = Journal::create(&folder, find(&folder)?, b"first", Failing::default())?;
-        assert!(journal.begin_sync(b"nobody".to_vec()).is_err(), "there is no thread yet");
+        assert!(journal.begin_sync(b"nobody".to_vec(), false).is_err(), "there is no thread yet");
         let (tell, told) = channel();
-        journal.sync_beside(move || tell.send(()).expect("somebody waits"));
+        journal.sync_beside(move |is_of_roll| tell.send(is_of_roll).expect("somebody waits"));
         for (more, safe) in [(&b" and more"[..], 14), (b"", 14), (b" again", 20)] {
-            journal.begin_sync(more.to_vec())?;
-            assert!(journal.is_syncing && journal.length == safe);
+            journal.begin_sync(more.to_vec(), false)?;
+            assert!(journal.under_way() == 1 && journal.length == safe);
             if more.is_empty() {
                 assert_eq!(journal.wait_sync()?.map(|synced| synced.safe), Some(safe));
             }
-            told.recv().map_err(io::Error::other)?;
+            assert!(!told.recv().map_err(io::Error::other)?);
             let polled = if more.is_empty() { None } else { Some(safe) };
             assert_eq!(journal.poll_sync()?.map(|synced| synced.safe), polled);
-            assert!(!journal.is_syncing && journal.wait_sync()?.is_none());
+            assert!(journal.under_way() == 0 && journal.wait_sync()?.is_none());
         }
+        journal.begin_sync(b", and".to_vec(), false)?;
+        journal.begin_sync(b" for a roll".to_vec(), true)?;
+        assert_eq!((journal.under_way(), journal.length), (2, 36));
+        assert_eq!([told.recv(), told.recv()], [Ok(false), Ok(true)]);
+        let ended = [journal.poll_sync()?, journal.wait_sync()?];
+        assert_eq!(ended.map(|synced| synced.map(|synced| synced.safe)), [Some(25), Some(36)]);
         journal.add(b", at once")?;
-        assert_eq!((journal.sync()?.safe, journal.syncs), (29, 4));
+        assert_eq!((journal.sync()?.safe, journal.syncs, journal.under_way()), (45, 6, 0));
         drop(journal);
         let found = find(&folder)?;
-        assert_eq!(found.known, 29);
-        assert!(found.bytes.is_some_and(|bytes| bytes.starts_with(b"first and more again, at once\0")));
+        assert_eq!(found.known, 45);
+        assert!(found.bytes.is_some_and(|bytes| bytes.starts_with(b"first and more again, and for a roll, at once\0")));
         fs::remove_dir_all(&folder)
     }
 

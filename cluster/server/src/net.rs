@@ -2,7 +2,7 @@
 //! once the node's thread writes.
 
 use crate::events::{Event, EventSender, part_of};
-use crate::wire::{HEAD, MOST, Seal, sound, split_urgent};
+use crate::wire::{HEAD, MOST, Parted, Seal, parted, sound};
 use sevunthi::message::{framed, u32_at};
 use std::fs::File;
 use std::io::{self, ErrorKind, Read, Write};
@@ -285,14 +285,16 @@ fn serve(
     }
 }
 
-/// Hands the frames of a batch over, of both kinds up to the first whose sum is wrong. Says whether somebody is there to
+/// Hands the frames of a batch over, of each part up to the first whose sum is wrong. Says whether somebody is there to
 /// take them.
 fn give(events: &EventSender, number: u64, frames: &[u8]) -> bool {
-    let (mut urgent, mut others) = split_urgent(frames);
-    urgent.truncate(sound(&urgent).len());
-    others.truncate(sound(&others).len());
-    (urgent.is_empty() || events.send(Event::Urgent(number, urgent)))
-        && (others.is_empty() || events.send(Event::Peer(number, others)))
+    let Parted { roll, urgent, others, is_closing } = parted(frames);
+    let of_others = if is_closing { Event::Closing } else { Event::Peer };
+    let parts = [(roll, Event::Roll as fn(u64, Vec<u8>) -> Event), (urgent, Event::Urgent), (others, of_others)];
+    parts.into_iter().all(|(mut part, event)| {
+        part.truncate(sound(&part).len());
+        part.is_empty() || events.send(event(number, part))
+    })
 }
 
 /// Hands a client's requests over, in parts. Says whether somebody is there to take them.

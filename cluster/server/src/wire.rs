@@ -63,36 +63,48 @@ pub fn frames(bytes: &[u8]) -> impl Iterator<Item = (u64, &[u8])> {
     framed(bytes).map_while(|frame| Some((u64_at(frame, 0)?, frame.get(8..frame.len().checked_sub(4)?)?)))
 }
 
-/// Takes the frames of a batch apart: those that are urgent, and all else, in order. Urgent is what tells that something
-/// is stored, since clients wait for that, and what a roll waits for, if it needs nothing that came before it.
-pub fn split_urgent(bytes: &[u8]) -> (Vec<u8>, Vec<u8>) {
-    let (mut urgent, mut others, mut length) = (Vec::new(), Vec::new(), 0);
-    if framed(bytes).any(is_urgent) {
-        for frame in framed(bytes) {
-            let to = if is_urgent(frame) { &mut urgent } else { &mut others };
-            to.extend_from_slice(&(frame.len() as u32).to_le_bytes());
-            to.extend_from_slice(frame);
-            length += 4 + frame.len();
-        }
-    }
-    others.extend_from_slice(&bytes[length..]);
-    (urgent, others)
+/// The frames of a batch, each kind in order.
+#[derive(Default)]
+pub struct Parted {
+    /// A Place, or a Stored of a replica that is new or closed: a roll waits for it. An owner takes no writes until its
+    /// new head has a place at all backups, and then until they have closed the old one.
+    pub roll: Vec<u8>,
+    /// Any other Stored, since clients wait for that.
+    pub urgent: Vec<u8>,
+    /// All else.
+    pub others: Vec<u8>,
+    /// Whether one of the others is a Close, for which a roll waits too, but which needs what came before it.
+    pub is_closing: bool,
 }
 
-/// Whether a frame has a Place or a Stored.
-fn is_urgent(frame: &[u8]) -> bool {
-    matches!(frame.get(8..).and_then(kind_between), Some(kind::PLACE | kind::STORED))
+/// Takes the frames of a batch apart: those that need nothing that came before them, and all else.
+pub fn parted(bytes: &[u8]) -> Parted {
+    let mut parted = Parted::default();
+    let mut length = 0;
+    for frame in framed(bytes) {
+        let message = frame.get(8..).unwrap_or_default();
+        let to = match kind_between(message) {
+            Some(kind::PLACE) => &mut parted.roll,
+            Some(kind::STORED) => match Stored::read(message) {
+                Some(Stored { length: 1.., is_closed: false, .. }) | None => &mut parted.urgent,
+                Some(_) => &mut parted.roll,
+            },
+            other => {
+                parted.is_closing |= other == Some(kind::CLOSE);
+                &mut parted.others
+            }
+        };
+        to.extend_from_slice(&(frame.len() as u32).to_le_bytes());
+        to.extend_from_slice(frame);
+        length += 4 + frame.len();
+    }
+    parted.others.extend_from_slice(&bytes[length..]);
+    parted
 }
 
-/// Whether a roll waits for the message of a frame: it is a Place, or a Stored of a replica that is new or closed. An
-/// owner takes no writes until its new head has a place at all backups, and then until they have closed the old one.
-pub fn is_of_roll(frame: &[u8]) -> bool {
-    let message = frame.get(8..).unwrap_or_default();
-    match kind_between(message) {
-        Some(kind::PLACE) => true,
-        Some(kind::STORED) => Stored::read(message).is_some_and(|stored| stored.length == 0 || stored.is_closed),
-        _ => false,
-    }
+/// Whether a frame has a Place.
+pub fn is_place(frame: &[u8]) -> bool {
+    frame.get(8..).and_then(kind_between) == Some(kind::PLACE)
 }
 
 /// One direction of a connection between peers: who has the secret makes batches, and whoever reads takes no other,
@@ -163,27 +175,31 @@ mod tests {
     }
 
     #[test]
-    fn what_is_stored_and_what_a_roll_waits_for_is_urgent_and_nothing_else() {
+    fn what_a_roll_waits_for_and_what_is_stored_stand_apart() {
         let message = |kind, body: &[u8]| [&[1, 1, 0, 1, 0, 0, 0, 1, 1, 1, 0, 0, 0, kind], body].concat();
         let stored = |length: u64, closed| {
             message(kind::STORED, &[&[3, 0, 0, 0], &length.to_le_bytes()[..], &[closed]].concat())
         };
-        let at_once = [message(kind::PLACE, b"a"), stored(0, 0), stored(9, 1), stored(9, 0)];
-        let rest = [message(kind::APPEND, b"b"), message(kind::CLOSE, b"c"), vec![HEARTBEAT, 7], vec![NOT_UP]];
-        let (mut batch, mut urgent, mut others) = (Vec::new(), Vec::new(), Vec::new());
-        for (clock, (one, other)) in at_once.iter().zip(&rest).enumerate() {
-            put_frame(clock as u64, other, &mut batch);
-            put_frame(clock as u64, other, &mut others);
-            put_frame(clock as u64, one, &mut batch);
-            put_frame(clock as u64, one, &mut urgent);
-        }
+        let of_roll = [message(kind::PLACE, b"a"), stored(0, 0), stored(9, 1)];
+        let rest = [message(kind::APPEND, b"b"), vec![HEARTBEAT, 7], vec![NOT_UP]];
+        let put_all = |messages: &[&Vec<u8>]| {
+            let mut out = Vec::new();
+            messages.iter().for_each(|message| put_frame(7, message, &mut out));
+            out
+        };
+        let (urgent, close) = (stored(9, 0), message(kind::CLOSE, b"c"));
+        let mixed = put_all(&[&rest[0], &of_roll[0], &urgent, &rest[1], &of_roll[1], &of_roll[2], &rest[2]]);
         for end in [&b""[..], b"no frame"] {
-            let (batch, others) = ([&batch, end].concat(), [&others, end].concat());
-            assert_eq!(split_urgent(&batch), (urgent.clone(), others));
+            let parts = parted(&[&mixed, end].concat());
+            assert_eq!(parts.roll, put_all(&of_roll.each_ref()));
+            assert_eq!(parts.urgent, put_all(&[&urgent]));
+            assert_eq!(parts.others, [&put_all(&rest.each_ref()), end].concat());
+            assert!(!parts.is_closing);
         }
-        put_frame(9, &rest[3], &mut others);
-        assert_eq!(split_urgent(&others), (Vec::new(), others.clone()));
-        assert_eq!(framed(&urgent).map(is_of_roll).collect::<Vec<_>>(), [true, true, true, false]);
+        let closing = put_all(&[&rest[0], &close]);
+        let parts = parted(&closing);
+        assert!(parts.is_closing && parts.others == closing && parts.roll.is_empty() && parts.urgent.is_empty());
+        assert_eq!(framed(&put_all(&of_roll.each_ref())).map(is_place).collect::<Vec<_>>(), [true, false, false]);
     }
 
     #[test]
