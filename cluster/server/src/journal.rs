@@ -4,8 +4,7 @@ use crate::blocks::{BLOCK, Blocks};
 use crate::faults::Failing;
 use std::fs::{self, File, OpenOptions};
 use std::io::{self, ErrorKind, Seek, SeekFrom};
-use std::mem;
-use std::os::unix::fs::{FileExt, MetadataExt};
+use std::os::unix::fs::FileExt;
 use std::path::{Path, PathBuf};
 use std::sync::mpsc::{Receiver, Sender, TryRecvError, channel};
 use std::sync::{Arc, Mutex, MutexGuard};
@@ -16,10 +15,13 @@ use std::time::{Duration, Instant};
 /// how long the file is takes half of the time.
 const AHEAD: usize = 1 << 20;
 
-/// So many bytes of a file are freed at once, with a pause behind them: all other syncs on its disk wait meanwhile.
-/// Hosts that share a disk free their files at about the same time: with 16 MB at once a sync took four times as long.
-const PIECE: u64 = 1 << 20;
-const PAUSE: Duration = Duration::from_millis(20);
+/// An old journal is filled with zeros in pieces of so many bytes too, with a pause behind each, so that its node's
+/// syncs wait for no more than one.
+const PAUSE: Duration = Duration::from_millis(10);
+
+/// The old journal, while it is filled with zeros, and when it has nothing else.
+const OLD: &str = "old";
+const SPARE: &str = "spare";
 
 /// So many zeros, as they are written past the page cache.
 #[repr(align(4096))]
@@ -99,9 +101,11 @@ pub fn find(folder: &Path) -> io::Result<Found> {
     let lock = OpenOptions::new().create(true).append(true).open(folder.join("lock"))?;
     lock.try_lock().map_err(|_| io::Error::new(ErrorKind::WouldBlock, "another process has this folder"))?;
     sync_folder(folder)?;
-    match fs::remove_file(folder.join("next")) {
-        Err(error) if error.kind() != ErrorKind::NotFound => return Err(error),
-        _ => {}
+    for left in ["next", OLD, SPARE] {
+        match fs::remove_file(folder.join(left)) {
+            Err(error) if error.kind() != ErrorKind::NotFound => return Err(error),
+            _ => {}
+        }
     }
     let bytes = match fs::read(folder.join("journal")) {
         Ok(bytes) => Some(bytes),
@@ -167,17 +171,20 @@ impl Files {
     }
 }
 
-/// Frees a file that has no name any more, piece by piece, while all else goes on; at once, where there is no thread.
-fn free_beside(file: File) {
+/// Fills an old journal with zeros, piece by piece, while all else goes on. When that is safe it is the spare file, in
+/// which the next save is written. Who frees files instead, and fills new ones, has the disk discard them.
+fn make_spare(folder: PathBuf) {
     let _ = thread::Builder::new().spawn(move || -> io::Result<()> {
-        let about = file.metadata()?;
-        let mut length = if about.nlink() == 0 { about.len() } else { 0 };
-        while 0 < length {
-            length = length.saturating_sub(PIECE);
-            file.set_len(length)?;
+        let old = folder.join(OLD);
+        let length = fs::metadata(&old)?.len().next_multiple_of(AHEAD as u64);
+        let blocks = Blocks::open(&old, &[]);
+        let file = OpenOptions::new().write(true).open(&old)?;
+        for at in (0..length).step_by(AHEAD) {
+            blocks.as_ref().map_or(&file, Blocks::file).write_all_at(&ZEROS.0, at)?;
             thread::sleep(PAUSE);
         }
-        Ok(())
+        file.sync_all()?;
+        fs::rename(old, folder.join(SPARE))
     });
 }
 
@@ -326,8 +333,9 @@ impl Journal {
     /// new length is noted nothing is known to be safe of whichever file stands there.
     pub fn replace(&mut self, save: &[u8]) -> io::Result<()> {
         self.failing.keep_before(self.safe)?;
-        let next = self.folder.join("next");
-        let mut file = OpenOptions::new().create(true).truncate(true).write(true).open(&next)?;
+        let [next, journal] = ["next", "journal"].map(|name| self.folder.join(name));
+        let has_spare = fs::rename(self.folder.join(SPARE), &next).is_ok();
+        let mut file = OpenOptions::new().create(true).truncate(!has_spare).write(true).open(&next)?;
         self.failing.after(0);
         self.failing.write(&mut file, save, true)?;
         self.failing.after(1);
@@ -337,22 +345,25 @@ impl Journal {
         files.note(0)?;
         files.known.sync_all()?;
         self.failing.after(3);
-        fs::rename(&next, self.folder.join("journal"))?;
+        // the old file keeps a name, if the one before it has become the spare one
+        let keeps_old = fs::hard_link(&journal, self.folder.join(OLD)).is_ok();
+        fs::rename(&next, &journal)?;
         self.failing.after(4);
         sync_folder(&self.folder)?;
         self.failing.after(5);
-        let path = self.folder.join("journal");
-        let mut file = OpenOptions::new().write(true).open(&path)?;
-        file.seek(SeekFrom::End(0))?;
-        let old = mem::replace(&mut files.file, file);
-        files.blocks = Blocks::open(&path, save);
-        files.filled = save.len();
+        let mut file = OpenOptions::new().write(true).open(&journal)?;
+        file.seek(SeekFrom::Start(save.len() as u64))?;
+        files.filled = save.len().max(file.metadata()?.len() as usize);
+        files.file = file;
+        files.blocks = Blocks::open(&journal, save);
         files.length = save.len();
         self.length = save.len();
         self.saved = save.len();
         self.safe = save.len();
         files.note(save.len())?;
-        free_beside(old);
+        if keeps_old {
+            make_spare(self.folder.clone());
+        }
         Ok(())
     }
 }
@@ -466,7 +477,7 @@ mod tests {
         assert_eq!(found.known, 11);
         let bytes = found.bytes.as_deref().and_then(|bytes| bytes.split_at_checked(11));
         assert!(bytes.is_some_and(|(bytes, zeros)| bytes == b"short again" && zeros.iter().all(|byte| *byte == 0)));
-        assert!(!folder.join("next").exists());
+        assert!(["next", OLD, SPARE].iter().all(|left| !folder.join(left).exists()));
         drop(Journal::open(&folder, found, 5, Failing::default())?);
         assert_eq!(fs::read(folder.join("journal"))?, b"short");
         fs::remove_dir_all(&folder)
