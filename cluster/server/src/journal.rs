@@ -462,6 +462,34 @@ mod tests {
         fs::remove_dir_all(&folder)
     }
 
+    /// The second save is written in the file of the first journal, of which nothing is left but zeros.
+    #[test]
+    fn a_save_is_written_in_the_file_of_an_old_journal() -> io::Result<()> {
+        let folder = empty_folder("spare");
+        let mut journal = Journal::create(&folder, find(&folder)?, b"first", Failing::default())?;
+        journal.add(&vec![7; 3 * BLOCK])?;
+        journal.sync()?;
+        journal.replace(b"second")?;
+        for _ in 0..2000 {
+            if folder.join(SPARE).exists() {
+                break;
+            }
+            thread::sleep(PAUSE);
+        }
+        let spare = fs::read(folder.join(SPARE))?;
+        assert!(AHEAD <= spare.len() && spare.iter().all(|byte| *byte == 0));
+        journal.add(b" and more")?;
+        assert_eq!(journal.sync()?.safe, 15);
+        journal.replace(b"third")?;
+        assert!(!folder.join(SPARE).exists());
+        journal.add(b" and more")?;
+        assert_eq!(journal.sync()?.safe, 14);
+        let stand = fs::read(folder.join("journal"))?;
+        assert!(spare.len() <= stand.len() && stand.starts_with(b"third and more\0"));
+        assert!(stand[14..].iter().all(|byte| *byte == 0));
+        fs::remove_dir_all(&folder)
+    }
+
     #[test]
     fn a_save_takes_the_place_of_the_journal() -> io::Result<()> {
         let folder = empty_folder("save");
