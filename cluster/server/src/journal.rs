@@ -172,7 +172,8 @@ impl Files {
 }
 
 /// Fills an old journal with zeros, piece by piece, while all else goes on. When that is safe it is the spare file, in
-/// which the next save is written. Who frees files instead, and fills new ones, has the disk discard them.
+/// which the next save is written. Who frees files instead, and fills new ones, has the disk discard them. No crash may
+/// bring the old file back as the journal any more: its folder has to be synced before.
 fn make_spare(folder: PathBuf) {
     let _ = thread::Builder::new().spawn(move || -> io::Result<()> {
         let old = folder.join(OLD);
@@ -330,7 +331,8 @@ impl Journal {
     }
 
     /// A save takes its place, while nobody syncs it beside: second file, sync, rename, sync of the folder. Until the
-    /// new length is noted nothing is known to be safe of whichever file stands there.
+    /// new length is noted nothing is known to be safe of whichever file stands there. The second file is the spare one,
+    /// if that is ready.
     pub fn replace(&mut self, save: &[u8]) -> io::Result<()> {
         self.failing.keep_before(self.safe)?;
         let [next, journal] = ["next", "journal"].map(|name| self.folder.join(name));
