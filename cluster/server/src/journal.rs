@@ -3,7 +3,7 @@
 use crate::blocks::{BLOCK, Blocks};
 use crate::faults::Failing;
 use std::fs::{self, File, OpenOptions};
-use std::io::{self, ErrorKind, Seek, SeekFrom};
+use std::io::{self, ErrorKind, Read, Seek, SeekFrom};
 use std::os::unix::fs::FileExt;
 use std::path::{Path, PathBuf};
 use std::sync::mpsc::{Receiver, Sender, TryRecvError, channel};
@@ -107,20 +107,37 @@ pub fn find(folder: &Path) -> io::Result<Found> {
             _ => {}
         }
     }
-    let bytes = match fs::read(folder.join("journal")) {
-        Ok(bytes) => Some(bytes),
+    let noted = match fs::read(folder.join("known")) {
+        Ok(noted) => Some(sevunthi::message::u64_at(&noted, 0).unwrap_or(0) as usize),
         Err(error) if error.kind() == ErrorKind::NotFound => None,
         Err(error) => return Err(error),
     };
-    let known = match fs::read(folder.join("known")) {
-        Ok(_) if bytes.is_none() => {
-            return Err(io::Error::new(ErrorKind::NotFound, "the journal is gone: this node must not start"));
-        }
-        Ok(known) => sevunthi::message::u64_at(&known, 0).unwrap_or(0) as usize,
-        Err(error) if error.kind() == ErrorKind::NotFound => 0,
-        Err(error) => return Err(error),
-    };
+    let known = noted.unwrap_or(0);
+    let bytes = read_journal(&folder.join("journal"), known)?;
+    if bytes.is_none() && noted.is_some() {
+        return Err(io::Error::new(ErrorKind::NotFound, "the journal is gone: this node must not start"));
+    }
     Ok(Found { bytes, known, lock })
+}
+
+/// The bytes of a journal, if it is there, of which so many were known to be safe. The zeros behind them are not read
+/// to their end: what is safe is records, one behind another, and none has so many zeros. Where nothing is known, all
+/// is read.
+fn read_journal(path: &Path, known: usize) -> io::Result<Option<Vec<u8>>> {
+    let file = match File::open(path) {
+        Err(error) if error.kind() == ErrorKind::NotFound => return Ok(None),
+        file => file?,
+    };
+    let mut bytes = Vec::new();
+    loop {
+        let before = bytes.len();
+        let count = (&file).take(AHEAD as u64).read_to_end(&mut bytes)?;
+        let is_behind = 0 < known && known <= before;
+        if count == 0 || is_behind && bytes[before..].iter().all(|byte| *byte == 0) {
+            bytes.truncate(before);
+            return Ok(Some(bytes));
+        }
+    }
 }
 
 fn sync_folder(folder: &Path) -> io::Result<()> {
@@ -428,6 +445,26 @@ mod tests {
             let (front, zeros) = stand.split_at(bytes.len());
             assert!(front == bytes && !zeros.is_empty() && zeros.iter().all(|byte| *byte == 0), "{length}");
         }
+        fs::remove_dir_all(&folder)
+    }
+
+    #[test]
+    fn zeros_behind_what_is_known_to_be_safe_are_not_read_to_their_end() -> io::Result<()> {
+        let folder = empty_folder("zeros");
+        let mut journal = Journal::create(&folder, find(&folder)?, b"first", Failing::default())?;
+        let more = vec![7; AHEAD];
+        journal.add(&more)?;
+        journal.sync()?;
+        drop(journal);
+        let file = OpenOptions::new().write(true).open(folder.join("journal"))?;
+        file.set_len(5 * AHEAD as u64)?;
+        let lengths = || find(&folder).map(|found| (found.bytes.map_or(0, |bytes| bytes.len()), found.known));
+        assert_eq!(lengths()?, (2 * AHEAD, 5 + AHEAD));
+        // what was written behind, and may not be safe, is seen
+        file.write_all_at(&more, 5 + AHEAD as u64)?;
+        assert_eq!(lengths()?, (3 * AHEAD, 5 + AHEAD));
+        fs::write(folder.join("known"), [0; 8])?;
+        assert_eq!(lengths()?, (5 * AHEAD, 0));
         fs::remove_dir_all(&folder)
     }
 
