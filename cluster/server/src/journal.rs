@@ -4,7 +4,7 @@ use crate::blocks::{BLOCK, Blocks};
 use crate::faults::Failing;
 use std::fs::{self, File, OpenOptions};
 use std::io::{self, ErrorKind, Read, Seek, SeekFrom};
-use std::os::unix::fs::FileExt;
+use std::os::unix::fs::{FileExt, MetadataExt};
 use std::path::{Path, PathBuf};
 use std::sync::mpsc::{Receiver, Sender, TryRecvError, channel};
 use std::sync::{Arc, Mutex, MutexGuard};
@@ -94,14 +94,18 @@ pub struct Found {
     lock: File,
 }
 
-/// Locks the folder, and reads what stands there. A second file that was left is removed unread. A journal that is
-/// gone, though bytes of it were safe, is an error: its node has forgotten what others know.
+/// Locks the folder, and reads what stands there. A second file that was left is removed unread; an old journal and a
+/// spare file stay. A journal that is gone, though bytes of it were safe, is an error: its node has forgotten what
+/// others know.
 pub fn find(folder: &Path) -> io::Result<Found> {
     fs::create_dir_all(folder)?;
     let lock = OpenOptions::new().create(true).append(true).open(folder.join("lock"))?;
     lock.try_lock().map_err(|_| io::Error::new(ErrorKind::WouldBlock, "another process has this folder"))?;
     sync_folder(folder)?;
-    for left in ["next", OLD, SPARE] {
+    // in the middle of a save the old journal still is the journal, and loses its second name
+    let file = |name| fs::metadata(folder.join(name)).map(|file| (file.dev(), file.ino()));
+    let keeps_old = matches!((file(OLD), file("journal")), (Ok(old), Ok(journal)) if old != journal);
+    for left in ["next", OLD].into_iter().take(if keeps_old { 1 } else { 2 }) {
         match fs::remove_file(folder.join(left)) {
             Err(error) if error.kind() != ErrorKind::NotFound => return Err(error),
             _ => {}
@@ -188,22 +192,24 @@ impl Files {
     }
 }
 
-/// Fills an old journal with zeros, piece by piece, while all else goes on. When that is safe it is the spare file, in
-/// which the next save is written. Who frees files instead, and fills new ones, has the disk discard them. No crash may
-/// bring the old file back as the journal any more: its folder has to be synced before.
-fn make_spare(folder: PathBuf) {
-    let _ = thread::Builder::new().spawn(move || -> io::Result<()> {
-        let old = folder.join(OLD);
-        let length = fs::metadata(&old)?.len().next_multiple_of(AHEAD as u64);
-        let blocks = Blocks::open(&old, &[]);
-        let file = OpenOptions::new().write(true).open(&old)?;
+/// Fills an old journal, if there is one, with zeros, piece by piece, while all else goes on. When that is safe it is the
+/// spare file, in which the next save is written. Who frees files instead, and fills new ones, has the disk discard
+/// them. No crash may bring the old file back as the journal any more: its folder has to be synced before. The file is
+/// opened at once, since the same name is given to the journal in the next save.
+fn make_spare(folder: &Path) -> io::Result<()> {
+    let (old, spare) = (folder.join(OLD), folder.join(SPARE));
+    let file = OpenOptions::new().write(true).open(&old)?;
+    let length = file.metadata()?.len().next_multiple_of(AHEAD as u64);
+    let blocks = Blocks::open(&old, &[]);
+    thread::Builder::new().spawn(move || -> io::Result<()> {
         for at in (0..length).step_by(AHEAD) {
             blocks.as_ref().map_or(&file, Blocks::file).write_all_at(&ZEROS.0, at)?;
             thread::sleep(PAUSE);
         }
         file.sync_all()?;
-        fs::rename(old, folder.join(SPARE))
-    });
+        fs::rename(old, spare)
+    })?;
+    Ok(())
 }
 
 fn no_thread() -> io::Error {
@@ -230,7 +236,7 @@ impl Journal {
         Ok(journal)
     }
 
-    /// The journal that was found, cut to its good bytes.
+    /// The journal that was found, cut to its good bytes. An old one that was found goes on to be filled with zeros.
     pub fn open(folder: &Path, found: Found, good: usize, failing: Failing) -> io::Result<Journal> {
         let path = folder.join("journal");
         let mut file = OpenOptions::new().write(true).open(&path)?;
@@ -239,6 +245,8 @@ impl Journal {
         file.seek(SeekFrom::End(0))?;
         let known = OpenOptions::new().create(true).truncate(false).write(true).open(folder.join("known"))?;
         sync_folder(folder)?;
+        // where none is left there is nothing to do
+        let _ = make_spare(folder);
         let blocks = found.bytes.as_ref().and_then(|bytes| Blocks::open(&path, bytes.get(..good)?));
         Ok(Journal {
             folder: folder.into(),
@@ -381,7 +389,7 @@ impl Journal {
         self.safe = save.len();
         files.note(save.len())?;
         if keeps_old {
-            make_spare(self.folder.clone());
+            let _ = make_spare(&self.folder);
         }
         Ok(())
     }
@@ -501,14 +509,8 @@ mod tests {
         fs::remove_dir_all(&folder)
     }
 
-    /// The second save is written in the file of the first journal, of which nothing is left but zeros.
-    #[test]
-    fn a_save_is_written_in_the_file_of_an_old_journal() -> io::Result<()> {
-        let folder = empty_folder("spare");
-        let mut journal = Journal::create(&folder, find(&folder)?, b"first", Failing::default())?;
-        journal.add(&vec![7; 3 * BLOCK])?;
-        journal.sync()?;
-        journal.replace(b"second")?;
+    /// The spare file, for which one may have to wait. It has zeros, and nothing else.
+    fn spare_of(folder: &Path) -> io::Result<Vec<u8>> {
         for _ in 0..2000 {
             if folder.join(SPARE).exists() {
                 break;
@@ -517,6 +519,21 @@ mod tests {
         }
         let spare = fs::read(folder.join(SPARE))?;
         assert!(AHEAD <= spare.len() && spare.iter().all(|byte| *byte == 0));
+        Ok(spare)
+    }
+
+    /// The second save is written in the file of the first journal, of which nothing is left but zeros, also where the
+    /// process came back between.
+    #[test]
+    fn a_save_is_written_in_the_file_of_an_old_journal() -> io::Result<()> {
+        let folder = empty_folder("spare");
+        let mut journal = Journal::create(&folder, find(&folder)?, b"first", Failing::default())?;
+        journal.add(&vec![7; 3 * BLOCK])?;
+        journal.sync()?;
+        journal.replace(b"second")?;
+        let spare = spare_of(&folder)?;
+        drop(journal);
+        let mut journal = Journal::open(&folder, find(&folder)?, 6, Failing::default())?;
         journal.add(b" and more")?;
         assert_eq!(journal.sync()?.safe, 15);
         journal.replace(b"third")?;
@@ -529,6 +546,24 @@ mod tests {
         fs::remove_dir_all(&folder)
     }
 
+    /// A process that comes back fills an old journal with zeros, but never the journal by its second name.
+    #[test]
+    fn an_old_journal_that_is_found_becomes_the_spare_file() -> io::Result<()> {
+        let folder = empty_folder("old");
+        drop(Journal::create(&folder, find(&folder)?, b"first", Failing::default())?);
+        fs::hard_link(folder.join("journal"), folder.join(OLD))?;
+        let found = find(&folder)?;
+        assert!(!folder.join(OLD).exists() && found.bytes.as_deref() == Some(b"first"));
+        drop(found);
+        fs::write(folder.join(OLD), vec![7; AHEAD + 1])?;
+        let journal = Journal::open(&folder, find(&folder)?, 5, Failing::default())?;
+        assert_eq!(spare_of(&folder)?.len(), 2 * AHEAD);
+        drop(journal);
+        drop(find(&folder)?);
+        assert!(folder.join(SPARE).exists() && fs::read(folder.join("journal"))?.starts_with(b"first"));
+        fs::remove_dir_all(&folder)
+    }
+
     #[test]
     fn a_save_takes_the_place_of_the_journal() -> io::Result<()> {
         let folder = empty_folder("save");
@@ -538,13 +573,14 @@ mod tests {
         journal.replace(b"short")?;
         journal.add(b" again")?;
         journal.sync()?;
+        spare_of(&folder)?;
         drop(journal);
         fs::write(folder.join("next"), b"left behind")?;
         let found = find(&folder)?;
         assert_eq!(found.known, 11);
         let bytes = found.bytes.as_deref().and_then(|bytes| bytes.split_at_checked(11));
         assert!(bytes.is_some_and(|(bytes, zeros)| bytes == b"short again" && zeros.iter().all(|byte| *byte == 0)));
-        assert!(["next", OLD, SPARE].iter().all(|left| !folder.join(left).exists()));
+        assert!(!folder.join("next").exists());
         drop(Journal::open(&folder, found, 5, Failing::default())?);
         assert_eq!(fs::read(folder.join("journal"))?, b"short");
         fs::remove_dir_all(&folder)
