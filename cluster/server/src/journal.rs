@@ -1,6 +1,7 @@
 //! A node's folder: its lock, its journal, and how many bytes of that were safe.
 
-use crate::blocks::{BLOCK, Blocks};
+use crate::ahead::{AHEAD, Ahead, ZEROS};
+use crate::blocks::Blocks;
 use crate::faults::Failing;
 use std::fs::{self, File, OpenOptions};
 use std::io::{self, ErrorKind, Read, Seek, SeekFrom};
@@ -11,23 +12,13 @@ use std::sync::{Arc, Mutex, MutexGuard};
 use std::thread;
 use std::time::{Duration, Instant};
 
-/// So far ahead of its bytes a journal's file is filled with zeros, which are no record: a sync that does not change
-/// how long the file is takes half of the time.
-const AHEAD: usize = 1 << 20;
-
-/// An old journal is filled with zeros in pieces of so many bytes too, with a pause behind each, so that its node's
-/// syncs wait for no more than one.
+/// An old journal is filled with zeros piece by piece, with a pause behind each, so that its node's syncs wait for no
+/// more than one.
 const PAUSE: Duration = Duration::from_millis(10);
 
 /// The old journal, while it is filled with zeros, and when it has nothing else.
 const OLD: &str = "old";
 const SPARE: &str = "spare";
-
-/// So many zeros, as they are written past the page cache.
-#[repr(align(4096))]
-struct Zeros([u8; AHEAD]);
-
-static ZEROS: Zeros = Zeros([0; AHEAD]);
 
 /// The file of a node's journal, locked. Behind the journal's bytes it has zeros.
 pub struct Journal {
@@ -65,8 +56,7 @@ struct Files {
     known: File,
     /// How many bytes were written.
     length: usize,
-    /// How many bytes the file has, with the zeros.
-    filled: usize,
+    ahead: Ahead,
 }
 
 /// What was asked of the thread beside: these bytes are to be added, and all made safe, perhaps for a roll.
@@ -150,33 +140,14 @@ fn sync_folder(folder: &Path) -> io::Result<()> {
 
 impl Files {
     fn add(&mut self, bytes: &[u8], failing: &Failing) -> io::Result<()> {
-        self.fill(self.length + bytes.len(), failing);
+        let count = self.length + bytes.len();
+        self.ahead.make_room(self.length, count, &self.file, self.blocks.as_ref(), failing);
         match &mut self.blocks {
             Some(blocks) => failing.write(blocks, bytes, false)?,
             None => failing.write(&self.file, bytes, false)?,
         }
-        self.length += bytes.len();
+        self.length = count;
         Ok(())
-    }
-
-    /// Fills the file with zeros, where so many bytes would reach its end. Where that fails, as on a full disk, the
-    /// bytes may still have their place. The next zeros begin behind them.
-    fn fill(&mut self, count: usize, failing: &Failing) {
-        if count <= self.filled {
-            return;
-        }
-        self.filled = self.filled.max(self.length);
-        let end = (count + AHEAD).next_multiple_of(BLOCK);
-        while self.filled < end {
-            // what begins within a block goes to its end first; whole blocks go past the page cache, as the bytes will
-            let part = if self.filled.is_multiple_of(BLOCK) { AHEAD } else { BLOCK - self.filled % BLOCK };
-            let zeros = &ZEROS.0[..part.min(end - self.filled)];
-            let file = self.blocks.as_ref().filter(|_| part == AHEAD).map_or(&self.file, Blocks::file);
-            if failing.write_ahead(file, zeros, self.filled as u64).is_err() {
-                return;
-            }
-            self.filled += zeros.len();
-        }
     }
 
     fn sync(&self) -> io::Result<Synced> {
@@ -203,7 +174,7 @@ fn make_spare(folder: &Path) -> io::Result<()> {
     let blocks = Blocks::open(&old, &[]);
     thread::Builder::new().spawn(move || -> io::Result<()> {
         for at in (0..length).step_by(AHEAD) {
-            blocks.as_ref().map_or(&file, Blocks::file).write_all_at(&ZEROS.0, at)?;
+            blocks.as_ref().map_or(&file, Blocks::file).write_all_at(ZEROS, at)?;
             thread::sleep(PAUSE);
         }
         file.sync_all()?;
@@ -250,7 +221,7 @@ impl Journal {
         let blocks = found.bytes.as_ref().and_then(|bytes| Blocks::open(&path, bytes.get(..good)?));
         Ok(Journal {
             folder: folder.into(),
-            files: Arc::new(Mutex::new(Files { file, blocks, known, length: good, filled: good })),
+            files: Arc::new(Mutex::new(Files { file, blocks, known, length: good, ahead: Ahead::new(good) })),
             _lock: found.lock,
             length: good,
             saved: good,
@@ -380,7 +351,7 @@ impl Journal {
         self.failing.after(5);
         let mut file = OpenOptions::new().write(true).open(&journal)?;
         file.seek(SeekFrom::Start(save.len() as u64))?;
-        files.filled = save.len().max(file.metadata()?.len() as usize);
+        files.ahead = Ahead::new(save.len().max(file.metadata()?.len() as usize));
         files.file = file;
         files.blocks = Blocks::open(&journal, save);
         files.length = save.len();
@@ -398,6 +369,7 @@ impl Journal {
 #[cfg(test)]
 mod tests {
     use super::*;
+    use crate::blocks::BLOCK;
     use crate::faults::NEARLY_FULL;
 
     fn empty_folder(name: &str) -> PathBuf {
@@ -453,6 +425,25 @@ mod tests {
             let (front, zeros) = stand.split_at(bytes.len());
             assert!(front == bytes && !zeros.is_empty() && zeros.iter().all(|byte| *byte == 0), "{length}");
         }
+        fs::remove_dir_all(&folder)
+    }
+
+    /// A thread writes zeros ahead meanwhile, faster and slower than bytes come.
+    #[test]
+    fn no_zeros_come_over_bytes_that_are_added() -> io::Result<()> {
+        let folder = empty_folder("added");
+        let mut bytes = b"first".to_vec();
+        let mut journal = Journal::create(&folder, find(&folder)?, &bytes, Failing::default())?;
+        for number in 0..120 {
+            let more = vec![1 + number as u8; if number % 8 == 0 { 3 * AHEAD } else { 70_000 + number }];
+            journal.add(&more)?;
+            bytes.extend_from_slice(&more);
+        }
+        assert_eq!(journal.sync()?.safe, bytes.len());
+        drop(journal);
+        let stand = fs::read(folder.join("journal"))?;
+        let (front, zeros) = stand.split_at(bytes.len());
+        assert!(front == bytes && AHEAD / 2 <= zeros.len() && zeros.iter().all(|byte| *byte == 0));
         fs::remove_dir_all(&folder)
     }
 

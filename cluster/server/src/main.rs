@@ -11,6 +11,7 @@ macro_rules! say {
     };
 }
 
+mod ahead;
 mod awake;
 mod bench;
 mod blocks;
