@@ -5,12 +5,12 @@ use crate::blocks::{BLOCK, Blocks};
 use crate::faults::Failing;
 use std::fs::File;
 use std::sync::mpsc::{Receiver, TryRecvError, channel};
-use std::thread;
+use std::thread::{self, JoinHandle};
 
-/// Zeros are written in pieces of so many bytes. So many at least a file has ahead, where it is written.
+/// Zeros are written in pieces of so many bytes.
 pub const AHEAD: usize = 1 << 20;
 
-/// So many a thread writes ahead at most: a quarter of what the file has.
+/// A thread writes a quarter as many ahead as the file has bytes, but a piece at least, and at most so many and a piece.
 const MOST_AHEAD: usize = 32 << 20;
 
 /// Zeros as they are written past the page cache.
@@ -26,10 +26,16 @@ pub static ZEROS: &[u8; AHEAD] = &ALIGNED.0;
 pub struct Ahead {
     /// How many bytes the file has, with the zeros.
     filled: usize,
-    /// How far a thread has come that fills it beside, if there is one. Who drops this has waited for its end.
-    beside: Option<Receiver<usize>>,
+    /// The thread that fills it beside, if there is one.
+    beside: Option<Beside>,
     /// No other begins before the file has so many bytes: where the disk is full each would fail.
     next: usize,
+}
+
+/// A thread that fills a file, and says after each piece how far it has come. It ends where nobody hears that.
+struct Beside {
+    told: Receiver<usize>,
+    thread: JoinHandle<()>,
 }
 
 impl Ahead {
@@ -51,10 +57,13 @@ impl Ahead {
 
     /// Takes how far the thread has come. Where that is not so far, it waits for that, or for the thread's end.
     fn wait_for(&mut self, count: usize) {
-        while let Some(beside) = &self.beside {
-            let is_far = count <= self.filled;
-            let told = if is_far { beside.try_recv() } else { beside.recv().map_err(|_| TryRecvError::Disconnected) };
-            match told {
+        while let Some(Beside { told, .. }) = &self.beside {
+            let next = if count <= self.filled {
+                told.try_recv()
+            } else {
+                told.recv().map_err(|_| TryRecvError::Disconnected)
+            };
+            match next {
                 Ok(filled) => self.filled = filled,
                 Err(TryRecvError::Empty) => return,
                 Err(TryRecvError::Disconnected) => self.beside = None,
@@ -88,20 +97,26 @@ impl Ahead {
         }
         let Ok(file) = file.try_clone() else { return };
         self.next = count + AHEAD / 4;
-        let (pieces, failing, (tell, told)) = ((self.filled..count + ahead).step_by(AHEAD), failing.clone(), channel());
-        let begun = thread::Builder::new().spawn(move || {
+        let pieces = (self.filled..count + ahead).step_by(AHEAD);
+        let failing = failing.clone();
+        let (tell, told) = channel();
+        let begun = thread::Builder::new().name("zeros".into()).spawn(move || {
             for at in pieces {
                 if failing.write_ahead(&file, ZEROS, at as u64).is_err() || tell.send(at + AHEAD).is_err() {
                     return;
                 }
             }
         });
-        self.beside = begun.is_ok().then_some(told);
+        self.beside = begun.ok().map(|thread| Beside { told, thread });
     }
 }
 
 impl Drop for Ahead {
+    /// Has the thread end, and waits for that: the file may be another's then.
     fn drop(&mut self) {
-        self.wait_for(usize::MAX);
+        if let Some(Beside { told, thread }) = self.beside.take() {
+            drop(told);
+            let _ = thread.join();
+        }
     }
 }

@@ -93,9 +93,10 @@ pub fn find(folder: &Path) -> io::Result<Found> {
     lock.try_lock().map_err(|_| io::Error::new(ErrorKind::WouldBlock, "another process has this folder"))?;
     sync_folder(folder)?;
     // in the middle of a save the old journal still is the journal, and loses its second name
-    let file = |name| fs::metadata(folder.join(name)).map(|file| (file.dev(), file.ino()));
-    let keeps_old = matches!((file(OLD), file("journal")), (Ok(old), Ok(journal)) if old != journal);
-    for left in ["next", OLD].into_iter().take(if keeps_old { 1 } else { 2 }) {
+    let has_one_name = |file: fs::Metadata| file.nlink() == 1;
+    let keeps_old = fs::metadata(folder.join(OLD)).is_ok_and(has_one_name) && !folder.join("next").exists();
+    let left: &[&str] = if keeps_old { &["next"] } else { &["next", OLD] };
+    for left in left {
         match fs::remove_file(folder.join(left)) {
             Err(error) if error.kind() != ErrorKind::NotFound => return Err(error),
             _ => {}
@@ -115,20 +116,20 @@ pub fn find(folder: &Path) -> io::Result<Found> {
 }
 
 /// The bytes of a journal, if it is there, of which so many were known to be safe. The zeros behind them are not read
-/// to their end: what is safe is records, one behind another, and none has so many zeros. Where nothing is known, all
-/// is read.
+/// to their end: what is safe is records, one behind another, and no record has so many zeros. It may end with some, so
+/// the first piece that is all zeros still counts. Where nothing is known, all is read.
 fn read_journal(path: &Path, known: usize) -> io::Result<Option<Vec<u8>>> {
     let file = match File::open(path) {
         Err(error) if error.kind() == ErrorKind::NotFound => return Ok(None),
         file => file?,
     };
-    let mut bytes = Vec::new();
+    let length = file.metadata()?.len() as usize;
+    let mut bytes = Vec::with_capacity(if known == 0 { length } else { length.min(known + 2 * AHEAD) });
     loop {
         let before = bytes.len();
         let count = (&file).take(AHEAD as u64).read_to_end(&mut bytes)?;
         let is_behind = 0 < known && known <= before;
         if count == 0 || is_behind && bytes[before..].iter().all(|byte| *byte == 0) {
-            bytes.truncate(before);
             return Ok(Some(bytes));
         }
     }
@@ -172,13 +173,16 @@ fn make_spare(folder: &Path) -> io::Result<()> {
     let file = OpenOptions::new().write(true).open(&old)?;
     let length = file.metadata()?.len().next_multiple_of(AHEAD as u64);
     let blocks = Blocks::open(&old, &[]);
-    thread::Builder::new().spawn(move || -> io::Result<()> {
+    let fill = move || {
         for at in (0..length).step_by(AHEAD) {
             blocks.as_ref().map_or(&file, Blocks::file).write_all_at(ZEROS, at)?;
             thread::sleep(PAUSE);
         }
-        file.sync_all()?;
-        fs::rename(old, spare)
+        file.sync_all()
+    };
+    thread::Builder::new().name("spare".into()).spawn(move || match fill() {
+        Ok(()) => fs::rename(old, spare),
+        Err(_) => fs::remove_file(old),
     })?;
     Ok(())
 }
@@ -333,6 +337,10 @@ impl Journal {
         self.failing.keep_before(self.safe)?;
         let [next, journal] = ["next", "journal"].map(|name| self.folder.join(name));
         let has_spare = fs::rename(self.folder.join(SPARE), &next).is_ok();
+        if has_spare {
+            // no crash may bring it back as the spare file any more: it has something else than zeros now
+            sync_folder(&self.folder)?;
+        }
         let mut file = OpenOptions::new().create(true).truncate(!has_spare).write(true).open(&next)?;
         self.failing.after(0);
         self.failing.write(&mut file, save, true)?;
@@ -443,7 +451,36 @@ mod tests {
         drop(journal);
         let stand = fs::read(folder.join("journal"))?;
         let (front, zeros) = stand.split_at(bytes.len());
-        assert!(front == bytes && AHEAD / 2 <= zeros.len() && zeros.iter().all(|byte| *byte == 0));
+        assert!(front == bytes && zeros.iter().all(|byte| *byte == 0));
+        fs::remove_dir_all(&folder)
+    }
+
+    /// A thread that writes zeros fails, as on a full disk, and is at it while a save takes the journal's place.
+    #[test]
+    fn a_thread_that_writes_zeros_may_fail_and_is_ended() -> io::Result<()> {
+        let folder = empty_folder("fails");
+        let failing = Failing::in_folder(&folder);
+        let mut bytes = b"first".to_vec();
+        let mut journal = Journal::create(&folder, find(&folder)?, &bytes, failing)?;
+        for number in 0..60 {
+            match number {
+                20 => fs::write(folder.join(NEARLY_FULL), [])?,
+                40 => fs::remove_file(folder.join(NEARLY_FULL))?,
+                _ => {}
+            }
+            let more = vec![1 + number; 400_000];
+            journal.add(&more)?;
+            bytes.extend_from_slice(&more);
+        }
+        journal.sync()?;
+        let stand = fs::read(folder.join("journal"))?;
+        assert!(stand.starts_with(&bytes) && stand[bytes.len()..].iter().all(|byte| *byte == 0));
+        journal.add(&vec![7; 8 * AHEAD])?;
+        journal.replace(b"short")?;
+        journal.add(b" again")?;
+        assert_eq!(journal.sync()?.safe, 11);
+        spare_of(&folder)?;
+        assert!(fs::read(folder.join("journal"))?.starts_with(b"short again\0"));
         fs::remove_dir_all(&folder)
     }
 
@@ -458,10 +495,12 @@ mod tests {
         let file = OpenOptions::new().write(true).open(folder.join("journal"))?;
         file.set_len(5 * AHEAD as u64)?;
         let lengths = || find(&folder).map(|found| (found.bytes.map_or(0, |bytes| bytes.len()), found.known));
-        assert_eq!(lengths()?, (2 * AHEAD, 5 + AHEAD));
-        // what was written behind, and may not be safe, is seen
-        file.write_all_at(&more, 5 + AHEAD as u64)?;
         assert_eq!(lengths()?, (3 * AHEAD, 5 + AHEAD));
+        // what was written behind, and may not be safe, is seen, with zeros at its end
+        file.write_all_at(&more, 5 + AHEAD as u64)?;
+        assert_eq!(lengths()?, (4 * AHEAD, 5 + AHEAD));
+        file.write_all_at(&more[5..], 5 + 2 * AHEAD as u64)?;
+        assert_eq!(lengths()?, (4 * AHEAD, 5 + AHEAD));
         fs::write(folder.join("known"), [0; 8])?;
         assert_eq!(lengths()?, (5 * AHEAD, 0));
         fs::remove_dir_all(&folder)
