@@ -1,5 +1,5 @@
-//! Zeros ahead of a file's bytes, which are no record: a sync that does not change how long the file is takes half of
-//! the time, and so does one while no room is taken for the file. So a thread writes many at once, beside.
+//! Zeros ahead of a file's bytes, which are no record. A sync takes half of the time where the file has not grown since
+//! the last one. So a thread lets it grow, by many zeros at once, beside.
 
 use crate::blocks::{BLOCK, Blocks};
 use crate::faults::Failing;
