@@ -7,10 +7,13 @@ use std::fs::File;
 use std::sync::mpsc::{Receiver, TryRecvError, channel};
 use std::thread::{self, JoinHandle};
 
-/// Zeros are written in pieces of so many bytes.
+/// So many zeros are written at once where bytes would reach a file's end.
 pub const AHEAD: usize = 1 << 20;
 
-/// A thread writes a quarter as many ahead as the file has bytes, but a piece at least, and at most so many and a piece.
+/// A thread writes them in pieces of so many bytes: all syncs of the disk wait for each.
+pub const PIECE: usize = 1 << 17;
+
+/// It goes on until the file has a quarter as many ahead as it has bytes, but `AHEAD` at least, and so many at most.
 const MOST_AHEAD: usize = 32 << 20;
 
 /// Zeros as they are written past the page cache.
@@ -19,7 +22,7 @@ struct Aligned([u8; AHEAD]);
 
 static ALIGNED: Aligned = Aligned([0; AHEAD]);
 
-/// A piece of zeros.
+/// So many zeros.
 pub static ZEROS: &[u8; AHEAD] = &ALIGNED.0;
 
 /// How far a file is filled with zeros.
@@ -97,12 +100,12 @@ impl Ahead {
         }
         let Ok(file) = file.try_clone() else { return };
         self.next = count + AHEAD / 4;
-        let pieces = (self.filled..count + ahead).step_by(AHEAD);
+        let pieces = (self.filled..count + ahead).step_by(PIECE);
         let failing = failing.clone();
         let (tell, told) = channel();
         let begun = thread::Builder::new().name("zeros".into()).spawn(move || {
             for at in pieces {
-                if failing.write_ahead(&file, ZEROS, at as u64).is_err() || tell.send(at + AHEAD).is_err() {
+                if failing.write_ahead(&file, &ZEROS[..PIECE], at as u64).is_err() || tell.send(at + PIECE).is_err() {
                     return;
                 }
             }

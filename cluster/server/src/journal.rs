@@ -1,6 +1,6 @@
 //! A node's folder: its lock, its journal, and how many bytes of that were safe.
 
-use crate::ahead::{AHEAD, Ahead, ZEROS};
+use crate::ahead::{AHEAD, Ahead, PIECE, ZEROS};
 use crate::blocks::Blocks;
 use crate::faults::Failing;
 use std::fs::{self, File, OpenOptions};
@@ -14,7 +14,7 @@ use std::time::{Duration, Instant};
 
 /// An old journal is filled with zeros piece by piece, with a pause behind each, so that its node's syncs wait for no
 /// more than one.
-const PAUSE: Duration = Duration::from_millis(10);
+const PAUSE: Duration = Duration::from_micros(1250);
 
 /// The old journal, while it is filled with zeros, and when it has nothing else.
 const OLD: &str = "old";
@@ -174,8 +174,8 @@ fn make_spare(folder: &Path) -> io::Result<()> {
     let length = file.metadata()?.len().next_multiple_of(AHEAD as u64);
     let blocks = Blocks::open(&old, &[]);
     let fill = move || {
-        for at in (0..length).step_by(AHEAD) {
-            blocks.as_ref().map_or(&file, Blocks::file).write_all_at(ZEROS, at)?;
+        for at in (0..length).step_by(PIECE) {
+            blocks.as_ref().map_or(&file, Blocks::file).write_all_at(&ZEROS[..PIECE], at)?;
             thread::sleep(PAUSE);
         }
         file.sync_all()
