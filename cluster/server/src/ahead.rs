@@ -10,10 +10,11 @@ use std::thread::{self, JoinHandle};
 /// So many zeros are written at once where bytes would reach a file's end.
 pub const AHEAD: usize = 1 << 20;
 
-/// A thread writes them in pieces of so many bytes: all syncs of the disk wait for each.
+/// A thread writes them in pieces of so many bytes, since all syncs of the disk wait for each.
 pub const PIECE: usize = 1 << 17;
 
-/// It goes on until the file has a quarter as many ahead as it has bytes, but `AHEAD` at least, and so many at most.
+/// That thread goes on until the file has a quarter as many ahead as it has bytes, but `AHEAD` at least, and so many at
+/// most.
 const MOST_AHEAD: usize = 32 << 20;
 
 /// Zeros as they are written past the page cache.
@@ -47,14 +48,15 @@ impl Ahead {
         Ahead { filled, beside: None, next: 0 }
     }
 
-    /// The file will have so many bytes, and has fewer. Where these would reach its end, zeros are written first; where
-    /// they come near, a thread writes some. No byte comes where a thread still writes zeros.
+    /// The file will have so many bytes, and has fewer. Where these would reach its end, zeros are written first. Where
+    /// they come near it, a thread writes some, if that is past the page cache: else the next sync would have to write
+    /// them all. No byte comes where a thread still writes zeros.
     pub fn make_room(&mut self, length: usize, count: usize, file: &File, blocks: Option<&Blocks>, failing: &Failing) {
         self.wait_for(count);
         if self.filled < count {
             self.fill(length, count, file, blocks, failing);
-        } else {
-            self.fill_beside(count, blocks.map_or(file, Blocks::file), failing);
+        } else if let Some(blocks) = blocks {
+            self.fill_beside(count, blocks.file(), failing);
         }
     }
 
@@ -74,7 +76,7 @@ impl Ahead {
         }
     }
 
-    /// Fills the file with zeros, a piece behind so many bytes. Where that fails, as on a full disk, the bytes may still
+    /// Fills the file with zeros, `AHEAD` behind so many bytes. Where that fails, as on a full disk, the bytes may still
     /// have their place. The next zeros begin behind them.
     fn fill(&mut self, length: usize, count: usize, file: &File, blocks: Option<&Blocks>, failing: &Failing) {
         self.filled = self.filled.max(length);

@@ -116,8 +116,8 @@ pub fn find(folder: &Path) -> io::Result<Found> {
 }
 
 /// The bytes of a journal, if it is there, of which so many were known to be safe. The zeros behind them are not read
-/// to their end: what is safe is records, one behind another, and no record has so many zeros. It may end with some, so
-/// the first piece that is all zeros still counts. Where nothing is known, all is read.
+/// to their end: what is safe is records, one behind another, and no record has `AHEAD` zeros. It may end with some, so
+/// the first so many bytes that are all zeros still count. Where nothing is known, all is read.
 fn read_journal(path: &Path, known: usize) -> io::Result<Option<Vec<u8>>> {
     let file = match File::open(path) {
         Err(error) if error.kind() == ErrorKind::NotFound => return Ok(None),
@@ -368,6 +368,7 @@ impl Journal {
         self.safe = save.len();
         files.note(save.len())?;
         if keeps_old {
+            // where that fails the next save has a new file
             let _ = make_spare(&self.folder);
         }
         Ok(())
