@@ -1,19 +1,19 @@
-//! Zeros ahead of a file's bytes, which are no record. A sync takes half of the time where the file has not grown since
-//! the last one. So a thread lets it grow, by many zeros at once, beside.
+//! Zeros ahead of a journal's sectors. A sync takes half of the time where the file has not grown since the last one. So
+//! a thread lets it grow, by many zeros at once, beside.
 
-use crate::blocks::{BLOCK, Blocks};
 use crate::faults::Failing;
+use crate::sectors::Sectors;
 use std::fs::File;
 use std::sync::mpsc::{Receiver, TryRecvError, channel};
 use std::thread::{self, JoinHandle};
 
-/// So many zeros are written at once where bytes would reach a file's end.
+/// So many zeros are written at once where sectors would reach a file's end.
 pub const AHEAD: usize = 1 << 20;
 
 /// A thread writes them in pieces of so many bytes, since all syncs of the disk wait for each.
 pub const PIECE: usize = 1 << 17;
 
-/// That thread goes on until the file has a quarter as many ahead as it has bytes, but `AHEAD` at least, and so many at
+/// That thread goes on until the file has a quarter as many ahead as are written, but `AHEAD` at least, and so many at
 /// most.
 const MOST_AHEAD: usize = 32 << 20;
 
@@ -26,13 +26,14 @@ static ALIGNED: Aligned = Aligned([0; AHEAD]);
 /// So many zeros.
 pub static ZEROS: &[u8; AHEAD] = &ALIGNED.0;
 
-/// How far a file is filled with zeros.
+/// How far a file has been written once, with zeros or with all else. All here are numbers of bytes of the file, and
+/// whole blocks.
 pub struct Ahead {
-    /// How many bytes the file has, with the zeros.
+    /// Up to here.
     filled: usize,
     /// The thread that fills it beside, if there is one.
     beside: Option<Beside>,
-    /// No other begins before the file has so many bytes: where the disk is full each would fail.
+    /// No other begins before the file is written up to here: where the disk is full each would fail.
     next: usize,
 }
 
@@ -43,31 +44,28 @@ struct Beside {
 }
 
 impl Ahead {
-    /// A file that has so many bytes, with the zeros.
+    /// Of a file that has so many bytes.
     pub fn new(filled: usize) -> Ahead {
         Ahead { filled, beside: None, next: 0 }
     }
 
-    /// The file will have so many bytes, and has fewer. Where these would reach its end, zeros are written first. Where
-    /// they come near it, a thread writes some, if that is past the page cache: else the next sync would have to write
-    /// them all. No byte comes where a thread still writes zeros.
-    pub fn make_room(&mut self, length: usize, count: usize, file: &File, blocks: Option<&Blocks>, failing: &Failing) {
-        self.wait_for(count);
-        if self.filled < count {
-            self.fill(length, count, file, blocks, failing);
-        } else if let Some(blocks) = blocks {
-            self.fill_beside(count, blocks.file(), failing);
+    /// The file will be written up to this end. Where that reaches what it has, zeros are written first. Where it comes
+    /// near that, a thread writes some, if that is past the page cache: else the next sync would have to write them
+    /// all. Nothing comes where a thread still writes zeros.
+    pub fn make_room(&mut self, end: usize, sectors: &Sectors, failing: &Failing) {
+        self.wait_for(end);
+        if self.filled < end {
+            self.fill(end, sectors.file(), failing);
+        } else if sectors.is_direct() {
+            self.fill_beside(end, sectors.file(), failing);
         }
     }
 
     /// Takes how far the thread has come. Where that is not so far, it waits for that, or for the thread's end.
-    fn wait_for(&mut self, count: usize) {
+    fn wait_for(&mut self, end: usize) {
         while let Some(Beside { told, .. }) = &self.beside {
-            let next = if count <= self.filled {
-                told.try_recv()
-            } else {
-                told.recv().map_err(|_| TryRecvError::Disconnected)
-            };
+            let next =
+                if end <= self.filled { told.try_recv() } else { told.recv().map_err(|_| TryRecvError::Disconnected) };
             match next {
                 Ok(filled) => self.filled = filled,
                 Err(TryRecvError::Empty) => return,
@@ -76,33 +74,29 @@ impl Ahead {
         }
     }
 
-    /// Fills the file with zeros, `AHEAD` behind so many bytes. Where that fails, as on a full disk, the bytes may still
-    /// have their place. The next zeros begin behind them.
-    fn fill(&mut self, length: usize, count: usize, file: &File, blocks: Option<&Blocks>, failing: &Failing) {
-        self.filled = self.filled.max(length);
-        let end = (count + AHEAD).next_multiple_of(BLOCK);
-        while self.filled < end {
-            // what begins within a block goes to its end first; whole blocks go past the page cache, as the bytes will
-            let part = if self.filled.is_multiple_of(BLOCK) { AHEAD } else { BLOCK - self.filled % BLOCK };
-            let zeros = &ZEROS[..part.min(end - self.filled)];
-            let file = blocks.filter(|_| part == AHEAD).map_or(file, Blocks::file);
+    /// Fills the file with zeros, `AHEAD` behind this end. Where that fails, as on a full disk, what is to be written may
+    /// still have its place. The next zeros begin behind that.
+    fn fill(&mut self, end: usize, file: &File, failing: &Failing) {
+        while self.filled < end + AHEAD {
+            let zeros = &ZEROS[..AHEAD.min(end + AHEAD - self.filled)];
             if failing.write_ahead(file, zeros, self.filled as u64).is_err() {
+                self.filled = self.filled.max(end);
                 return;
             }
             self.filled += zeros.len();
         }
     }
 
-    /// Has a thread fill the file, which has so many bytes, if it has less than half of the zeros that it should have.
-    fn fill_beside(&mut self, count: usize, file: &File, failing: &Failing) {
-        let ahead = (count / 4).clamp(AHEAD, MOST_AHEAD);
-        let is_far = count + ahead / 2 <= self.filled || count < self.next;
-        if is_far || self.beside.is_some() || !self.filled.is_multiple_of(BLOCK) {
+    /// Has a thread fill the file, if it has less than half of the zeros behind this end that it should have.
+    fn fill_beside(&mut self, end: usize, file: &File, failing: &Failing) {
+        let ahead = (end / 4).clamp(AHEAD, MOST_AHEAD).next_multiple_of(PIECE);
+        let is_far = end + ahead / 2 <= self.filled || end < self.next;
+        if is_far || self.beside.is_some() {
             return;
         }
         let Ok(file) = file.try_clone() else { return };
-        self.next = count + AHEAD / 4;
-        let pieces = (self.filled..count + ahead).step_by(PIECE);
+        self.next = end + AHEAD / 4;
+        let pieces = (self.filled..end + ahead).step_by(PIECE);
         let failing = failing.clone();
         let (tell, told) = channel();
         let begun = thread::Builder::new().name("zeros".into()).spawn(move || {

@@ -7,6 +7,7 @@ use crate::journal::{self, Journal, Synced};
 use crate::net::{PeerWriter, Writer, listen};
 use crate::protocol::Reply;
 use crate::record::Record;
+use crate::sectors::Content;
 use crate::superseded::without_superseded;
 use crate::waits::Waits;
 use crate::wire::{HEARTBEAT, NOT_UP, frames};
@@ -464,8 +465,8 @@ fn open_node(config: &Config) -> io::Result<(Node, Journal, Ready)> {
     let found = journal::find(&config.folder)?;
     let mut ready = Ready::default();
     let failing = if config.faults { Failing::in_folder(&config.folder) } else { Failing::default() };
-    let (mut node, journal) = match &found.bytes {
-        Some(bytes) => {
+    let (mut node, journal) = match &found.journal {
+        Some(Content { bytes, .. }) => {
             let mut node =
                 Node::come_back(bytes, found.known).unwrap_or_else(|fault| failed("this node must not start", fault));
             let good = node.good();

@@ -1,10 +1,10 @@
 //! A node's folder: its lock, its journal, and how many bytes of that were safe.
 
-use crate::ahead::{AHEAD, Ahead, PIECE, ZEROS};
-use crate::blocks::Blocks;
+use crate::ahead::Ahead;
 use crate::faults::Failing;
+use crate::sectors::{self, BLOCK, Content, Sectors, end_of};
 use std::fs::{self, File, OpenOptions};
-use std::io::{self, ErrorKind, Read, Seek, SeekFrom};
+use std::io::{self, ErrorKind};
 use std::os::unix::fs::{FileExt, MetadataExt};
 use std::path::{Path, PathBuf};
 use std::sync::mpsc::{Receiver, Sender, TryRecvError, channel};
@@ -12,15 +12,10 @@ use std::sync::{Arc, Mutex, MutexGuard};
 use std::thread;
 use std::time::{Duration, Instant};
 
-/// An old journal is filled with zeros piece by piece, with a pause behind each, so that its node's syncs wait for no
-/// more than one.
-const PAUSE: Duration = Duration::from_micros(1250);
-
-/// The old journal, while it is filled with zeros, and when it has nothing else.
-const OLD: &str = "old";
+/// The file that an older journal had. The next save is written over it.
 const SPARE: &str = "spare";
 
-/// The file of a node's journal, locked. Behind the journal's bytes it has zeros.
+/// A node's journal, whose folder is locked.
 pub struct Journal {
     folder: PathBuf,
     files: Arc<Mutex<Files>>,
@@ -50,9 +45,7 @@ struct Beside {
 
 /// The journal's file, and the one that says how many of its bytes are safe.
 struct Files {
-    file: File,
-    /// The end of the file, where it is written in blocks.
-    blocks: Option<Blocks>,
+    sectors: Sectors,
     known: File,
     /// How many bytes were written.
     length: usize,
@@ -75,29 +68,27 @@ pub struct Synced {
     pub took: Duration,
 }
 
-/// What stands in a folder: the journal's bytes, if there is one, and how many were known to be safe.
+/// What stands in a folder: the journal, if there is one, and how many of its bytes were known to be safe.
 pub struct Found {
-    /// The journal's bytes.
-    pub bytes: Option<Vec<u8>>,
-    /// How many were known to be safe.
+    /// The journal.
+    pub journal: Option<Content>,
+    /// How many of its bytes were known to be safe.
     pub known: usize,
     lock: File,
 }
 
-/// Locks the folder, and reads what stands there. A second file that was left is removed unread; an old journal and a
-/// spare file stay. A journal that is gone, though bytes of it were safe, is an error: its node has forgotten what
-/// others know.
+/// Locks the folder, and reads what stands there. A second file that was left is removed unread; the spare file stays. A
+/// journal that is gone, though bytes of it were safe, is an error: its node has forgotten what others know.
 pub fn find(folder: &Path) -> io::Result<Found> {
     fs::create_dir_all(folder)?;
     let lock = OpenOptions::new().create(true).append(true).open(folder.join("lock"))?;
     lock.try_lock().map_err(|_| io::Error::new(ErrorKind::WouldBlock, "another process has this folder"))?;
     sync_folder(folder)?;
-    // in the middle of a save the old journal still is the journal, and loses its second name
-    let has_one_name = |file: fs::Metadata| file.nlink() == 1;
-    let keeps_old = fs::metadata(folder.join(OLD)).is_ok_and(has_one_name) && !folder.join("next").exists();
-    let left: &[&str] = if keeps_old { &["next"] } else { &["next", OLD] };
-    for left in left {
-        match fs::remove_file(folder.join(left)) {
+    let [next, spare, path] = ["next", SPARE, "journal"].map(|name| folder.join(name));
+    // in the middle of a save the spare file still is the journal, and loses its second name
+    let is_spare = path.exists() && fs::metadata(&spare).is_ok_and(|file| file.nlink() == 1);
+    for left in [Some(next), Some(spare).filter(|_| !is_spare)].into_iter().flatten() {
+        match fs::remove_file(left) {
             Err(error) if error.kind() != ErrorKind::NotFound => return Err(error),
             _ => {}
         }
@@ -107,32 +98,15 @@ pub fn find(folder: &Path) -> io::Result<Found> {
         Err(error) if error.kind() == ErrorKind::NotFound => None,
         Err(error) => return Err(error),
     };
-    let known = noted.unwrap_or(0);
-    let bytes = read_journal(&folder.join("journal"), known)?;
-    if bytes.is_none() && noted.is_some() {
+    let journal = match File::open(path) {
+        Ok(file) => Some(sectors::read(file)?),
+        Err(error) if error.kind() == ErrorKind::NotFound => None,
+        Err(error) => return Err(error),
+    };
+    if journal.is_none() && noted.is_some() {
         return Err(io::Error::new(ErrorKind::NotFound, "the journal is gone: this node must not start"));
     }
-    Ok(Found { bytes, known, lock })
-}
-
-/// The bytes of a journal, if it is there, of which so many were known to be safe. The zeros behind them are not read
-/// to their end: what is safe is records, one behind another, and no record has `AHEAD` zeros. It may end with some, so
-/// the first so many bytes that are all zeros still count. Where nothing is known, all is read.
-fn read_journal(path: &Path, known: usize) -> io::Result<Option<Vec<u8>>> {
-    let file = match File::open(path) {
-        Err(error) if error.kind() == ErrorKind::NotFound => return Ok(None),
-        file => file?,
-    };
-    let length = file.metadata()?.len() as usize;
-    let mut bytes = Vec::with_capacity(if known == 0 { length } else { length.min(known + 2 * AHEAD) });
-    loop {
-        let before = bytes.len();
-        let count = (&file).take(AHEAD as u64).read_to_end(&mut bytes)?;
-        let is_behind = 0 < known && known <= before;
-        if count == 0 || is_behind && bytes[before..].iter().all(|byte| *byte == 0) {
-            return Ok(Some(bytes));
-        }
-    }
+    Ok(Found { journal, known: noted.unwrap_or(0), lock })
 }
 
 fn sync_folder(folder: &Path) -> io::Result<()> {
@@ -141,19 +115,16 @@ fn sync_folder(folder: &Path) -> io::Result<()> {
 
 impl Files {
     fn add(&mut self, bytes: &[u8], failing: &Failing) -> io::Result<()> {
-        let count = self.length + bytes.len();
-        self.ahead.make_room(self.length, count, &self.file, self.blocks.as_ref(), failing);
-        match &mut self.blocks {
-            Some(blocks) => failing.write(blocks, bytes, false)?,
-            None => failing.write(&self.file, bytes, false)?,
-        }
-        self.length = count;
+        let length = self.length + bytes.len();
+        self.ahead.make_room(end_of(length).next_multiple_of(BLOCK), &self.sectors, failing);
+        failing.write(&mut self.sectors, bytes, false)?;
+        self.length = length;
         Ok(())
     }
 
     fn sync(&self) -> io::Result<Synced> {
         let began = Instant::now();
-        self.file.sync_data()?;
+        self.sectors.file().sync_data()?;
         self.note(self.length)?;
         Ok(Synced { safe: self.length, took: began.elapsed() })
     }
@@ -162,29 +133,6 @@ impl Files {
     fn note(&self, safe: usize) -> io::Result<()> {
         self.known.write_all_at(&(safe as u64).to_le_bytes(), 0)
     }
-}
-
-/// Fills an old journal, if there is one, with zeros, piece by piece, while all else goes on. When that is safe it is the
-/// spare file, in which the next save is written. Who frees files instead, and fills new ones, has the disk discard
-/// them. No crash may bring the old file back as the journal any more: its folder has to be synced before. The file is
-/// opened at once, since the same name is given to the journal in the next save.
-fn make_spare(folder: &Path) -> io::Result<()> {
-    let (old, spare) = (folder.join(OLD), folder.join(SPARE));
-    let file = OpenOptions::new().write(true).open(&old)?;
-    let length = file.metadata()?.len().next_multiple_of(AHEAD as u64);
-    let blocks = Blocks::open(&old, &[]);
-    let fill = move || {
-        for at in (0..length).step_by(PIECE) {
-            blocks.as_ref().map_or(&file, Blocks::file).write_all_at(&ZEROS[..PIECE], at)?;
-            thread::sleep(PAUSE);
-        }
-        file.sync_all()
-    };
-    thread::Builder::new().name("spare".into()).spawn(move || match fill() {
-        Ok(()) => fs::rename(old, spare),
-        Err(_) => fs::remove_file(old),
-    })?;
-    Ok(())
 }
 
 fn no_thread() -> io::Error {
@@ -200,32 +148,31 @@ impl Journal {
     /// The first journal of a node, which is these bytes. It stands there whole and safe, or not at all.
     pub fn create(folder: &Path, found: Found, first: &[u8], failing: Failing) -> io::Result<Journal> {
         let next = folder.join("next");
-        let mut file = OpenOptions::new().create(true).truncate(true).write(true).open(&next)?;
-        failing.write(&mut file, first, false)?;
-        file.sync_all()?;
+        let number = 1;
+        let mut sectors = Sectors::open(&next, number, &[])?;
+        failing.write(&mut sectors, first, false)?;
+        sectors.file().sync_all()?;
         fs::rename(&next, folder.join("journal"))?;
         sync_folder(folder)?;
-        let found = Found { bytes: Some(first.to_vec()), ..found };
+        let found = Found { journal: Some(Content { number, bytes: first.to_vec() }), ..found };
         let journal = Journal::open(folder, found, first.len(), failing)?;
         lock(&journal.files)?.note(journal.length)?;
         Ok(journal)
     }
 
-    /// The journal that was found, cut to its good bytes. An old one that was found goes on to be filled with zeros.
+    /// The journal that was found, cut to its good bytes.
     pub fn open(folder: &Path, found: Found, good: usize, failing: Failing) -> io::Result<Journal> {
-        let path = folder.join("journal");
-        let mut file = OpenOptions::new().write(true).open(&path)?;
-        file.set_len(good as u64)?;
-        file.sync_all()?;
-        file.seek(SeekFrom::End(0))?;
+        let content = found.journal.as_ref().ok_or(ErrorKind::NotFound)?;
+        let bytes = content.bytes.get(..good).ok_or(ErrorKind::InvalidData)?;
+        let mut sectors = Sectors::open(&folder.join("journal"), content.number, bytes)?;
+        sectors.cut()?;
+        sectors.file().sync_all()?;
         let known = OpenOptions::new().create(true).truncate(false).write(true).open(folder.join("known"))?;
         sync_folder(folder)?;
-        // where none is left there is nothing to do
-        let _ = make_spare(folder);
-        let blocks = found.bytes.as_ref().and_then(|bytes| Blocks::open(&path, bytes.get(..good)?));
+        let ahead = Ahead::new(end_of(good).next_multiple_of(BLOCK));
         Ok(Journal {
             folder: folder.into(),
-            files: Arc::new(Mutex::new(Files { file, blocks, known, length: good, ahead: Ahead::new(good) })),
+            files: Arc::new(Mutex::new(Files { sectors, known, length: good, ahead })),
             _lock: found.lock,
             length: good,
             saved: good,
@@ -332,59 +279,69 @@ impl Journal {
 
     /// A save takes its place, while nobody syncs it beside: second file, sync, rename, sync of the folder. Until the
     /// new length is noted nothing is known to be safe of whichever file stands there. The second file is the spare one,
-    /// if that is ready.
+    /// if there is one, and the old journal's becomes that.
     pub fn replace(&mut self, save: &[u8]) -> io::Result<()> {
         self.failing.keep_before(self.safe)?;
-        let [next, journal] = ["next", "journal"].map(|name| self.folder.join(name));
-        let has_spare = fs::rename(self.folder.join(SPARE), &next).is_ok();
-        if has_spare {
-            // no crash may bring it back as the spare file any more: it has something else than zeros now
+        let [next, journal, spare] = ["next", "journal", SPARE].map(|name| self.folder.join(name));
+        if fs::rename(&spare, &next).is_ok() {
+            // no crash may bring it back as the spare file any more: it gets sectors of the next number now
             sync_folder(&self.folder)?;
         }
-        let mut file = OpenOptions::new().create(true).truncate(!has_spare).write(true).open(&next)?;
-        self.failing.after(0);
-        self.failing.write(&mut file, save, true)?;
-        self.failing.after(1);
-        file.sync_all()?;
-        self.failing.after(2);
         let mut files = lock(&self.files)?;
+        let mut sectors = Sectors::open(&next, files.sectors.number() + 1, &[])?;
+        self.failing.after(0);
+        self.failing.write(&mut sectors, save, true)?;
+        self.failing.after(1);
+        sectors.file().sync_all()?;
+        self.failing.after(2);
         files.note(0)?;
         files.known.sync_all()?;
         self.failing.after(3);
-        // the old file keeps a name, if the one before it has become the spare one
-        let keeps_old = fs::hard_link(&journal, self.folder.join(OLD)).is_ok();
+        // where the old file gets no second name it is freed, and the next save has a new one
+        let _ = fs::hard_link(&journal, &spare);
         fs::rename(&next, &journal)?;
         self.failing.after(4);
         sync_folder(&self.folder)?;
         self.failing.after(5);
-        let mut file = OpenOptions::new().write(true).open(&journal)?;
-        file.seek(SeekFrom::Start(save.len() as u64))?;
-        files.ahead = Ahead::new(save.len().max(file.metadata()?.len() as usize));
-        files.file = file;
-        files.blocks = Blocks::open(&journal, save);
+        files.ahead = Ahead::new(sectors.file().metadata()?.len() as usize / BLOCK * BLOCK);
+        files.sectors = sectors;
         files.length = save.len();
         self.length = save.len();
         self.saved = save.len();
         self.safe = save.len();
-        files.note(save.len())?;
-        if keeps_old {
-            // where that fails the next save has a new file
-            let _ = make_spare(&self.folder);
-        }
-        Ok(())
+        files.note(save.len())
     }
 }
 
 #[cfg(test)]
 mod tests {
     use super::*;
-    use crate::blocks::BLOCK;
+    use crate::ahead::AHEAD;
     use crate::faults::NEARLY_FULL;
+    use crate::sectors::SECTOR;
+    use std::io::Write;
 
     fn empty_folder(name: &str) -> PathBuf {
         let folder = std::env::temp_dir().join(format!("sevunthi-{name}-{}", std::process::id()));
         let _ = fs::remove_dir_all(&folder);
         folder
+    }
+
+    /// The number and the bytes that a file has.
+    fn read(path: &Path) -> io::Result<(u64, Vec<u8>)> {
+        sectors::read(File::open(path)?).map(|Content { number, bytes }| (number, bytes))
+    }
+
+    /// The journal's bytes, in the file behind which there are zeros, or nothing.
+    fn bytes_in(folder: &Path) -> io::Result<Vec<u8>> {
+        let file = fs::read(folder.join("journal"))?;
+        let (_, bytes) = read(&folder.join("journal"))?;
+        assert!(file[end_of(bytes.len())..].iter().all(|byte| *byte == 0));
+        Ok(bytes)
+    }
+
+    fn found_in(folder: &Path) -> io::Result<(Vec<u8>, usize)> {
+        find(folder).map(|found| (found.journal.map_or(Vec::new(), |journal| journal.bytes), found.known))
     }
 
     #[test]
@@ -393,9 +350,7 @@ mod tests {
         let journal = Journal::create(&folder, find(&folder)?, b"save", Failing::default())?;
         assert!(find(&folder).is_err(), "the folder is locked");
         drop(journal);
-        let found = find(&folder)?;
-        assert_eq!((found.bytes.as_deref(), found.known), (Some(&b"save"[..]), 4));
-        drop(found);
+        assert_eq!(found_in(&folder)?, (b"save".to_vec(), 4));
         fs::remove_file(folder.join("journal"))?;
         assert!(find(&folder).is_err());
         fs::remove_dir_all(&folder)
@@ -414,12 +369,11 @@ mod tests {
         fs::remove_file(nearly_full)?;
         journal.add(b" again")?;
         assert_eq!(journal.sync()?.safe, 38);
-        let bytes = fs::read(folder.join("journal"))?;
-        assert!(bytes.starts_with(b"first and more and more and more again\0"));
+        assert_eq!(bytes_in(&folder)?, b"first and more and more and more again");
         fs::remove_dir_all(&folder)
     }
 
-    /// Over several times as many bytes as have zeros ahead of them at once, from a length that is no whole block.
+    /// Over several times as many bytes as have zeros ahead of them at once.
     #[test]
     fn behind_bytes_of_any_length_there_are_zeros() -> io::Result<()> {
         let folder = empty_folder("ahead");
@@ -430,9 +384,7 @@ mod tests {
             journal.add(&more)?;
             bytes.extend_from_slice(&more);
             assert_eq!(journal.sync()?.safe, bytes.len());
-            let stand = fs::read(folder.join("journal"))?;
-            let (front, zeros) = stand.split_at(bytes.len());
-            assert!(front == bytes && !zeros.is_empty() && zeros.iter().all(|byte| *byte == 0), "{length}");
+            assert!(bytes_in(&folder)? == bytes, "{length}");
         }
         fs::remove_dir_all(&folder)
     }
@@ -450,9 +402,7 @@ mod tests {
         }
         assert_eq!(journal.sync()?.safe, bytes.len());
         drop(journal);
-        let stand = fs::read(folder.join("journal"))?;
-        let (front, zeros) = stand.split_at(bytes.len());
-        assert!(front == bytes && zeros.iter().all(|byte| *byte == 0));
+        assert!(bytes_in(&folder)? == bytes);
         fs::remove_dir_all(&folder)
     }
 
@@ -474,36 +424,33 @@ mod tests {
             bytes.extend_from_slice(&more);
         }
         journal.sync()?;
-        let stand = fs::read(folder.join("journal"))?;
-        assert!(stand.starts_with(&bytes) && stand[bytes.len()..].iter().all(|byte| *byte == 0));
+        assert!(bytes_in(&folder)? == bytes);
         journal.add(&vec![7; 8 * AHEAD])?;
         journal.replace(b"short")?;
         journal.add(b" again")?;
         assert_eq!(journal.sync()?.safe, 11);
-        spare_of(&folder)?;
-        assert!(fs::read(folder.join("journal"))?.starts_with(b"short again\0"));
+        assert_eq!(bytes_in(&folder)?, b"short again");
         fs::remove_dir_all(&folder)
     }
 
+    /// Among those that were safe, so that there are fewer bytes than are known to be.
     #[test]
-    fn zeros_behind_what_is_known_to_be_safe_are_not_read_to_their_end() -> io::Result<()> {
-        let folder = empty_folder("zeros");
-        let mut journal = Journal::create(&folder, find(&folder)?, b"first", Failing::default())?;
-        let more = vec![7; AHEAD];
-        journal.add(&more)?;
-        journal.sync()?;
-        drop(journal);
-        let file = OpenOptions::new().write(true).open(folder.join("journal"))?;
-        file.set_len(5 * AHEAD as u64)?;
-        let lengths = || find(&folder).map(|found| (found.bytes.map_or(0, |bytes| bytes.len()), found.known));
-        assert_eq!(lengths()?, (3 * AHEAD, 5 + AHEAD));
-        // what was written behind, and may not be safe, is seen, with zeros at its end
-        file.write_all_at(&more, 5 + AHEAD as u64)?;
-        assert_eq!(lengths()?, (4 * AHEAD, 5 + AHEAD));
-        file.write_all_at(&more[5..], 5 + 2 * AHEAD as u64)?;
-        assert_eq!(lengths()?, (4 * AHEAD, 5 + AHEAD));
-        fs::write(folder.join("known"), [0; 8])?;
-        assert_eq!(lengths()?, (5 * AHEAD, 0));
+    fn a_sector_whose_head_is_damaged_ends_the_journal() -> io::Result<()> {
+        let folder = empty_folder("damaged");
+        let bytes = [7; 5000];
+        drop(Journal::create(&folder, find(&folder)?, &bytes, Failing::default())?);
+        let path = folder.join("journal");
+        let file = fs::read(&path)?;
+        for at in (0..end_of(bytes.len())).step_by(SECTOR).flat_map(|sector| sector..sector + 8) {
+            for bit in 0..8 {
+                let mut damaged = file.clone();
+                damaged[at] ^= 1 << bit;
+                fs::write(&path, damaged)?;
+                let (found, known) = found_in(&folder)?;
+                let is_last = end_of(bytes.len()) < at + SECTOR;
+                assert!(found.len() < known || is_last && found.starts_with(&bytes), "{at}, {bit}");
+            }
+        }
         fs::remove_dir_all(&folder)
     }
 
@@ -534,64 +481,56 @@ mod tests {
         journal.add(b", at once")?;
         assert_eq!((journal.sync()?.safe, journal.syncs, journal.under_way()), (45, 6, 0));
         drop(journal);
-        let found = find(&folder)?;
-        assert_eq!(found.known, 45);
-        assert!(found.bytes.is_some_and(|bytes| bytes.starts_with(b"first and more again, and for a roll, at once\0")));
+        assert_eq!(found_in(&folder)?, (b"first and more again, and for a roll, at once".to_vec(), 45));
         fs::remove_dir_all(&folder)
     }
 
-    /// The spare file, for which one may have to wait. It has zeros, and nothing else.
-    fn spare_of(folder: &Path) -> io::Result<Vec<u8>> {
-        for _ in 0..2000 {
-            if folder.join(SPARE).exists() {
-                break;
-            }
-            thread::sleep(PAUSE);
-        }
-        let spare = fs::read(folder.join(SPARE))?;
-        assert!(AHEAD <= spare.len() && spare.iter().all(|byte| *byte == 0));
-        Ok(spare)
-    }
-
-    /// The second save is written in the file of the first journal, of which nothing is left but zeros, also where the
-    /// process came back between.
+    /// A save is written over the journal before, also where the process came back between. Nothing of that is taken.
     #[test]
-    fn a_save_is_written_in_the_file_of_an_old_journal() -> io::Result<()> {
+    fn a_save_is_written_over_an_older_journal() -> io::Result<()> {
         let folder = empty_folder("spare");
-        let mut journal = Journal::create(&folder, find(&folder)?, b"first", Failing::default())?;
-        journal.add(&vec![7; 3 * BLOCK])?;
-        journal.sync()?;
-        journal.replace(b"second")?;
-        let spare = spare_of(&folder)?;
-        drop(journal);
-        let mut journal = Journal::open(&folder, find(&folder)?, 6, Failing::default())?;
-        journal.add(b" and more")?;
-        assert_eq!(journal.sync()?.safe, 15);
-        journal.replace(b"third")?;
-        assert!(!folder.join(SPARE).exists());
-        journal.add(b" and more")?;
-        assert_eq!(journal.sync()?.safe, 14);
-        let stand = fs::read(folder.join("journal"))?;
-        assert!(spare.len() <= stand.len() && stand.starts_with(b"third and more\0"));
-        assert!(stand[14..].iter().all(|byte| *byte == 0));
+        let mut bytes = vec![7; 3 * AHEAD];
+        let mut journal = Journal::create(&folder, find(&folder)?, &bytes, Failing::default())?;
+        for number in 2..9 {
+            let older = (number - 1, bytes);
+            bytes = vec![number as u8; 100 * number as usize];
+            journal.replace(&bytes)?;
+            assert!(read(&folder.join(SPARE))? == older);
+            let more = vec![0x80; if number % 3 == 0 { AHEAD } else { 1000 }];
+            journal.add(&more)?;
+            bytes.extend(more);
+            assert_eq!(journal.sync()?.safe, bytes.len());
+            assert!(read(&folder.join("journal"))? == (number, bytes.clone()));
+            if number % 2 == 0 {
+                drop(journal);
+                let found = find(&folder)?;
+                assert_eq!(found.known, bytes.len());
+                journal = Journal::open(&folder, found, bytes.len(), Failing::default())?;
+            }
+        }
         fs::remove_dir_all(&folder)
     }
 
-    /// A process that comes back fills an old journal with zeros, but never the journal by its second name.
     #[test]
-    fn an_old_journal_that_is_found_becomes_the_spare_file() -> io::Result<()> {
-        let folder = empty_folder("old");
-        drop(Journal::create(&folder, find(&folder)?, b"first", Failing::default())?);
-        fs::hard_link(folder.join("journal"), folder.join(OLD))?;
-        let found = find(&folder)?;
-        assert!(!folder.join(OLD).exists() && found.bytes.as_deref() == Some(b"first"));
-        drop(found);
-        fs::write(folder.join(OLD), vec![7; AHEAD + 1])?;
-        let journal = Journal::open(&folder, find(&folder)?, 5, Failing::default())?;
-        assert_eq!(spare_of(&folder)?.len(), 2 * AHEAD);
-        drop(journal);
-        drop(find(&folder)?);
-        assert!(folder.join(SPARE).exists() && fs::read(folder.join("journal"))?.starts_with(b"first"));
+    fn a_spare_file_stays_unless_it_is_the_journal() -> io::Result<()> {
+        let folder = empty_folder("stays");
+        let [journal, spare, next] = ["journal", SPARE, "next"].map(|name| folder.join(name));
+        let first = || Journal::create(&folder, find(&folder)?, b"first", Failing::default());
+        drop(first()?);
+        fs::hard_link(&journal, &spare)?;
+        assert_eq!(found_in(&folder)?.0, b"first");
+        assert!(!spare.exists());
+        for path in [&spare, &next] {
+            Sectors::open(path, 1, &[])?.write_all(b"another")?;
+        }
+        assert_eq!(found_in(&folder)?.0, b"first");
+        assert!(spare.exists() && !next.exists());
+        // a new journal begins with the first number again
+        for name in ["journal", "known"] {
+            fs::remove_file(folder.join(name))?;
+        }
+        drop(first()?);
+        assert!(!spare.exists());
         fs::remove_dir_all(&folder)
     }
 
@@ -604,16 +543,14 @@ mod tests {
         journal.replace(b"short")?;
         journal.add(b" again")?;
         journal.sync()?;
-        spare_of(&folder)?;
         drop(journal);
         fs::write(folder.join("next"), b"left behind")?;
         let found = find(&folder)?;
         assert_eq!(found.known, 11);
-        let bytes = found.bytes.as_deref().and_then(|bytes| bytes.split_at_checked(11));
-        assert!(bytes.is_some_and(|(bytes, zeros)| bytes == b"short again" && zeros.iter().all(|byte| *byte == 0)));
         assert!(!folder.join("next").exists());
+        assert!(found.journal.as_ref().is_some_and(|journal| journal.bytes == b"short again"));
         drop(Journal::open(&folder, found, 5, Failing::default())?);
-        assert_eq!(fs::read(folder.join("journal"))?, b"short");
+        assert_eq!(bytes_in(&folder)?, b"short");
         fs::remove_dir_all(&folder)
     }
 }

@@ -14,7 +14,6 @@ macro_rules! say {
 mod ahead;
 mod awake;
 mod bench;
-mod blocks;
 mod client;
 mod coordinator;
 mod core;
@@ -31,6 +30,7 @@ mod poly1305;
 mod protocol;
 mod reasons;
 mod record;
+mod sectors;
 mod storm;
 mod superseded;
 mod supervisor;

@@ -182,8 +182,11 @@ impl Storm {
     fn begin(seed: u64, target: Target, folder: PathBuf, deck: Vec<Fault>) -> Result<Storm, String> {
         // every other cluster leaves all its syncs to threads
         let beside = if seed.is_multiple_of(2) { "24" } else { "0" };
-        let more = ["--record", "--faults", "--factor", "2", "--segment", "64", "--tick", "100", "--beside", beside];
-        let mut cluster = Cluster::new(target.clone(), &folder, more.map(String::from).to_vec())?;
+        // and in two of four each journal is replaced by a save again and again, over the file of an older one
+        let long = if seed % 4 < 2 { "60000" } else { "268435456" };
+        let more = ["--record", "--faults", "--factor", "2", "--segment", "64", "--tick", "100"];
+        let more = more.into_iter().chain(["--beside", beside, "--long", long]).map(String::from);
+        let mut cluster = Cluster::new(target.clone(), &folder, more.collect())?;
         cluster.start_all()?;
         let mut storm = Storm {
             cluster,

@@ -2,6 +2,7 @@
 
 use crate::dice::Dice;
 use crate::faults::{BEFORE, SAFE_BEFORE};
+use crate::sectors::{self, SECTOR, end_of, make_older};
 use sevunthi::message::u64_at;
 use std::fs::{self, File, OpenOptions};
 use std::io;
@@ -21,9 +22,19 @@ pub struct Lost {
     pub is_number_older: bool,
 }
 
-/// The number of bytes that a folder knows to be safe.
+/// The number of bytes of a journal that a folder knows to be safe.
 fn known(folder: &Path, name: &str) -> Option<u64> {
     u64_at(&fs::read(folder.join(name)).ok()?, 0)
+}
+
+/// Behind so many bytes of its file these end.
+fn safe_end(folder: &Path, name: &str) -> Option<u64> {
+    known(folder, name).map(|known| end_of(known as usize) as u64)
+}
+
+/// Behind so many bytes of its file a journal ends.
+fn end_in(file: &[u8]) -> io::Result<u64> {
+    sectors::read(file).map(|content| end_of(content.bytes.len()) as u64)
 }
 
 /// A power cut: what was not synced is there or not, whole or damaged; of the steps of a save that were not synced each
@@ -35,19 +46,19 @@ pub fn cut_power(folder: &Path, dice: &mut Dice) -> io::Result<Lost> {
         return Ok(lost);
     }
     spoil_end(&folder.join("next"), 0, dice, &mut Lost::default())?;
-    let mut safe = known(folder, "known").unwrap_or(0);
+    let mut safe = safe_end(folder, "known").unwrap_or(0);
     let before = folder.join(BEFORE);
     if before.exists() {
         // a save was begun: either its rename has happened, or not; and if it has, the folder may not know
         let is_renamed = is_other_file(&before, &journal)?;
         if !is_renamed {
-            safe = known(folder, SAFE_BEFORE).unwrap_or(safe);
+            safe = safe_end(folder, SAFE_BEFORE).unwrap_or(safe);
         } else if dice.below(2) == 0 {
             fs::rename(&before, &journal)?;
             lost.is_rename_lost = true;
-            safe = known(folder, SAFE_BEFORE).unwrap_or(0);
+            safe = safe_end(folder, SAFE_BEFORE).unwrap_or(0);
         } else {
-            safe = fs::metadata(&journal)?.len();
+            safe = end_in(&fs::read(&journal)?)?;
         }
     }
     spoil_end(&journal, safe, dice, &mut lost)?;
@@ -71,29 +82,35 @@ pub fn forget_save(folder: &Path) {
     let _ = fs::remove_file(folder.join(SAFE_BEFORE));
 }
 
-/// Cuts what was not safe off somewhere, or leaves zeros in its place, and damages some of what is left of it.
+/// Cuts what was not safe off somewhere, or leaves zeros in its place, and damages some of what is left of it, or leaves
+/// sectors of an older journal there.
 fn spoil_end(path: &Path, safe: u64, dice: &mut Dice, lost: &mut Lost) -> io::Result<()> {
     let Ok(file) = OpenOptions::new().write(true).open(path) else { return Ok(()) };
-    // behind its bytes a journal's file has zeros
     let whole = fs::read(path)?;
-    let length = whole.iter().rposition(|byte| *byte != 0).map_or(0, |last| last as u64 + 1);
-    if length <= safe {
+    let end = end_in(&whole)?;
+    if end <= safe {
         return Ok(());
     }
-    let left = safe + dice.below(length - safe + 1);
+    let left = safe + dice.below(end - safe + 1);
     file.set_len(left)?;
     if left.is_multiple_of(2) {
         file.set_len(whole.len() as u64)?;
     }
-    lost.bytes = length - left;
+    lost.bytes = end - left;
     if left <= safe || dice.below(2) == 0 {
         return Ok(());
     }
     let at = safe + dice.below(left - safe);
     let count = 1 + dice.below(left - at);
-    match dice.below(3) {
+    match dice.below(4) {
         0 => file.write_all_at(&dice.bytes(count), at)?,
         1 => file.write_all_at(&vec![0; count as usize], at)?,
+        2 => {
+            let at = at.next_multiple_of(SECTOR as u64).min(end);
+            let mut older = whole[at as usize..end as usize].to_vec();
+            make_older(&mut older);
+            file.write_all_at(&older, at)?;
+        }
         // the length is there, and the bytes are not
         _ => {
             file.set_len(at)?;
@@ -115,47 +132,57 @@ pub enum Spoilt {
     Gone,
 }
 
-/// Spoils the journal in this way, and gives its bytes as they were.
+/// Spoils the journal in this way, and gives its file as it was.
 pub fn spoil(folder: &Path, how: Spoilt, dice: &mut Dice) -> io::Result<Vec<u8>> {
     let journal = folder.join("journal");
-    let bytes = fs::read(&journal)?;
-    let safe = known(folder, "known").unwrap_or(0);
-    if safe == 0 || (bytes.len() as u64) < safe {
+    let whole = fs::read(&journal)?;
+    let known = known(folder, "known").unwrap_or(0);
+    let safe = end_of(known as usize) as u64;
+    if known == 0 || end_in(&whole)? < safe {
         return Err(io::Error::other("nothing of the journal is known to be safe"));
     }
     match how {
         Spoilt::Damaged => {
-            let at = dice.below(safe);
-            let mut damaged = bytes.clone();
-            damaged[at as usize] ^= 1 << dice.below(8);
+            // behind so many bytes of the file one of the journal ends
+            let behind = end_of(1 + dice.below(known) as usize);
+            let mut damaged = whole.clone();
+            damaged[behind - 1] ^= 1 << dice.below(8);
             fs::write(&journal, damaged)?;
         }
-        Spoilt::Cut => fs::write(&journal, &bytes[..dice.below(safe) as usize])?,
+        Spoilt::Cut => fs::write(&journal, &whole[..dice.below(safe) as usize])?,
         Spoilt::Gone => fs::remove_file(&journal)?,
     }
-    Ok(bytes)
+    Ok(whole)
 }
 
 #[cfg(test)]
 mod tests {
     use super::*;
+    use crate::sectors::{Content, Sectors};
+    use std::io::Write;
+
+    /// Writes the file of a journal that has this number, and so many bytes, each of which says its place.
+    fn write(path: &Path, number: u64, length: usize) -> io::Result<()> {
+        let bytes: Vec<u8> = (1..=length).map(|byte| byte as u8).collect();
+        Sectors::open(path, number, &[])?.write_all(&bytes)
+    }
 
     #[test]
     fn a_power_cut_leaves_what_was_safe() -> io::Result<()> {
         let folder = std::env::temp_dir().join(format!("sevunthi-cut-{}", std::process::id()));
         fs::create_dir_all(&folder)?;
         let journal = folder.join("journal");
-        let whole: Vec<u8> = (1..=200).chain([0; 50]).collect();
         let (mut shorter, mut damaged) = (0, 0);
         for seed in 0..200 {
-            fs::write(&journal, &whole)?;
-            fs::write(folder.join("known"), 120u64.to_le_bytes())?;
+            let _ = fs::remove_file(&journal);
+            write(&journal, 7, 2000)?;
+            fs::write(folder.join("known"), 1200u64.to_le_bytes())?;
             let lost = cut_power(&folder, &mut Dice::new(seed))?;
-            let left = fs::read(&journal)?;
-            assert_eq!(&left[..120], &whole[..120]);
-            assert!(left.len() <= 250);
-            assert!(known(&folder, "known").is_some_and(|known| known <= 120));
-            shorter += usize::from(left.len() < 200);
+            let left = sectors::read(File::open(&journal)?)?;
+            assert!(left.number == 7 && 1200 <= left.bytes.len() && left.bytes.len() <= 2000, "{seed}");
+            assert!(left.bytes.iter().zip(1..=1200).all(|(byte, number)| *byte == number as u8), "{seed}");
+            assert!(known(&folder, "known").is_some_and(|known| known <= 1200));
+            shorter += usize::from(left.bytes.len() < 2000);
             damaged += usize::from(lost.is_damaged);
         }
         assert!(50 < shorter && 20 < damaged);
@@ -169,17 +196,38 @@ mod tests {
         let journal = folder.join("journal");
         let mut old = 0;
         for seed in 0..100 {
-            fs::write(folder.join(BEFORE), b"old and unsafe")?;
+            write(&folder.join(BEFORE), 1, 20)?;
             fs::write(folder.join(SAFE_BEFORE), 3u64.to_le_bytes())?;
-            fs::write(&journal, b"new")?;
+            write(&journal, 2, 5)?;
             fs::write(folder.join("known"), 0u64.to_le_bytes())?;
             let lost = cut_power(&folder, &mut Dice::new(seed))?;
-            let left = fs::read(&journal)?;
-            assert!(if lost.is_rename_lost { left.starts_with(b"old") } else { left == b"new" });
+            let Content { number, bytes } = sectors::read(File::open(&journal)?)?;
+            let is_old = number == 1 && bytes.starts_with(&[1, 2, 3]);
+            assert!(if lost.is_rename_lost { is_old } else { number == 2 && bytes == [1, 2, 3, 4, 5] });
             old += usize::from(lost.is_rename_lost);
             fs::remove_file(&journal)?;
         }
         assert!(20 < old && old < 80);
+        fs::remove_dir_all(&folder)
+    }
+
+    #[test]
+    fn a_journal_that_is_spoilt_is_another() -> io::Result<()> {
+        let folder = std::env::temp_dir().join(format!("sevunthi-spoilt-{}", std::process::id()));
+        fs::create_dir_all(&folder)?;
+        let journal = folder.join("journal");
+        write(&journal, 1, 1300)?;
+        fs::write(folder.join("known"), 1200u64.to_le_bytes())?;
+        let whole = sectors::read(File::open(&journal)?)?;
+        for seed in 0..100 {
+            let kept = spoil(&folder, Spoilt::Damaged, &mut Dice::new(seed))?;
+            let damaged = sectors::read(File::open(&journal)?)?;
+            assert!(damaged.bytes.len() == 1300 && damaged.bytes[..1200] != whole.bytes[..1200], "{seed}");
+            fs::write(&journal, &kept)?;
+            spoil(&folder, Spoilt::Cut, &mut Dice::new(seed))?;
+            assert!(sectors::read(File::open(&journal)?)?.bytes.len() < 1200, "{seed}");
+            fs::write(&journal, kept)?;
+        }
         fs::remove_dir_all(&folder)
     }
 }
