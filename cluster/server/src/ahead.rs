@@ -1,5 +1,5 @@
-//! Zeros ahead of a journal's sectors. A sync takes half of the time where the file has not grown since the last one. So
-//! a thread lets it grow, by many zeros at once, beside.
+//! Zeros ahead of a journal's sectors. A sync takes half of the time where the file has not grown since the last one.
+//! So a thread lets it grow, by many zeros at once, beside.
 
 use crate::faults::Failing;
 use crate::sectors::Sectors;
@@ -74,8 +74,8 @@ impl Ahead {
         }
     }
 
-    /// Fills the file with zeros, `AHEAD` behind this end. Where that fails, as on a full disk, what is to be written may
-    /// still have its place. The next zeros begin behind that.
+    /// Fills the file with zeros, `AHEAD` behind this end. Where that fails, as on a full disk, what is to be written
+    /// may still have its place. The next zeros begin behind that.
     fn fill(&mut self, end: usize, file: &File, failing: &Failing) {
         while self.filled < end + AHEAD {
             let zeros = &ZEROS[..AHEAD.min(end + AHEAD - self.filled)];

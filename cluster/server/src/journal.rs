@@ -77,8 +77,8 @@ pub struct Found {
     lock: File,
 }
 
-/// Locks the folder, and reads what stands there. A second file that was left is removed unread; the spare file stays. A
-/// journal that is gone, though bytes of it were safe, is an error: its node has forgotten what others know.
+/// Locks the folder, and reads what stands there. A second file that was left is removed unread; the spare file stays.
+/// A journal that is gone, though bytes of it were safe, is an error: its node has forgotten what others know.
 pub fn find(folder: &Path) -> io::Result<Found> {
     fs::create_dir_all(folder)?;
     let lock = OpenOptions::new().create(true).append(true).open(folder.join("lock"))?;
@@ -222,8 +222,8 @@ impl Journal {
         self.beside = Some(Beside { asked: ask, done });
     }
 
-    /// Has that thread add bytes and make all safe, perhaps for a roll, when it has done what it was asked before. After
-    /// an error the process has to end.
+    /// Has that thread add bytes and make all safe, perhaps for a roll, when it has done what it was asked before.
+    /// After an error the process has to end.
     pub fn begin_sync(&mut self, bytes: Vec<u8>, is_of_roll: bool) -> io::Result<()> {
         let length = self.length + bytes.len();
         let asked = Asked { bytes, is_of_roll, failing: self.failing.clone() };
@@ -278,8 +278,8 @@ impl Journal {
     }
 
     /// A save takes its place, while nobody syncs it beside: second file, sync, rename, sync of the folder. Until the
-    /// new length is noted nothing is known to be safe of whichever file stands there. The second file is the spare one,
-    /// if there is one, and the old journal's becomes that.
+    /// new length is noted nothing is known to be safe of whichever file stands there. The second file is the spare
+    /// one, if there is one, and the old journal's becomes that.
     pub fn replace(&mut self, save: &[u8]) -> io::Result<()> {
         self.failing.keep_before(self.safe)?;
         let [next, journal, spare] = ["next", "journal", SPARE].map(|name| self.folder.join(name));
