@@ -77,8 +77,9 @@ pub struct Found {
     lock: File,
 }
 
-/// Locks the folder, and reads what stands there. A second file that was left is removed unread; the spare file stays.
-/// A journal that is gone, though bytes of it were safe, is an error: its node has forgotten what others know.
+/// Locks the folder, and reads what stands there. A second file that was left is removed unread; the spare file stays,
+/// if there is one beside the journal. A journal that is gone, though bytes of it were safe, is an error: its node has
+/// forgotten what others know.
 pub fn find(folder: &Path) -> io::Result<Found> {
     fs::create_dir_all(folder)?;
     let lock = OpenOptions::new().create(true).append(true).open(folder.join("lock"))?;
@@ -87,7 +88,8 @@ pub fn find(folder: &Path) -> io::Result<Found> {
     let [next, spare, path] = ["next", SPARE, "journal"].map(|name| folder.join(name));
     // in the middle of a save the spare file still is the journal, and loses its second name
     let is_spare = path.exists() && fs::metadata(&spare).is_ok_and(|file| file.nlink() == 1);
-    for left in [Some(next), Some(spare).filter(|_| !is_spare)].into_iter().flatten() {
+    let left: &[PathBuf] = if is_spare { &[next] } else { &[next, spare] };
+    for left in left {
         match fs::remove_file(left) {
             Err(error) if error.kind() != ErrorKind::NotFound => return Err(error),
             _ => {}
@@ -201,7 +203,7 @@ impl Journal {
     }
 
     /// From now on a thread of its own can write and sync it, while the node goes on. It says when it has done so, and
-    /// whether for a roll.
+    /// whether for a roll. After an error it ends: behind bytes that may be lost none are to become safe.
     pub fn sync_beside(&mut self, tell: impl Fn(bool) + Send + 'static) {
         let (ask, asked) = channel::<Asked>();
         let (answer, done) = channel();
@@ -213,10 +215,14 @@ impl Journal {
                     failing.sync()?;
                     files.sync()
                 });
+                let has_failed = synced.is_err();
                 if answer.send(synced).is_err() {
                     return;
                 }
                 tell(is_of_roll);
+                if has_failed {
+                    return;
+                }
             }
         });
         self.beside = Some(Beside { asked: ask, done });
@@ -228,7 +234,8 @@ impl Journal {
         let length = self.length + bytes.len();
         let asked = Asked { bytes, is_of_roll, failing: self.failing.clone() };
         if self.beside.as_ref().is_none_or(|beside| beside.asked.send(asked).is_err()) {
-            return Err(no_thread());
+            // it has ended after an error, which says more
+            return self.wait_sync().and(Err(no_thread()));
         }
         self.length = length;
         if self.under_way == 0 {
@@ -485,6 +492,22 @@ mod tests {
         fs::remove_dir_all(&folder)
     }
 
+    #[test]
+    fn behind_a_sync_that_failed_nothing_becomes_safe() -> io::Result<()> {
+        let folder = empty_folder("failed");
+        let mut journal = Journal::create(&folder, find(&folder)?, b"first", Failing::default())?;
+        journal.sync_beside(|_| {});
+        journal.failing.sync = true;
+        journal.begin_sync(b" and more".to_vec(), false)?;
+        journal.failing.sync = false;
+        let second = journal.begin_sync(b" again".to_vec(), true);
+        assert!(second.is_err() || journal.wait_sync().is_err());
+        assert!(journal.wait_sync().is_err() || second.is_err());
+        drop(journal);
+        assert_eq!(found_in(&folder)?.1, 5);
+        fs::remove_dir_all(&folder)
+    }
+
     /// A save is written over the journal before, also where the process came back between. Nothing of that is taken.
     #[test]
     fn a_save_is_written_over_an_older_journal() -> io::Result<()> {
@@ -493,9 +516,13 @@ mod tests {
         let mut journal = Journal::create(&folder, find(&folder)?, &bytes, Failing::default())?;
         for number in 2..9 {
             let older = (number - 1, bytes);
-            bytes = vec![number as u8; 100 * number as usize];
+            bytes = vec![number as u8; 3000 * number as usize];
+            let [journal_of, spare_of] = ["journal", SPARE].map(|name| folder.join(name));
+            let file_before = fs::metadata(&spare_of).map(|file| file.ino()).ok();
             journal.replace(&bytes)?;
-            assert!(read(&folder.join(SPARE))? == older);
+            assert!(read(&spare_of)? == older);
+            assert!(file_before.is_none_or(|before| fs::metadata(&journal_of).is_ok_and(|file| file.ino() == before)));
+            assert_eq!(file_before.is_none(), number == 2);
             let more = vec![0x80; if number % 3 == 0 { AHEAD } else { 1000 }];
             journal.add(&more)?;
             bytes.extend(more);

@@ -2,7 +2,7 @@
 //! journal it is. So a save is written over an older journal as that stands: nothing of it is taken for the new one.
 
 use std::fs::{File, OpenOptions};
-use std::io::{self, Read, Write};
+use std::io::{self, BufReader, Read, Write};
 use std::os::unix::fs::{FileExt, OpenOptionsExt};
 use std::path::Path;
 
@@ -40,13 +40,6 @@ fn sector(bytes: &[u8]) -> Option<(u64, &[u8])> {
     (0 < number && count <= MOST).then(|| (number, &bytes[..count.min(bytes.len())]))
 }
 
-/// Makes sectors those of the journal before, for a test. Those of the first one are nobody's then.
-pub fn make_older(sectors: &mut [u8]) {
-    for head in sectors.chunks_mut(SECTOR).filter_map(|sector| sector.first_chunk_mut::<HEAD>()) {
-        *head = u64::from_le_bytes(*head).saturating_sub(1 << 16).to_le_bytes();
-    }
-}
-
 /// What a journal's file has.
 #[derive(Debug, PartialEq, Eq)]
 pub struct Content {
@@ -58,26 +51,22 @@ pub struct Content {
 
 /// Reads a journal: its sectors have the number of the first one. It ends with one that is not full, or before one that
 /// is another's.
-pub fn read(mut file: impl Read) -> io::Result<Content> {
+pub fn read(file: impl Read) -> io::Result<Content> {
+    let mut file = BufReader::with_capacity(ROOM, file);
     let mut content = Content { number: 0, bytes: Vec::new() };
-    let mut room = Vec::with_capacity(ROOM);
+    let mut room = Vec::with_capacity(SECTOR);
     loop {
         room.clear();
-        file.by_ref().take(ROOM as u64).read_to_end(&mut room)?;
-        for each in room.chunks(SECTOR) {
-            let Some((number, bytes)) = sector(each) else { return Ok(content) };
-            if content.number == 0 {
-                content.number = number;
-            }
-            if number != content.number {
-                return Ok(content);
-            }
-            content.bytes.extend_from_slice(bytes);
-            if bytes.len() < MOST {
-                return Ok(content);
-            }
+        file.by_ref().take(SECTOR as u64).read_to_end(&mut room)?;
+        let Some((number, bytes)) = sector(&room) else { return Ok(content) };
+        if content.number == 0 {
+            content.number = number;
         }
-        if room.len() < ROOM {
+        if number != content.number {
+            return Ok(content);
+        }
+        content.bytes.extend_from_slice(bytes);
+        if bytes.len() < MOST {
             return Ok(content);
         }
     }
@@ -256,6 +245,21 @@ mod tests {
                 assert!(number == 2 && bytes == vec![2; (whole * MOST).min(10 * MOST + 100)], "{written:b}");
             }
         }
+        fs::remove_file(&path)
+    }
+
+    /// The last sector is written again with more bytes. Where a disk has not done that, but has written what is behind,
+    /// the journal ends there.
+    #[test]
+    fn a_journal_ends_with_a_sector_that_is_not_full() -> io::Result<()> {
+        let path = file_for("not-full-sectors");
+        let mut sectors = Sectors::open(&path, 3, &[])?;
+        sectors.write_all(&[1; 600])?;
+        let before = fs::read(&path)?;
+        sectors.write_all(&[2; 5000])?;
+        let mut mixed = fs::read(&path)?;
+        mixed[SECTOR..2 * SECTOR].copy_from_slice(&before[SECTOR..2 * SECTOR]);
+        assert!(read(&mixed[..])? == Content { number: 3, bytes: vec![1; 600] });
         fs::remove_file(&path)
     }
 

@@ -2,7 +2,7 @@
 
 use crate::dice::Dice;
 use crate::faults::{BEFORE, SAFE_BEFORE};
-use crate::sectors::{self, SECTOR, end_of, make_older};
+use crate::sectors::{self, BLOCK, end_of};
 use sevunthi::message::u64_at;
 use std::fs::{self, File, OpenOptions};
 use std::io;
@@ -12,7 +12,7 @@ use std::path::Path;
 /// What has become of a folder's files.
 #[derive(Clone, Copy, Debug, Default)]
 pub struct Lost {
-    /// Bytes of the journal that were not safe and are gone.
+    /// Bytes of the journal's file that were not safe and are gone.
     pub bytes: u64,
     /// Whether some that were not safe are others now.
     pub is_damaged: bool,
@@ -32,7 +32,7 @@ fn safe_end(folder: &Path, name: &str) -> Option<u64> {
     known(folder, name).map(|known| end_of(known as usize) as u64)
 }
 
-/// Behind so many bytes of its file a journal ends.
+/// Behind so many bytes of its file a journal ends, as far as it can be read.
 fn end_in(file: &[u8]) -> io::Result<u64> {
     sectors::read(file).map(|content| end_of(content.bytes.len()) as u64)
 }
@@ -46,7 +46,11 @@ pub fn cut_power(folder: &Path, dice: &mut Dice) -> io::Result<Lost> {
         return Ok(lost);
     }
     spoil_end(&folder.join("next"), 0, dice, &mut Lost::default())?;
-    let mut safe = safe_end(folder, "known").unwrap_or(0);
+    let mut safe = match safe_end(folder, "known") {
+        // in the middle of a save, and where a process has not synced since it began: nothing tells what was safe
+        Some(0) | None => end_in(&fs::read(&journal)?)?,
+        Some(safe) => safe,
+    };
     let before = folder.join(BEFORE);
     if before.exists() {
         // a save was begun: either its rename has happened, or not; and if it has, the folder may not know
@@ -82,8 +86,8 @@ pub fn forget_save(folder: &Path) {
     let _ = fs::remove_file(folder.join(SAFE_BEFORE));
 }
 
-/// Cuts what was not safe off somewhere, or leaves zeros in its place, and damages some of what is left of it, or
-/// leaves sectors of an older journal there.
+/// Cuts what was not safe off somewhere, or leaves zeros in its place, and what the file had behind it; and damages some
+/// of what is left.
 fn spoil_end(path: &Path, safe: u64, dice: &mut Dice, lost: &mut Lost) -> io::Result<()> {
     let Ok(file) = OpenOptions::new().write(true).open(path) else { return Ok(()) };
     let whole = fs::read(path)?;
@@ -94,6 +98,9 @@ fn spoil_end(path: &Path, safe: u64, dice: &mut Dice, lost: &mut Lost) -> io::Re
     let left = safe + dice.below(end - safe + 1);
     file.set_len(left)?;
     if left.is_multiple_of(2) {
+        // an older journal has sectors there
+        let behind = (end as usize).next_multiple_of(BLOCK).min(whole.len());
+        file.write_all_at(&whole[behind..], behind as u64)?;
         file.set_len(whole.len() as u64)?;
     }
     lost.bytes = end - left;
@@ -102,15 +109,9 @@ fn spoil_end(path: &Path, safe: u64, dice: &mut Dice, lost: &mut Lost) -> io::Re
     }
     let at = safe + dice.below(left - safe);
     let count = 1 + dice.below(left - at);
-    match dice.below(4) {
+    match dice.below(3) {
         0 => file.write_all_at(&dice.bytes(count), at)?,
         1 => file.write_all_at(&vec![0; count as usize], at)?,
-        2 => {
-            let at = at.next_multiple_of(SECTOR as u64).min(end);
-            let mut older = whole[at as usize..end as usize].to_vec();
-            make_older(&mut older);
-            file.write_all_at(&older, at)?;
-        }
         // the length is there, and the bytes are not
         _ => {
             file.set_len(at)?;
@@ -172,9 +173,10 @@ mod tests {
         let folder = std::env::temp_dir().join(format!("sevunthi-cut-{}", std::process::id()));
         fs::create_dir_all(&folder)?;
         let journal = folder.join("journal");
-        let (mut shorter, mut damaged) = (0, 0);
+        let (mut shorter, mut damaged, mut over_older) = (0, 0, 0);
         for seed in 0..200 {
             let _ = fs::remove_file(&journal);
+            write(&journal, 5, 9000)?;
             write(&journal, 7, 2000)?;
             fs::write(folder.join("known"), 1200u64.to_le_bytes())?;
             let lost = cut_power(&folder, &mut Dice::new(seed))?;
@@ -184,8 +186,25 @@ mod tests {
             assert!(known(&folder, "known").is_some_and(|known| known <= 1200));
             shorter += usize::from(left.bytes.len() < 2000);
             damaged += usize::from(lost.is_damaged);
+            let older = fs::read(&journal)?.get(BLOCK..).map(sectors::read).transpose()?;
+            over_older += usize::from(older.is_some_and(|older| older.number == 5));
         }
-        assert!(50 < shorter && 20 < damaged);
+        assert!(50 < shorter && 20 < damaged && 50 < over_older);
+        fs::remove_dir_all(&folder)
+    }
+
+    /// Its process was killed when it had noted that nothing is known to be safe.
+    #[test]
+    fn in_the_middle_of_a_save_nothing_that_was_safe_is_spoilt() -> io::Result<()> {
+        let folder = std::env::temp_dir().join(format!("sevunthi-middle-{}", std::process::id()));
+        fs::create_dir_all(&folder)?;
+        let journal = folder.join("journal");
+        write(&journal, 1, 2000)?;
+        for seed in 0..50 {
+            fs::write(folder.join("known"), 0u64.to_le_bytes())?;
+            cut_power(&folder, &mut Dice::new(seed))?;
+            assert_eq!(sectors::read(File::open(&journal)?)?.bytes.len(), 2000);
+        }
         fs::remove_dir_all(&folder)
     }
 
@@ -212,7 +231,7 @@ mod tests {
     }
 
     #[test]
-    fn a_journal_that_is_spoilt_is_another() -> io::Result<()> {
+    fn what_was_safe_is_spoilt() -> io::Result<()> {
         let folder = std::env::temp_dir().join(format!("sevunthi-spoilt-{}", std::process::id()));
         fs::create_dir_all(&folder)?;
         let journal = folder.join("journal");
