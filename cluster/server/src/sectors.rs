@@ -248,8 +248,8 @@ mod tests {
         fs::remove_file(&path)
     }
 
-    /// The last sector is written again with more bytes. Where a disk has not done that, but has written what is behind,
-    /// the journal ends there.
+    /// The last sector is written again with more bytes. Where a disk has not done that, but has written what is
+    /// behind, the journal ends there.
     #[test]
     fn a_journal_ends_with_a_sector_that_is_not_full() -> io::Result<()> {
         let path = file_for("not-full-sectors");

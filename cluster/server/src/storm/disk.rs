@@ -86,8 +86,8 @@ pub fn forget_save(folder: &Path) {
     let _ = fs::remove_file(folder.join(SAFE_BEFORE));
 }
 
-/// Cuts what was not safe off somewhere, or leaves zeros in its place, and what the file had behind it; and damages some
-/// of what is left.
+/// Cuts what was not safe off somewhere, or leaves zeros in its place, and what the file had behind it; and damages
+/// some of what is left.
 fn spoil_end(path: &Path, safe: u64, dice: &mut Dice, lost: &mut Lost) -> io::Result<()> {
     let Ok(file) = OpenOptions::new().write(true).open(path) else { return Ok(()) };
     let whole = fs::read(path)?;
