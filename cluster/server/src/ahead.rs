@@ -6,6 +6,7 @@ use crate::sectors::Sectors;
 use std::fs::File;
 use std::sync::mpsc::{Receiver, TryRecvError, channel};
 use std::thread::{self, JoinHandle};
+use std::time::Duration;
 
 /// So many zeros are written at once where sectors would reach a file's end.
 pub const AHEAD: usize = 1 << 20;
@@ -16,6 +17,9 @@ pub const PIECE: usize = 1 << 17;
 /// That thread goes on until the file has a quarter as many ahead as are written, but `AHEAD` at least, and so many at
 /// most.
 const MOST_AHEAD: usize = 32 << 20;
+
+/// With such a pause behind each piece a file is filled slowly, so that syncs of the disk wait for few of them.
+const PAUSE: Duration = Duration::from_millis(4);
 
 /// Zeros as they are written past the page cache.
 #[repr(align(4096))]
@@ -43,10 +47,36 @@ struct Beside {
     thread: JoinHandle<()>,
 }
 
+impl Beside {
+    /// Fills these bytes of a file, piece by piece, with such a pause behind each.
+    fn begin(file: File, from: usize, to: usize, pause: Duration, failing: &Failing) -> Option<Beside> {
+        let failing = failing.clone();
+        let (tell, told) = channel();
+        let begun = thread::Builder::new().name("zeros".into()).spawn(move || {
+            for at in (from..to).step_by(PIECE) {
+                if failing.write_ahead(&file, &ZEROS[..PIECE], at as u64).is_err() || tell.send(at + PIECE).is_err() {
+                    return;
+                }
+                if !pause.is_zero() {
+                    thread::sleep(pause);
+                }
+            }
+        });
+        begun.ok().map(|thread| Beside { told, thread })
+    }
+}
+
 impl Ahead {
     /// Of a file that has so many bytes.
     pub fn new(filled: usize) -> Ahead {
         Ahead { filled, beside: None, next: 0 }
+    }
+
+    /// Fills a file that is new, up to so many bytes, slowly, beside all else, until this is dropped.
+    pub fn slowly(length: usize, sectors: &Sectors, failing: &Failing) -> Ahead {
+        let file = sectors.file().try_clone().ok();
+        let beside = file.and_then(|file| Beside::begin(file, 0, length, PAUSE, failing));
+        Ahead { filled: 0, beside, next: 0 }
     }
 
     /// The file will be written up to this end. Where that reaches what it has, zeros are written first. Where it comes
@@ -96,17 +126,7 @@ impl Ahead {
         }
         let Ok(file) = file.try_clone() else { return };
         self.next = end + AHEAD / 4;
-        let pieces = (self.filled..end + ahead).step_by(PIECE);
-        let failing = failing.clone();
-        let (tell, told) = channel();
-        let begun = thread::Builder::new().name("zeros".into()).spawn(move || {
-            for at in pieces {
-                if failing.write_ahead(&file, &ZEROS[..PIECE], at as u64).is_err() || tell.send(at + PIECE).is_err() {
-                    return;
-                }
-            }
-        });
-        self.beside = begun.ok().map(|thread| Beside { told, thread });
+        self.beside = Beside::begin(file, self.filled, end + ahead, Duration::ZERO, failing);
     }
 }
 

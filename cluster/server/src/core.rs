@@ -411,8 +411,11 @@ impl Core {
         self.config.long <= self.journal.length - self.journal.saved
     }
 
-    /// Makes a long journal short.
+    /// Makes a long journal short. One that is on its way there gets its next file before that.
     pub fn shorten(&mut self) {
+        if self.config.long / 16 <= self.journal.length - self.journal.saved {
+            self.journal.make_spare(self.config.long);
+        }
         if !self.is_long() || 0 < self.journal.under_way() || !self.ready.journal.is_empty() {
             return;
         }

@@ -66,8 +66,9 @@ struct Host {
     rolling: Option<Instant>,
     rolls: u64,
     in_rolls: Duration,
-    /// When the coordinator was told last that the server lives.
+    /// When the coordinator was told last that the server lives, and what the node shows was made.
     beat: Instant,
+    shown: Instant,
     code: Vec<u8>,
 }
 
@@ -88,6 +89,7 @@ pub fn run(config: Config) -> io::Result<()> {
         rolls: 0,
         in_rolls: Duration::ZERO,
         beat: Instant::now(),
+        shown: Instant::now(),
         code: Vec::new(),
     };
     host.begin();
@@ -147,6 +149,10 @@ impl Host {
             if BEAT <= self.beat.elapsed() {
                 self.beat = Instant::now();
                 send_heartbeat(self.server, &mut self.core);
+            }
+            // what takes long tells the coordinator in its middle, and shows nothing
+            if BEAT <= self.shown.elapsed() {
+                self.shown = Instant::now();
                 self.show();
             }
             if Duration::from_millis(self.core.config.tick) <= tick.elapsed() {

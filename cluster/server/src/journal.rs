@@ -12,7 +12,7 @@ use std::sync::{Arc, Mutex, MutexGuard};
 use std::thread;
 use std::time::{Duration, Instant};
 
-/// The file that an older journal had. The next save is written over it.
+/// The file that an older journal had, or one of zeros. The next save is written over it.
 const SPARE: &str = "spare";
 
 /// A node's journal, whose folder is locked.
@@ -20,6 +20,8 @@ pub struct Journal {
     folder: PathBuf,
     files: Arc<Mutex<Files>>,
     _lock: File,
+    /// What fills a new spare file, after it was looked whether there is one.
+    spare: Option<Ahead>,
     /// How many bytes it has.
     pub length: usize,
     /// How many it had when it was last shortened.
@@ -176,6 +178,7 @@ impl Journal {
             folder: folder.into(),
             files: Arc::new(Mutex::new(Files { sectors, known, length: good, ahead })),
             _lock: found.lock,
+            spare: None,
             length: good,
             saved: good,
             syncs: 0,
@@ -284,11 +287,31 @@ impl Journal {
         self.safe = synced.safe;
     }
 
+    /// Has a thread make the spare file, if there is none, with so many bytes, so that the next save need not. It is filled
+    /// only past the page cache: else the next sync would have to write its zeros.
+    pub fn make_spare(&mut self, length: usize) {
+        if self.spare.is_some() {
+            return;
+        }
+        self.spare = Some(Ahead::new(0));
+        let path = self.folder.join(SPARE);
+        if path.exists() {
+            return;
+        }
+        // where that fails the next save has a new file
+        match Sectors::open(&path, 0, &[]) {
+            Ok(sectors) if sectors.is_direct() => self.spare = Some(Ahead::slowly(length, &sectors, &self.failing)),
+            _ => _ = fs::remove_file(path),
+        }
+    }
+
     /// A save takes its place, while nobody syncs it beside: second file, sync, rename, sync of the folder. Until the
     /// new length is noted nothing is known to be safe of whichever file stands there. The second file is the spare
     /// one, if there is one, and the old journal's becomes that.
     pub fn replace(&mut self, save: &[u8]) -> io::Result<()> {
         self.failing.keep_before(self.safe)?;
+        // what fills the spare file has ended, before that gets anything else
+        self.spare = None;
         let [next, journal, spare] = ["next", "journal", SPARE].map(|name| self.folder.join(name));
         if fs::rename(&spare, &next).is_ok() {
             // no crash may bring it back as the spare file any more: it gets sectors of the next number now
@@ -534,6 +557,31 @@ mod tests {
                 assert_eq!(found.known, bytes.len());
                 journal = Journal::open(&folder, found, bytes.len(), Failing::default())?;
             }
+        }
+        fs::remove_dir_all(&folder)
+    }
+
+    /// A thread fills it, and is at it while a save takes its place, or has done so.
+    #[test]
+    fn a_save_is_written_over_zeros_that_a_thread_writes() -> io::Result<()> {
+        let folder = empty_folder("zeros");
+        let [path, spare] = ["journal", SPARE].map(|name| folder.join(name));
+        let mut journal = Journal::create(&folder, find(&folder)?, b"first", Failing::default())?;
+        for length in [0, AHEAD, 64 * AHEAD] {
+            journal.make_spare(length);
+            let Ok(file) = fs::metadata(&spare) else { break };
+            while length == AHEAD && fs::metadata(&spare)?.len() < AHEAD as u64 {
+                thread::sleep(Duration::from_millis(1));
+            }
+            let save = vec![0x55; 300_000];
+            journal.replace(&save)?;
+            thread::sleep(Duration::from_millis(10));
+            assert!(fs::metadata(&path)?.ino() == file.ino() && bytes_in(&folder)? == save);
+            // another is not made while there is one
+            journal.make_spare(length);
+            assert!(read(&spare)?.0 + 1 == read(&path)?.0);
+            journal.spare = None;
+            fs::remove_file(&spare)?;
         }
         fs::remove_dir_all(&folder)
     }
