@@ -19,9 +19,9 @@ const SPARE: &str = "spare";
 pub struct Journal {
     folder: PathBuf,
     files: Arc<Mutex<Files>>,
-    _lock: File,
     /// What fills a new spare file, after it was looked whether there is one.
     spare: Option<Ahead>,
+    _lock: File,
     /// How many bytes it has.
     pub length: usize,
     /// How many it had when it was last shortened.
@@ -177,8 +177,8 @@ impl Journal {
         Ok(Journal {
             folder: folder.into(),
             files: Arc::new(Mutex::new(Files { sectors, known, length: good, ahead })),
-            _lock: found.lock,
             spare: None,
+            _lock: found.lock,
             length: good,
             saved: good,
             syncs: 0,
