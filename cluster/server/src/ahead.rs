@@ -12,7 +12,7 @@ use std::time::Duration;
 pub const AHEAD: usize = 1 << 20;
 
 /// A thread writes them in pieces of so many bytes, since all syncs of the disk wait for each.
-pub const PIECE: usize = 1 << 17;
+const PIECE: usize = 1 << 17;
 
 /// That thread goes on until the file has a quarter as many ahead as are written, but `AHEAD` at least, and so many at
 /// most.
@@ -28,7 +28,7 @@ struct Aligned([u8; AHEAD]);
 static ALIGNED: Aligned = Aligned([0; AHEAD]);
 
 /// So many zeros.
-pub static ZEROS: &[u8; AHEAD] = &ALIGNED.0;
+static ZEROS: &[u8; AHEAD] = &ALIGNED.0;
 
 /// How far a file has been written once, with zeros or with all else. All here are numbers of bytes of the file, and
 /// whole blocks.

@@ -174,6 +174,7 @@ impl Write for Sectors {
 #[cfg(test)]
 mod tests {
     use super::*;
+    use crate::dice::Dice;
     use std::fs;
 
     fn file_for(name: &str) -> std::path::PathBuf {
@@ -261,6 +262,36 @@ mod tests {
         mixed[SECTOR..2 * SECTOR].copy_from_slice(&before[SECTOR..2 * SECTOR]);
         assert!(read(&mixed[..])? == Content { number: 3, bytes: vec![1; 600] });
         fs::remove_file(&path)
+    }
+
+    /// Files with some bytes changed, as many as `MUTATIONS` says: all that stands in the sectors before is read as it
+    /// was, and behind those nothing that the file has no room for.
+    #[test]
+    fn mutations_of_a_file_are_read() -> io::Result<()> {
+        let count = std::env::var("MUTATIONS").ok().and_then(|word| word.parse().ok()).unwrap_or(20_000);
+        let path = file_for("mutated-sectors");
+        let bytes: Vec<u8> = (0..7 * MOST + 100).map(|at| (at / 7) as u8).collect();
+        Sectors::open(&path, 3, &[])?.write_all(&bytes)?;
+        let file = fs::read(&path)?;
+        fs::remove_file(&path)?;
+        let mut dice = Dice::new(11);
+        for _ in 0..count {
+            let mut mutated = file.clone();
+            let at = dice.below(file.len() as u64) as usize;
+            match dice.below(3) {
+                0 => mutated[at] ^= 1 << dice.below(8),
+                1 => mutated.truncate(at),
+                _ => mutated[at..].fill(dice.below(256) as u8),
+            }
+            let content = read(&mutated[..])?;
+            // all sectors before that place are as they were, and so is what was read of them
+            let whole = (at / SECTOR * MOST).min(bytes.len());
+            let is_first = at < SECTOR;
+            assert!(is_first || content.number == 3 && whole <= content.bytes.len(), "{at}");
+            assert!(content.bytes.get(..whole).is_some_and(|read| read == &bytes[..whole]), "{at}");
+            assert!(content.bytes.len() <= 8 * MOST, "{at}");
+        }
+        Ok(())
     }
 
     #[test]
