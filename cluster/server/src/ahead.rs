@@ -3,7 +3,9 @@
 
 use crate::faults::Failing;
 use crate::sectors::Sectors;
-use std::fs::File;
+use std::fs::{self, File};
+use std::ops::Range;
+use std::path::PathBuf;
 use std::sync::mpsc::{Receiver, TryRecvError, channel};
 use std::thread::{self, JoinHandle};
 use std::time::Duration;
@@ -48,13 +50,23 @@ struct Beside {
 }
 
 impl Beside {
-    /// Fills these bytes of a file, piece by piece, with such a pause behind each.
-    fn begin(file: File, from: usize, to: usize, pause: Duration, failing: &Failing) -> Option<Beside> {
+    /// Fills these bytes of a file, piece by piece, with such a pause behind each. Where the disk has no room for one it
+    /// does something else.
+    fn begin(
+        file: File,
+        bytes: Range<usize>,
+        pause: Duration,
+        failing: &Failing,
+        without_room: impl FnOnce() + Send + 'static,
+    ) -> Option<Beside> {
         let failing = failing.clone();
         let (tell, told) = channel();
         let begun = thread::Builder::new().name("zeros".into()).spawn(move || {
-            for at in (from..to).step_by(PIECE) {
-                if failing.write_ahead(&file, &ZEROS[..PIECE], at as u64).is_err() || tell.send(at + PIECE).is_err() {
+            for at in bytes.step_by(PIECE) {
+                if failing.write_ahead(&file, &ZEROS[..PIECE], at as u64).is_err() {
+                    return without_room();
+                }
+                if tell.send(at + PIECE).is_err() {
                     return;
                 }
                 if !pause.is_zero() {
@@ -72,11 +84,11 @@ impl Ahead {
         Ahead { filled, beside: None, next: 0 }
     }
 
-    /// Fills a file that is new, up to so many bytes, slowly, beside all else, until this is dropped.
-    pub fn slowly(length: usize, sectors: &Sectors, failing: &Failing) -> Ahead {
-        let file = sectors.file().try_clone().ok();
-        let beside = file.and_then(|file| Beside::begin(file, 0, length, PAUSE, failing));
-        Ahead { filled: 0, beside, next: 0 }
+    /// Fills this file, which is new, up to so many bytes, slowly, beside all else, until this is dropped. Where the disk
+    /// has no room for them the file goes.
+    pub fn slowly(path: PathBuf, file: &File, length: usize, failing: &Failing) -> Ahead {
+        let begin = |file| Beside::begin(file, 0..length, PAUSE, failing, || _ = fs::remove_file(path));
+        Ahead { filled: 0, beside: file.try_clone().ok().and_then(begin), next: 0 }
     }
 
     /// The file will be written up to this end. Where that reaches what it has, zeros are written first. Where it comes
@@ -126,7 +138,7 @@ impl Ahead {
         }
         let Ok(file) = file.try_clone() else { return };
         self.next = end + AHEAD / 4;
-        self.beside = Beside::begin(file, self.filled, end + ahead, Duration::ZERO, failing);
+        self.beside = Beside::begin(file, self.filled..end + ahead, Duration::ZERO, failing, || {});
     }
 }
 

@@ -300,7 +300,9 @@ impl Journal {
         }
         // where that fails the next save has a new file
         match Sectors::open(&path, 0, &[]) {
-            Ok(sectors) if sectors.is_direct() => self.spare = Some(Ahead::slowly(length, &sectors, &self.failing)),
+            Ok(sectors) if sectors.is_direct() => {
+                self.spare = Some(Ahead::slowly(path, sectors.file(), length, &self.failing));
+            }
             _ => _ = fs::remove_file(path),
         }
     }
@@ -558,6 +560,26 @@ mod tests {
                 journal = Journal::open(&folder, found, bytes.len(), Failing::default())?;
             }
         }
+        fs::remove_dir_all(&folder)
+    }
+
+    /// It leaves no file where the disk has no room for zeros.
+    #[test]
+    fn a_spare_file_goes_where_the_disk_is_nearly_full() -> io::Result<()> {
+        let folder = empty_folder("no-room");
+        let failing = Failing::in_folder(&folder);
+        let mut journal = Journal::create(&folder, find(&folder)?, b"first", failing)?;
+        fs::write(folder.join(NEARLY_FULL), [])?;
+        journal.make_spare(AHEAD);
+        for _ in 0..2000 {
+            if !folder.join(SPARE).exists() {
+                break;
+            }
+            thread::sleep(Duration::from_millis(1));
+        }
+        assert!(!folder.join(SPARE).exists());
+        journal.replace(b"second")?;
+        assert!(bytes_in(&folder)? == b"second" && folder.join(SPARE).exists());
         fs::remove_dir_all(&folder)
     }
 
