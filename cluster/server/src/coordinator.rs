@@ -55,7 +55,10 @@ impl Coordinator {
     fn serve(&mut self, events: &EventReceiver) {
         let (mut beat, mut tick) = (Instant::now(), Instant::now());
         loop {
-            events.take_turn(TURN, |event| self.take(event));
+            events.take_turn(TURN, |event| {
+                self.take(event);
+                true
+            });
             self.core.awake.turn();
             if self.is_due || BEAT <= beat.elapsed() {
                 beat = Instant::now();

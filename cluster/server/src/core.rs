@@ -407,7 +407,7 @@ impl Core {
     }
 
     /// Whether the journal is to be made short.
-    fn is_long(&self) -> bool {
+    pub fn is_long(&self) -> bool {
         self.config.long <= self.journal.length - self.journal.saved
     }
 

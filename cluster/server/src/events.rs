@@ -157,14 +157,16 @@ impl EventReceiver {
         urgent().or_else(|| self.next_of_peers()).or_else(urgent).or_else(|| self.clients.try_recv().ok())
     }
 
-    /// Waits so long for an event, and then takes what is there, for a turn; at its end one of clients, so that none of
-    /// them waits for ever.
-    pub fn take_turn(&self, wait: Duration, mut take: impl FnMut(Event)) {
+    /// Waits so long for an event, and then takes what is there, for a turn, or as long as `take` says that it goes on;
+    /// at its end one of clients, so that none of them waits for ever.
+    pub fn take_turn(&self, wait: Duration, mut take: impl FnMut(Event) -> bool) {
         let waited = self.next().or_else(|| self.peers.recv_timeout(wait).ok().flatten());
         let began = Instant::now();
         let rest = std::iter::from_fn(|| if began.elapsed() < TURN { self.next() } else { None });
-        waited.into_iter().chain(rest).for_each(&mut take);
-        self.clients.try_recv().into_iter().for_each(take);
+        waited.into_iter().chain(rest).all(&mut take);
+        if let Ok(event) = self.clients.try_recv() {
+            take(event);
+        }
     }
 }
 
@@ -184,7 +186,10 @@ mod tests {
 
     fn taken(receiver: &EventReceiver) -> Vec<u64> {
         let mut taken = Vec::new();
-        receiver.take_turn(Duration::from_millis(50), |event| taken.extend(number(event)));
+        receiver.take_turn(Duration::from_millis(50), |event| {
+            taken.extend(number(event));
+            true
+        });
         taken
     }
 
@@ -243,6 +248,7 @@ mod tests {
             // one comes while the first is taken
             assert!(taken.len() != 1 || urgent(2));
             seen.push(receiver.has_urgent() && receiver.has_urgent());
+            true
         });
         assert_eq!((taken, seen), (vec![11, 12, 0], vec![true, false, false]));
     }
@@ -258,8 +264,22 @@ mod tests {
             taken.extend(number);
             // a peer that has no end
             assert!(number != Some(0) || sender.send(Event::PeerDown(0)));
+            true
         });
         assert_eq!(taken.iter().filter(|number| **number == 101).count(), 1);
         assert_eq!(taken.last(), Some(&101));
+    }
+
+    #[test]
+    fn a_turn_ends_where_it_is_not_to_go_on() {
+        let (sender, receiver) = channel();
+        assert!((0..4).all(|number| sender.send(Event::PeerDown(number))));
+        assert!(sender.send(Event::Client(1, Vec::new())));
+        let mut taken = Vec::new();
+        receiver.take_turn(Duration::ZERO, |event| {
+            taken.extend(number(event));
+            taken.len() < 2
+        });
+        assert_eq!(taken, [0, 1, 101]);
     }
 }

@@ -143,6 +143,8 @@ impl Host {
                     self.retry(events);
                     self.pass_on();
                 }
+                // no sync begins beside until a long journal is short
+                !self.core.is_long()
             });
             self.core.awake.turn();
             events.say_keeps_others(self.core.keeps_others());
