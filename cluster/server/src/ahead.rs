@@ -50,8 +50,8 @@ struct Beside {
 }
 
 impl Beside {
-    /// Fills these bytes of a file, piece by piece, with such a pause behind each. Where the disk has no room for one it
-    /// does something else.
+    /// Fills these bytes of a file, piece by piece, with such a pause behind each. Where the disk has no room for one
+    /// the thread does something else, and ends.
     fn begin(
         file: File,
         bytes: Range<usize>,
@@ -84,8 +84,8 @@ impl Ahead {
         Ahead { filled, beside: None, next: 0 }
     }
 
-    /// Fills this file, which is new, up to so many bytes, slowly, beside all else, until this is dropped. Where the disk
-    /// has no room for them the file goes.
+    /// Fills this file, which is new, up to so many bytes, slowly, beside all else, until this is dropped. Where the
+    /// disk has no room for them the file goes.
     pub fn slowly(path: PathBuf, file: &File, length: usize, failing: &Failing) -> Ahead {
         let begin = |file| Beside::begin(file, 0..length, PAUSE, failing, || _ = fs::remove_file(path));
         Ahead { filled: 0, beside: file.try_clone().ok().and_then(begin), next: 0 }

@@ -287,8 +287,8 @@ impl Journal {
         self.safe = synced.safe;
     }
 
-    /// Has a thread make the spare file, if there is none, with so many bytes, so that the next save need not. It is filled
-    /// only past the page cache: else the next sync would have to write its zeros.
+    /// Has a thread make the spare file, if there is none, with so many bytes, so that the next save need not. It is
+    /// filled only past the page cache: else the next sync would have to write its zeros.
     pub fn make_spare(&mut self, length: usize) {
         if self.spare.is_some() {
             return;
