@@ -10,7 +10,7 @@ _ramseg() {
     esac
   done
   case $command in
-    '') words="run trace audit log picture fuzz stops threads explore shrink heal explain history check test script --without --prove --help --version" ;;
+    '') words="run trace audit log picture fuzz stops threads explore shrink heal explain history check test script page --without --prove --help --version" ;;
     run) words="--format --heap --help --output --expect" ;;
     trace) words="--help --output" ;;
     audit) words="--format --help --output" ;;

@@ -17,6 +17,7 @@ complete -c ramseg -n __fish_use_subcommand -a history -d 'Replays a scenario fr
 complete -c ramseg -n __fish_use_subcommand -a check -d 'Judges whether a history that it reads from standard input is linearizable'
 complete -c ramseg -n __fish_use_subcommand -a test -d 'Runs scenarios against what is expected of them'
 complete -c ramseg -n __fish_use_subcommand -a script -d 'Makes a scenario of a script'
+complete -c ramseg -n __fish_use_subcommand -a page -d 'Writes the program as one page for a browser'
 complete -c ramseg -n __fish_use_subcommand -l without -x -a "(cat "(string escape $beside/rules)")"
 complete -c ramseg -n __fish_use_subcommand -l prove
 complete -c ramseg -n '__fish_seen_subcommand_from run' -l format -x -d 'Prints one JSON document in place of the text'

@@ -2,8 +2,11 @@
 
 import collections
 import json
+import os
 import pathlib
 import subprocess
+
+from parts.tree import TOP
 
 Answer = collections.namedtuple("Answer", "status printed said")
 
@@ -15,5 +18,17 @@ def ask(program, *words, given=b""):
         given = given.read_bytes()
     elif not isinstance(given, bytes):
         given = (given if isinstance(given, str) else json.dumps(given)).encode()
-    run = subprocess.run([program, *words], input=given, capture_output=True, check=False)
+    return _answer([program, *words], given, os.environ)
+
+
+def tell(program, *words, given=b""):
+    """The same of the script ./ramseg over this program: it tells also why an input is refused, and hints."""
+    if isinstance(given, pathlib.Path):
+        given = given.read_bytes()
+    named = {} if program == TOP / "ramseg" else {"RAMSEG_PROGRAM": str(program)}
+    return _answer([TOP / "ramseg", *words], given, {**os.environ, **named})
+
+
+def _answer(words, given, environment):
+    run = subprocess.run(words, input=given, capture_output=True, env=environment, check=False)
     return Answer(run.returncode, *(it.decode(errors="surrogateescape") for it in (run.stdout, run.stderr)))

@@ -12,6 +12,8 @@ CRATES = TOP / "crates"
 EXAMPLES = TOP / "examples"
 # a module that is read leaves nothing behind
 sys.dont_write_bytecode = True
+# the packages of tools/, as `story`
+sys.path.append(str(TOP / "tools"))
 
 
 def libraries():

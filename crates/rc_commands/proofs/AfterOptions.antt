@@ -351,64 +351,27 @@ module _ (s : Shape) (given : List Row → Bool) (has : HasOptions s given) wher
       let parts = none_first (walk_fault s [] (walk_from nothing_held) (word ∷ rest)) _ e in
       ends w (begins word rest other parts.0) (none_first (settle_fault s.rules again w.held) _ parts.1).0
 
--- ---- the two commands
-
-abbrev pub audit_given : List Row → Bool
-audit_given rows = is_some (first_of (codes "format") rows)
-
-pub audit_options : HasOptions (leaf command.audit.top) audit_given
-unfolding clap_on_literals
-audit_options = record {
-  options = codes "format" ∷ [];
-  level = level_of each.audit refl;
-  one = codes "format";
-  is_one = format;
-  long = λ name. go (bytes_eq (codes "format") name) (bytes_eq (codes "help") name);
-  bare = refl;
-}
-  where
-    format : IsOption (leaf command.audit.top) audit_given (codes "format")
-    format = record { same = refl; found = refl; gives = λ rows e. e }
-
-    go : (is_format is_help : Bool) → Finds (leaf command.audit.top) audit_given
-        (if is_format || false then Some (rule (codes "format")) else (if is_help || false then Some help else None))
-    go true is_help = inr (inr (codes "format", format, refl))
-    go false true = inr (inl refl)
-    go false false = inl refl
+-- ---- the command
 
 abbrev pub run_given : List Row → Bool
-run_given rows = is_some (first_of (codes "heap") rows) || is_some (first_of (codes "format") rows)
+run_given rows = is_some (first_of (codes "heap") rows)
 
 pub run_options : HasOptions (leaf command.run.top) run_given
 unfolding clap_on_literals
 run_options = record {
-  options = codes "format" ∷ codes "heap" ∷ [];
-  level = level_of each.run refl;
-  one = codes "format";
-  is_one = format;
-  long = λ name. go (bytes_eq (codes "format") name) (bytes_eq (codes "heap") name) (bytes_eq (codes "help") name);
+  options = codes "heap" ∷ [];
+  level = level_of each.run;
+  one = codes "heap";
+  is_one = heap;
+  long = λ name. go (bytes_eq (codes "heap") name) (bytes_eq (codes "help") name);
   bare = refl;
 }
   where
-    or_true : (b : Bool) → (b || true) ≡ true
-    or_true true = refl
-    or_true false = refl
-
-    format : IsOption (leaf command.run.top) run_given (codes "format")
-    format = record {
-      same = refl;
-      found = refl;
-      gives = λ rows e.
-          ap (λ b. is_some (first_of (codes "heap") rows) || b) e ∙ or_true (is_some (first_of (codes "heap") rows));
-    }
-
     heap : IsOption (leaf command.run.top) run_given (codes "heap")
-    heap = record { same = refl; found = refl; gives = λ rows e. ap (λ b. b || is_some (first_of (codes "format") rows)) e }
+    heap = record { same = refl; found = refl; gives = λ rows e. e }
 
-    go : (is_format is_heap is_help : Bool) → Finds (leaf command.run.top) run_given
-        (if is_format || false then Some (rule (codes "format")) else (if is_heap || false then Some (rule (codes "heap"))
-        else (if is_help || false then Some help else None)))
-    go true is_heap is_help = inr (inr (codes "format", format, refl))
-    go false true is_help = inr (inr (codes "heap", heap, refl))
-    go false false true = inr (inl refl)
-    go false false false = inl refl
+    go : (is_heap is_help : Bool) → Finds (leaf command.run.top) run_given
+        (if is_heap || false then Some (rule (codes "heap")) else (if is_help || false then Some help else None))
+    go true is_help = inr (inr (codes "heap", heap, refl))
+    go false true = inr (inl refl)
+    go false false = inl refl

@@ -21,17 +21,15 @@ use Rattle.rc_commands.proofs.Only.{trace_only, run_only, audit_only}
 
 -- what comes of a command's name alone
 abbrev bare : Command → Option Asked
-bare each.run = Some (asked.Run None false)
+bare each.run = Some (asked.Run None)
 bare each.trace = Some asked.Trace
-bare each.audit = Some (asked.Audit false)
-bare each.fuzz = Some (asked.Fuzz 1 1000 false false)
-bare each.stops = Some (asked.Stops 1 300 false)
+bare each.audit = Some asked.Audit
+bare each.fuzz = Some (asked.Fuzz 1 1000 false)
+bare each.stops = Some (asked.Stops 1 300)
 bare each.threads = Some (asked.Threads 4 10)
 bare each.explore = Some (asked.Explore (record { seed = 1; steps = 2000; hosts = 5; factor = 2; segment = 2; free = false })
-    false false false)
-bare each.log = Some (asked.Log false false)
-bare each.picture = Some (asked.Picture false)
-bare each.explain = Some (asked.Explain None false)
+    false false)
+bare each.log = Some asked.Log
 bare each.shrink = None
 bare each.heal = Some (asked.Heal false)
 bare each.history = Some asked.History
@@ -59,8 +57,6 @@ gives each.stops = alone_gives each.stops refl refl
 gives each.threads = alone_gives each.threads refl refl
 gives each.explore = alone_gives each.explore refl refl
 gives each.log = alone_gives each.log refl refl
-gives each.picture = alone_gives each.picture refl refl
-gives each.explain = alone_gives each.explain refl refl
 gives each.shrink = alone_gives each.shrink refl refl
 gives each.heal = alone_gives each.heal refl refl
 gives each.history = alone_gives each.history refl refl
@@ -68,34 +64,34 @@ gives each.check = alone_gives each.check refl refl
 
 -- ---- lines with each option once
 
-heap_asked : (bytes : Text) → asked_in (heap_line bytes) ≡ option_map (λ n. asked.Run (Some n) false) (decimal_in 16 1048576 bytes)
+heap_asked : (bytes : Text) → asked_in (heap_line bytes) ≡ option_map (λ n. asked.Run (Some n)) (decimal_in 16 1048576 bytes)
 unfolding clap_on_literals
 heap_asked bytes = go (decimal_in 16 1048576 bytes)
   where
-    go : (o : Option ℕ) → option_map (λ heap. asked.Run heap false) (option_map Some o) ≡ option_map (λ n. asked.Run (Some n) false) o
+    go : (o : Option ℕ) → option_map asked.Run (option_map Some o) ≡ option_map (λ n. asked.Run (Some n)) o
     go None = refl
     go (Some n) = refl
 
 fuzz_asked : (seed steps : Text) → asked_in (line_of.fuzz_line seed steps)
-    ≡ option_zip_with (λ s n. asked.Fuzz s n true false) (decimal_in 0 18446744073709551615 seed) (decimal_in 0 100000 steps)
+    ≡ option_zip_with (λ s n. asked.Fuzz s n true) (decimal_in 0 18446744073709551615 seed) (decimal_in 0 100000 steps)
 unfolding clap_on_literals
 fuzz_asked seed steps = go (decimal_in 0 18446744073709551615 seed) (decimal_in 0 100000 steps)
   where
-    go : (o p : Option ℕ) → option_and_then (λ s. option_map (λ n. asked.Fuzz (unwrap_or s 1) (unwrap_or n 1000) true false)
+    go : (o p : Option ℕ) → option_and_then (λ s. option_map (λ n. asked.Fuzz (unwrap_or s 1) (unwrap_or n 1000) true)
         (option_map Some p)) (option_map Some o)
-        ≡ option_zip_with (λ s n. asked.Fuzz s n true false) o p
+        ≡ option_zip_with (λ s n. asked.Fuzz s n true) o p
     go None p = refl
     go (Some s) None = refl
     go (Some s) (Some n) = refl
 
 stops_asked : (seed steps : Text) → asked_in (line_of.stops_line seed steps)
-    ≡ option_zip_with (λ s n. asked.Stops s n false) (decimal_in 0 18446744073709551615 seed) (decimal_in 0 1000 steps)
+    ≡ option_zip_with (λ s n. asked.Stops s n) (decimal_in 0 18446744073709551615 seed) (decimal_in 0 1000 steps)
 unfolding clap_on_literals
 stops_asked seed steps = go (decimal_in 0 18446744073709551615 seed) (decimal_in 0 1000 steps)
   where
-    go : (o p : Option ℕ) → option_and_then (λ s. option_map (λ n. asked.Stops (unwrap_or s 1) (unwrap_or n 300) false)
+    go : (o p : Option ℕ) → option_and_then (λ s. option_map (λ n. asked.Stops (unwrap_or s 1) (unwrap_or n 300))
         (option_map Some p)) (option_map Some o)
-        ≡ option_zip_with (λ s n. asked.Stops s n false) o p
+        ≡ option_zip_with (λ s n. asked.Stops s n) o p
     go None p = refl
     go (Some s) None = refl
     go (Some s) (Some n) = refl
@@ -117,21 +113,21 @@ module _ (words : List Text) (a : Asked) (asks : as_command a ≡ asked_in words
   pub trace_told : (a ≡ asked.Trace) ↔ (is_alone (codes "trace") words ≡ true)
   trace_told = (λ e. trace_only words (sym asks ∙ ap as_command e), alone_told each.trace asked.Trace refl words a asks)
 
-  pub run_told : (a ≡ asked.Run None false) ↔ (is_alone (codes "run") words ≡ true)
-  run_told = (λ e. run_only words (sym asks ∙ ap as_command e), alone_told each.run (asked.Run None false) refl words a asks)
+  pub run_told : (a ≡ asked.Run None) ↔ (is_alone (codes "run") words ≡ true)
+  run_told = (λ e. run_only words (sym asks ∙ ap as_command e), alone_told each.run (asked.Run None) refl words a asks)
 
-  pub audit_told : (a ≡ asked.Audit false) ↔ (is_alone (codes "audit") words ≡ true)
-  audit_told = (λ e. audit_only words (sym asks ∙ ap as_command e), alone_told each.audit (asked.Audit false) refl words a asks)
+  pub audit_told : (a ≡ asked.Audit) ↔ (is_alone (codes "audit") words ≡ true)
+  audit_told = (λ e. audit_only words (sym asks ∙ ap as_command e), alone_told each.audit asked.Audit refl words a asks)
 
   pub heap_told : (bytes : Text) → words ≡ heap_line bytes →
-      as_command a ≡ option_map (λ n. asked.Run (Some n) false) (decimal_in 16 1048576 bytes)
+      as_command a ≡ option_map (λ n. asked.Run (Some n)) (decimal_in 16 1048576 bytes)
   heap_told bytes e = asks ∙ ap asked_in e ∙ heap_asked bytes
 
   pub drawn_told : (seed steps : Text) → words ≡ line_of.fuzz_line seed steps
-      → as_command a ≡ option_zip_with (λ s n. asked.Fuzz s n true false) (decimal_in 0 18446744073709551615 seed)
+      → as_command a ≡ option_zip_with (λ s n. asked.Fuzz s n true) (decimal_in 0 18446744073709551615 seed)
       (decimal_in 0 100000 steps)
   drawn_told seed steps e = asks ∙ ap asked_in e ∙ fuzz_asked seed steps
 
   pub cut_told : (seed steps : Text) → words ≡ line_of.stops_line seed steps
-      → as_command a ≡ option_zip_with (λ s n. asked.Stops s n false) (decimal_in 0 18446744073709551615 seed) (decimal_in 0 1000 steps)
+      → as_command a ≡ option_zip_with (λ s n. asked.Stops s n) (decimal_in 0 18446744073709551615 seed) (decimal_in 0 1000 steps)
   cut_told seed steps e = asks ∙ ap asked_in e ∙ stops_asked seed steps

@@ -1,5 +1,5 @@
 -- The program's commands as a table, by their names.
-use Rattle.std.proofs.Common.{Bool, true, false, List, [], ◌∷◌, codes}
+use Rattle.std.proofs.Common.{List, [], ◌∷◌, codes}
 use Rattle.clap.specs.Walk.{Text}
 use Rattle.clap.specs.Simple.{Shape}
 use Rattle.rc_commands.specs.Commands as command
@@ -13,8 +13,6 @@ pub data Command : Type 0 where
   threads : Command
   explore : Command
   log : Command
-  picture : Command
-  explain : Command
   shrink : Command
   heal : Command
   history : Command
@@ -22,8 +20,7 @@ pub data Command : Type 0 where
 
 abbrev pub commands : List Command
 commands =
-    run ∷ trace ∷ audit ∷ fuzz ∷ stops ∷ threads ∷ explore ∷ log ∷ picture ∷ explain ∷ shrink ∷ heal ∷ history ∷
-    check ∷ []
+    run ∷ trace ∷ audit ∷ fuzz ∷ stops ∷ threads ∷ explore ∷ log ∷ shrink ∷ heal ∷ history ∷ check ∷ []
 
 abbrev pub name_of : Command → Text
 name_of run = codes "run"
@@ -34,8 +31,6 @@ name_of stops = codes "stops"
 name_of threads = codes "threads"
 name_of explore = codes "explore"
 name_of log = codes "log"
-name_of picture = codes "picture"
-name_of explain = codes "explain"
 name_of shrink = codes "shrink"
 name_of heal = codes "heal"
 name_of history = codes "history"
@@ -50,14 +45,7 @@ shape_of stops = command.stops.top
 shape_of threads = command.threads.top
 shape_of explore = command.explore.top
 shape_of log = command.log.top
-shape_of picture = command.picture.top
-shape_of explain = command.explain.top
 shape_of shrink = command.shrink.top
 shape_of heal = command.heal.top
 shape_of history = command.history.top
 shape_of check = command.check.top
-
--- the command takes a word that is no option
-abbrev pub takes_word : Command → Bool
-takes_word explain = true
-takes_word _ = false

@@ -65,8 +65,6 @@ met each.stops = record { is_listed = refl; no_fault = refl; stopped = refl; fou
 met each.threads = record { is_listed = refl; no_fault = refl; stopped = refl; found = refl }
 met each.explore = record { is_listed = refl; no_fault = refl; stopped = refl; found = refl }
 met each.log = record { is_listed = refl; no_fault = refl; stopped = refl; found = refl }
-met each.picture = record { is_listed = refl; no_fault = refl; stopped = refl; found = refl }
-met each.explain = record { is_listed = refl; no_fault = refl; stopped = refl; found = refl }
 met each.shrink = record { is_listed = refl; no_fault = refl; stopped = refl; found = refl }
 met each.heal = record { is_listed = refl; no_fault = refl; stopped = refl; found = refl }
 met each.history = record { is_listed = refl; no_fault = refl; stopped = refl; found = refl }
@@ -131,8 +129,6 @@ module _ (word : Text) (rest : List Text) (none : is_command word ≡ false) (no
     no_name each.threads,
     no_name each.explore,
     no_name each.log,
-    no_name each.picture,
-    no_name each.explain,
     no_name each.shrink,
     no_name each.heal,
     no_name each.history,

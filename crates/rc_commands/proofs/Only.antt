@@ -13,16 +13,16 @@ use Rattle.clap.proofs.OnLiterals.{clap_on_literals}
 use Rattle.clap.proofs.WalkLemmas.{both}
 use Rattle.rc_commands.specs.declared.asking.Asked.{Asked}
 use Rattle.rc_commands.specs.declared.asking.Asked.TheVariants as asked
-use Rattle.rc_commands.specs.Asking.{asked_in, begins_with_help, command_in, drawn_by, explore_by, is_alone, is_end, json_in}
-use Rattle.rc_commands.specs.Asking.{drawing_in, has_flag, has_option, is_sized, json_given, number_given, number_or, seed_given}
+use Rattle.rc_commands.specs.Asking.{asked_in, begins_with_help, command_in, drawn_by, explore_by, is_alone, is_end}
+use Rattle.rc_commands.specs.Asking.{drawing_in, has_flag, has_option, is_sized, number_given, number_or, seed_given}
 use Rattle.rc_commands.specs.Asking.{seeds_given, seeds_or_first, stops_in, where_taken}
 use Rattle.rc_commands.specs.Numbers.{decimal_in}
 use Rattle.rc_commands.specs.Commands.{ramseg}
 use Rattle.rc_commands.proofs.EachCommand as each
-use Rattle.rc_commands.proofs.EachCommand.{Command, name_of, shape_of, takes_word}
+use Rattle.rc_commands.proofs.EachCommand.{Command, name_of, shape_of}
 use Rattle.rc_commands.proofs.Words.{asks, leaf, tells, text_tells}
 use Rattle.rc_commands.proofs.Lines.{by_command, empty_told, faults_at, found, line, told}
-use Rattle.rc_commands.proofs.AfterOptions.{HasOptions, audit_given, audit_options, none_first, run_given, run_options, value_given}
+use Rattle.rc_commands.proofs.AfterOptions.{HasOptions, none_first, run_given, run_options, value_given}
 use Rattle.rc_commands.proofs.Texts.{After, after, agrees, ended, no_options}
 
 -- ---- the command, by its words
@@ -40,20 +40,18 @@ asked_is c rest = ap₂ asked_by (line c rest) (found c rest)
 -- ---- the word of an answer
 
 abbrev word_of : Asked → Text
-word_of (asked.Run heap json) = codes "run"
+word_of (asked.Run heap) = codes "run"
 word_of asked.Trace = codes "trace"
-word_of (asked.Audit json) = codes "audit"
+word_of asked.Audit = codes "audit"
 word_of asked.History = codes "history"
 word_of asked.Check = codes "check"
-word_of (asked.Fuzz seed steps free json) = codes "fuzz"
-word_of (asked.Stops seed steps json) = codes "stops"
-word_of (asked.StopsExplored drawing json) = codes "stops"
+word_of (asked.Fuzz seed steps free) = codes "fuzz"
+word_of (asked.Stops seed steps) = codes "stops"
+word_of (asked.StopsExplored drawing) = codes "stops"
 word_of (asked.Threads hosts writes) = codes "threads"
 word_of (asked.Shrink keep) = codes "shrink"
-word_of (asked.Log json whole) = codes "log"
-word_of (asked.Picture mermaid) = codes "picture"
+word_of asked.Log = codes "log"
 word_of (asked.Heal power_cycle) = codes "heal"
-word_of (asked.Explain word json) = codes "explain"
 word_of (asked.Tell text) = []
 word_of (asked.Wrong text) = []
 word_of _ = codes "explore"
@@ -83,36 +81,34 @@ module _ (name : Text) where
 
 stops_named : (rows : List Row) → IsNamed (codes "stops") (stops_in rows)
 stops_named rows = either _ (has_flag (codes "explored") rows) _ _
-    (chain _ _ (json_given rows) (λ json. chain _ _ (number_or 1 (codes "seed") 0 18446744073709551615 rows) (λ seed.
-    with _ _ (drawing_in seed 300 1000 rows) (λ drawing. refl))))
-    (either _ (is_sized rows) _ _ (nothing _) (chain _ _ (json_given rows) (λ json. chain _ _ (seed_given rows) (λ seed.
-    with _ _ (number_given (codes "steps") 0 1000 rows) (λ steps. refl)))))
+    (chain _ _ (number_or 1 (codes "seed") 0 18446744073709551615 rows) (λ seed.
+    with _ _ (drawing_in seed 300 1000 rows) (λ drawing. refl)))
+    (either _ (is_sized rows) _ _ (nothing _) (chain _ _ (seed_given rows) (λ seed.
+    with _ _ (number_given (codes "steps") 0 1000 rows) (λ steps. refl))))
 
-drawn_named : (seeds : Option (ℕ × ℕ)) (json : Bool) (rows : List Row) → IsNamed (codes "explore") (drawn_by json seeds rows)
-drawn_named None json rows = chain _ _ (number_or 1 (codes "seed") 0 18446744073709551615 rows) (λ seed.
+drawn_named : (seeds : Option (ℕ × ℕ)) (rows : List Row) → IsNamed (codes "explore") (drawn_by seeds rows)
+drawn_named None rows = chain _ _ (number_or 1 (codes "seed") 0 18446744073709551615 rows) (λ seed.
     with _ _ (drawing_in seed 2000 100000 rows) (λ drawing. refl))
-drawn_named (Some seeds) json rows = either _ (has_option (codes "seed") rows || has_flag (codes "save") rows) _ _ (nothing _)
+drawn_named (Some seeds) rows = either _ (has_option (codes "seed") rows || has_flag (codes "save") rows) _ _ (nothing _)
     (with _ _ (drawing_in seeds.0 2000 100000 rows) (λ drawing. refl))
 
 explore_named : (goal : Option Text) (rows : List Row) → IsNamed (codes "explore") (explore_by goal rows)
-explore_named None rows = chain _ _ (json_given rows) (λ json. chain _ _ (seeds_given rows) (λ seeds. drawn_named seeds json rows))
+explore_named None rows = chain _ _ (seeds_given rows) (λ seeds. drawn_named seeds rows)
 explore_named (Some goal) rows = either _ (has_option (codes "seed") rows) _ _ (nothing _)
-    (chain _ _ (json_given rows) (λ json. chain _ _ (seeds_or_first rows) (λ seeds.
-    with _ _ (drawing_in seeds.0 2000 100000 rows) (λ drawing. refl))))
+    (chain _ _ (seeds_or_first rows) (λ seeds.
+    with _ _ (drawing_in seeds.0 2000 100000 rows) (λ drawing. refl)))
 
 named : (c : Command) (rows : List Row) → IsNamed (name_of c) (command_in (leaf (shape_of c)).name rows)
-named each.run rows = chain _ _ (json_given rows) (λ json. with _ _ (number_given (codes "heap") 16 1048576 rows) (λ heap. refl))
+named each.run rows = with _ _ (number_given (codes "heap") 16 1048576 rows) (λ heap. refl)
 named each.trace rows = answer _ _ refl
-named each.audit rows = with _ _ (json_given rows) (λ json. refl)
-named each.fuzz rows = chain _ _ (json_given rows) (λ json. chain _ _ (seed_given rows) (λ seed.
-    with _ _ (number_given (codes "steps") 0 100000 rows) (λ steps. refl)))
+named each.audit rows = answer _ _ refl
+named each.fuzz rows = chain _ _ (seed_given rows) (λ seed.
+    with _ _ (number_given (codes "steps") 0 100000 rows) (λ steps. refl))
 named each.stops rows = stops_named rows
 named each.threads rows = chain _ _ (number_or 4 (codes "hosts") 3 16 rows) (λ hosts.
     with _ _ (number_or 10 (codes "writes") 0 1000 rows) (λ writes. refl))
 named each.explore rows = explore_named (first_of (codes "until") rows) rows
 named each.log rows = answer _ _ refl
-named each.picture rows = answer _ _ refl
-named each.explain rows = chain _ _ (json_given rows) (λ json. answer _ _ refl)
 named each.shrink rows = with _ _ (first_of (codes "keep") rows) (λ keep. refl)
 named each.heal rows = answer _ _ refl
 named each.history rows = answer _ _ refl
@@ -165,11 +161,15 @@ only c a is same ends (word ∷ rest) e =
 
 pub trace_only : (words : List Text) → asked_in words ≡ Some asked.Trace → is_alone (codes "trace") words ≡ true
 trace_only = only each.trace asked.Trace refl refl
-    (λ rest h. clean asked.Trace (is_end rest) (begins_with_help rest) _ _ (after each.trace refl rest (no_options rest)) h)
+    (λ rest h. clean asked.Trace (is_end rest) (begins_with_help rest) _ _ (after each.trace rest (no_options rest)) h)
+
+pub audit_only : (words : List Text) → asked_in words ≡ Some asked.Audit → is_alone (codes "audit") words ≡ true
+audit_only = only each.audit asked.Audit refl refl
+    (λ rest h. clean asked.Audit (is_end rest) (begins_with_help rest) _ _ (after each.audit rest (no_options rest)) h)
 
 -- options with values do not come of the words alone
-module _ (c : Command) (wordless : takes_word c ≡ false) (given : List Row → Bool) (has : HasOptions (leaf (shape_of c)) given)
-    (a : Asked) (bare : (rows : List Row) → given rows ≡ true → command_in (leaf (shape_of c)).name rows ≡ Some a → ⊥) where
+module _ (c : Command) (given : List Row → Bool) (has : HasOptions (leaf (shape_of c)) given) (a : Asked)
+    (bare : (rows : List Row) → given rows ≡ true → command_in (leaf (shape_of c)).name rows ≡ Some a → ⊥) where
   no_value : (word : Text) (rest : List Text) → bytes_eq word (codes "--") ≡ false → (faults : Kinds) →
       faults_at (shape_of c) (word ∷ rest) ≡ faults → where_taken faults (made c (word ∷ rest)) ≡ Some a → ⊥
   no_value word rest other [] e h = bare _ (value_given (leaf (shape_of c)) given has word rest other (none_first _ [] e).0) h
@@ -178,41 +178,19 @@ module _ (c : Command) (wordless : takes_word c ≡ false) (given : List Row →
   alone_ends : (rest : List Text) → where_taken (faults_at (shape_of c) rest) (made c rest) ≡ Some a → is_end rest ≡ true
   alone_ends [] h = refl
   alone_ends (word ∷ rest) h = ⊎_elim {C = is_end (word ∷ rest) ≡ true}
-      (λ e. clean a (is_end (word ∷ rest)) _ _ _ (subst (λ w. After (shape_of c) (w ∷ rest)) (sym e.1) (ended c wordless rest)) h)
+      (λ e. clean a (is_end (word ∷ rest)) _ _ _ (subst (λ w. After (shape_of c) (w ∷ rest)) (sym e.1) (ended c rest)) h)
       (λ other. absurd (no_value word rest other _ refl h)) (text_tells word (codes "--"))
 
--- a heap that was given is a number, or refused, and a format that was given is JSON, or refused
-pub run_only : (words : List Text) → asked_in words ≡ Some (asked.Run None false) → is_alone (codes "run") words ≡ true
-run_only = only each.run (asked.Run None false) refl refl (alone_ends each.run refl run_given run_options (asked.Run None false)
-    (λ rows. bare (first_of (codes "heap") rows) (first_of (codes "format") rows)))
+-- a heap that was given is a number, or refused
+pub run_only : (words : List Text) → asked_in words ≡ Some (asked.Run None) → is_alone (codes "run") words ≡ true
+run_only = only each.run (asked.Run None) refl refl (alone_ends each.run run_given run_options (asked.Run None)
+    (λ rows. bare (first_of (codes "heap") rows)))
   where
-    bare : (heap format : Option Text) → (is_some heap || is_some format) ≡ true → option_and_then (λ json. option_map
-        (λ n. asked.Run n json) (option_map_or (λ t. option_map Some (decimal_in 16 1048576 t)) heap (Some None)))
-        (option_map_or json_in format (Some false)) ≡ Some (asked.Run None false) → ⊥
-    bare None None some e = true≢false (sym some)
-    bare (Some t) None some e = go (decimal_in 16 1048576 t) e
+    bare : (heap : Option Text) → is_some heap ≡ true → option_map asked.Run
+        (option_map_or (λ t. option_map Some (decimal_in 16 1048576 t)) heap (Some None)) ≡ Some (asked.Run None) → ⊥
+    bare None some e = true≢false (sym some)
+    bare (Some t) some e = go (decimal_in 16 1048576 t) e
       where
-        go : (n : Option ℕ) → option_map (λ n. asked.Run n false) (option_map Some n) ≡ Some (asked.Run None false) → ⊥
+        go : (n : Option ℕ) → option_map asked.Run (option_map Some n) ≡ Some (asked.Run None) → ⊥
         go None e = cc
         go (Some bytes) e = cc
-    bare heap (Some t) some e =
-        go (bytes_eq t (codes "json")) (option_map_or (λ t. option_map Some (decimal_in 16 1048576 t)) heap (Some None)) e
-      where
-        go : (b : Bool) (o : Option (Option ℕ)) → option_and_then (λ json. option_map (λ n. asked.Run n json) o)
-            (if b then Some true else None) ≡ Some (asked.Run None false) → ⊥
-        go false o e = cc
-        go true None e = cc
-        go true (Some n) e = cc
-
-pub audit_only : (words : List Text) → asked_in words ≡ Some (asked.Audit false) → is_alone (codes "audit") words ≡ true
-audit_only = only each.audit (asked.Audit false) refl refl (alone_ends each.audit refl audit_given audit_options (asked.Audit false)
-    (λ rows. bare (first_of (codes "format") rows)))
-  where
-    bare : (format : Option Text) → is_some format ≡ true
-        → option_map asked.Audit (option_map_or json_in format (Some false)) ≡ Some (asked.Audit false) → ⊥
-    bare None some e = true≢false (sym some)
-    bare (Some t) some e = go (bytes_eq t (codes "json")) e
-      where
-        go : (b : Bool) → option_map asked.Audit (if b then Some true else None) ≡ Some (asked.Audit false) → ⊥
-        go true e = cc
-        go false e = cc

@@ -17,8 +17,8 @@ use Rattle.rc_commands.specs.Asking.{Tells, asks_for_text, begins_with_help, is_
 use Rattle.rc_commands.specs.Asking.{is_request, is_text, is_version, options_of}
 use Rattle.rc_commands.specs.Commands.{ramseg}
 use Rattle.rc_commands.proofs.EachCommand as each
-use Rattle.rc_commands.proofs.EachCommand.{Command, name_of, shape_of, takes_word}
-use Rattle.rc_commands.proofs.Words.{asks, leaf, level_of, line_told, or_parts, same, tells, tells_first, text_tells}
+use Rattle.rc_commands.proofs.EachCommand.{Command, name_of, shape_of}
+use Rattle.rc_commands.proofs.Words.{asks, leaf, level_of, line_told, same, tells, tells_first, text_tells}
 use Rattle.rc_commands.proofs.Lines.{by_command, faults_at, line, listed, no_option, told}
 use Rattle.rc_commands.specs.Commands as command
 
@@ -46,34 +46,32 @@ record Ends (s : Shape) : Type 0 where
   dashes : After s (codes "--" ∷ [])
   more : (word : Text) (rest : List Text) → After s (codes "--" ∷ word ∷ rest)
 
-ends : (c : Command) → takes_word c ≡ false → Ends (shape_of c)
+ends : (c : Command) → Ends (shape_of c)
 unfolding clap_on_literals
-ends each.run e = record { alone = refl; dashes = refl; more = λ word rest. refl }
-ends each.trace e = record { alone = refl; dashes = refl; more = λ word rest. refl }
-ends each.audit e = record { alone = refl; dashes = refl; more = λ word rest. refl }
-ends each.fuzz e = record { alone = refl; dashes = refl; more = λ word rest. refl }
-ends each.stops e = record { alone = refl; dashes = refl; more = λ word rest. refl }
-ends each.threads e = record { alone = refl; dashes = refl; more = λ word rest. refl }
-ends each.explore e = record { alone = refl; dashes = refl; more = λ word rest. refl }
-ends each.log e = record { alone = refl; dashes = refl; more = λ word rest. refl }
-ends each.picture e = record { alone = refl; dashes = refl; more = λ word rest. refl }
-ends each.explain e = absurd (true≢false e)
-ends each.shrink e = record { alone = refl; dashes = refl; more = λ word rest. refl }
-ends each.heal e = record { alone = refl; dashes = refl; more = λ word rest. refl }
-ends each.history e = record { alone = refl; dashes = refl; more = λ word rest. refl }
-ends each.check e = record { alone = refl; dashes = refl; more = λ word rest. refl }
+ends each.run = record { alone = refl; dashes = refl; more = λ word rest. refl }
+ends each.trace = record { alone = refl; dashes = refl; more = λ word rest. refl }
+ends each.audit = record { alone = refl; dashes = refl; more = λ word rest. refl }
+ends each.fuzz = record { alone = refl; dashes = refl; more = λ word rest. refl }
+ends each.stops = record { alone = refl; dashes = refl; more = λ word rest. refl }
+ends each.threads = record { alone = refl; dashes = refl; more = λ word rest. refl }
+ends each.explore = record { alone = refl; dashes = refl; more = λ word rest. refl }
+ends each.log = record { alone = refl; dashes = refl; more = λ word rest. refl }
+ends each.shrink = record { alone = refl; dashes = refl; more = λ word rest. refl }
+ends each.heal = record { alone = refl; dashes = refl; more = λ word rest. refl }
+ends each.history = record { alone = refl; dashes = refl; more = λ word rest. refl }
+ends each.check = record { alone = refl; dashes = refl; more = λ word rest. refl }
 
-module _ (c : Command) (wordless : takes_word c ≡ false) where
+module _ (c : Command) where
   pub ended : (rest : List Text) → After (shape_of c) (codes "--" ∷ rest)
-  ended [] = (ends c wordless).dashes
-  ended (word ∷ rest) = (ends c wordless).more word rest
+  ended [] = (ends c).dashes
+  ended (word ∷ rest) = (ends c).more word rest
 
   goes_on : (word : Text) (rest : List Text) → is_option (options_of (name_of c)) word ≡ false → bytes_eq word (codes "--") ≡ false
       → After (shape_of c) (word ∷ rest)
   goes_on word rest none other =
       ap₂ (λ b t. agrees b t (faults_at (shape_of c) (word ∷ rest))) (no_end rest) (sym (or-false (is_help word)))
       ∙ agrees_told (asks false word) (faults_at (shape_of c) (word ∷ rest))
-      (tells_first (asks false word) _ [] (line_told (leaf (shape_of c)) false (options_of (name_of c)) (level_of c wordless) [] word rest
+      (tells_first (asks false word) _ [] (line_told (leaf (shape_of c)) false (options_of (name_of c)) (level_of c) [] word rest
       false [] refl none other))
     where
       no_end : (rest : List Text) → is_end (word ∷ rest) ≡ false
@@ -81,7 +79,7 @@ module _ (c : Command) (wordless : takes_word c ≡ false) where
       no_end (next ∷ more) = refl
 
   pub after : (words : List Text) → NoOption (options_of (name_of c)) words → After (shape_of c) words
-  after [] none = (ends c wordless).alone
+  after [] none = (ends c).alone
   after (word ∷ rest) none = ⊎_elim {C = After (shape_of c) (word ∷ rest)}
       (λ h. subst (λ w. After (shape_of c) (w ∷ rest)) (sym h.1) (ended rest)) (λ other. goes_on word rest none other)
       (text_tells word (codes "--"))
@@ -89,10 +87,6 @@ module _ (c : Command) (wordless : takes_word c ≡ false) where
 pub no_options : (words : List Text) → NoOption [] words
 no_options [] = tt
 no_options (word ∷ rest) = no_option word
-
-explain_alone : After command.explain.top []
-unfolding clap_on_literals
-explain_alone = refl
 
 -- ---- whole lines
 
@@ -114,13 +108,10 @@ not_true false e = refl
 plain_after : (name : Text) (rest : List Text) → is_plain (name ∷ rest) ≡ true → NoOption (options_of name) rest
 plain_after name [] e = tt
 plain_after name (w ∷ more) e =
-    let no_word = not (bytes_eq (codes "explain") name || is_option (options_of name) w) in
-    (or_parts (bytes_eq (codes "explain") name) _ (not_true _ (both (not (bytes_eq (codes "help") name)) no_word e).1)).1
+    not_true _ (both (not (bytes_eq (codes "help") name)) (not (is_option (options_of name) w)) e).1
 
 after_plain : (c : Command) (rest : List Text) → is_plain (name_of c ∷ rest) ≡ true → After (shape_of c) rest
-after_plain each.explain [] e = explain_alone
-after_plain each.explain (w ∷ more) e = absurd (true≢false (sym e))
-after_plain c rest e = after c refl rest (plain_after (name_of c) rest e)
+after_plain c rest e = after c rest (plain_after (name_of c) rest e)
 
 line_agrees : (word : Text) (rest : List Text) → is_plain (word ∷ rest) ≡ true → Agrees (word ∷ rest)
 line_agrees word rest plain = by_command (λ w. is_plain (w ∷ rest) ≡ true → Agrees (w ∷ rest))

@@ -22,7 +22,7 @@ use Rattle.rc_commands.specs.Asking.{is_help, is_option, is_request, is_version,
 use Rattle.rc_commands.specs.Commands as command
 use Rattle.rc_commands.specs.Commands.{ramseg}
 use Rattle.rc_commands.proofs.EachCommand as each
-use Rattle.rc_commands.proofs.EachCommand.{Command, name_of, shape_of, takes_word}
+use Rattle.rc_commands.proofs.EachCommand.{Command, name_of, shape_of}
 
 -- ---- kinds of errors that all are requests, or none is
 
@@ -148,27 +148,25 @@ a_flag name = (name, true)
 
 -- the options of `stops` and `explore` that say how large the drawn runs are, and those after them
 abbrev sizes_and : List (Text × Bool) → List (Text × Bool)
-sizes_and more = an_option (codes "format") ∷ an_option (codes "seed") ∷ an_option (codes "steps") ∷ an_option (codes "hosts")
+sizes_and more = an_option (codes "seed") ∷ an_option (codes "steps") ∷ an_option (codes "hosts")
     ∷ an_option (codes "factor") ∷ an_option (codes "segment") ∷ a_flag (codes "free") ∷ more
 
-pub level_of : (c : Command) → takes_word c ≡ false → IsLevel (leaf (shape_of c)) false (options_of (name_of c))
+pub level_of : (c : Command) → IsLevel (leaf (shape_of c)) false (options_of (name_of c))
 unfolding clap_on_literals
-level_of each.run e = level_by _ (an_option (codes "format") ∷ an_option (codes "heap") ∷ []) refl (λ x. refl) refl refl
-level_of each.trace e = level_by _ [] refl (λ x. refl) refl refl
-level_of each.audit e = level_by _ (an_option (codes "format") ∷ []) refl (λ x. refl) refl refl
-level_of each.fuzz e = level_by _ (an_option (codes "format") ∷ an_option (codes "seed") ∷ an_option (codes "steps")
+level_of each.run = level_by _ (an_option (codes "heap") ∷ []) refl (λ x. refl) refl refl
+level_of each.trace = level_by _ [] refl (λ x. refl) refl refl
+level_of each.audit = level_by _ ([]) refl (λ x. refl) refl refl
+level_of each.fuzz = level_by _ (an_option (codes "seed") ∷ an_option (codes "steps")
     ∷ a_flag (codes "free") ∷ []) refl (λ x. refl) refl refl
-level_of each.stops e = level_by _ (sizes_and (a_flag (codes "explored") ∷ [])) refl (λ x. refl) refl refl
-level_of each.threads e = level_by _ (an_option (codes "hosts") ∷ an_option (codes "writes") ∷ []) refl (λ x. refl) refl refl
-level_of each.explore e = level_by _ (sizes_and (a_flag (codes "save") ∷ an_option (codes "seeds") ∷ a_flag (codes "progress")
+level_of each.stops = level_by _ (sizes_and (a_flag (codes "explored") ∷ [])) refl (λ x. refl) refl refl
+level_of each.threads = level_by _ (an_option (codes "hosts") ∷ an_option (codes "writes") ∷ []) refl (λ x. refl) refl refl
+level_of each.explore = level_by _ (sizes_and (a_flag (codes "save") ∷ an_option (codes "seeds") ∷ a_flag (codes "progress")
     ∷ an_option (codes "until") ∷ [])) refl (λ x. refl) refl refl
-level_of each.log e = level_by _ (a_flag (codes "json") ∷ a_flag (codes "whole") ∷ []) refl (λ x. refl) refl refl
-level_of each.picture e = level_by _ (a_flag (codes "mermaid") ∷ []) refl (λ x. refl) refl refl
-level_of each.explain e = absurd (true≢false e)
-level_of each.shrink e = level_by _ (an_option (codes "keep") ∷ []) refl (λ x. refl) refl refl
-level_of each.heal e = level_by _ (a_flag (codes "power-cycle") ∷ []) refl (λ x. refl) refl refl
-level_of each.history e = level_by _ [] refl (λ x. refl) refl refl
-level_of each.check e = level_by _ [] refl (λ x. refl) refl refl
+level_of each.log = level_by _ (a_flag (codes "json") ∷ []) refl (λ x. refl) refl refl
+level_of each.shrink = level_by _ (an_option (codes "keep") ∷ []) refl (λ x. refl) refl refl
+level_of each.heal = level_by _ (a_flag (codes "power-cycle") ∷ []) refl (λ x. refl) refl refl
+level_of each.history = level_by _ [] refl (λ x. refl) refl refl
+level_of each.check = level_by _ [] refl (λ x. refl) refl refl
 
 -- whether the word asks for help, or where there is one for the version
 abbrev pub asks : Bool → Text → Bool

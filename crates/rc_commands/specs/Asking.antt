@@ -41,14 +41,14 @@ IsFew seeds = (seeds.0 ≤ seeds.1) × (seeds.1 < seeds.0 + 10000)
 
 -- the numbers of a command are in their ranges
 abbrev pub IsInRange : Asked → Type 0
-IsInRange (asked.Run heap json) = IsWithin 16 1048576 heap
-IsInRange (asked.Fuzz seed steps free json) = steps ≤ 100000
-IsInRange (asked.Stops seed steps json) = steps ≤ 1000
-IsInRange (asked.StopsExplored drawing json) = IsSized 1000 drawing
+IsInRange (asked.Run heap) = IsWithin 16 1048576 heap
+IsInRange (asked.Fuzz seed steps free) = steps ≤ 100000
+IsInRange (asked.Stops seed steps) = steps ≤ 1000
+IsInRange (asked.StopsExplored drawing) = IsSized 1000 drawing
 IsInRange (asked.Threads hosts writes) = (3 ≤ hosts) × (hosts ≤ 16) × (writes ≤ 1000)
-IsInRange (asked.Explore drawing save progress json) = IsSized 100000 drawing
-IsInRange (asked.Survey drawing last progress json) = IsFew (drawing.seed, last) × IsSized 100000 drawing
-IsInRange (asked.Until goal drawing last save progress json) = IsFew (drawing.seed, last) × IsSized 100000 drawing
+IsInRange (asked.Explore drawing save progress) = IsSized 100000 drawing
+IsInRange (asked.Survey drawing last progress) = IsFew (drawing.seed, last) × IsSized 100000 drawing
+IsInRange (asked.Until goal drawing last save progress) = IsFew (drawing.seed, last) × IsSized 100000 drawing
 IsInRange _ = ⊤
 
 -- ---- the command, as `clap` reads the words
@@ -65,31 +65,19 @@ seed_given = number_given (codes "seed") 0 18446744073709551615
 abbrev pub has_flag : Text → List Row → Bool
 has_flag name rows = option_map_or (λ text. bytes_eq text (codes "true")) (first_of name rows) false
 
--- JSON, where a format is named so; there is no other name
-abbrev pub json_in : Text → Option Bool
-json_in text = if bytes_eq text (codes "json") then Some true else None
-
--- whether JSON is asked for; None where another format is
-abbrev pub json_given : List Row → Option Bool
-json_given rows = option_map_or json_in (first_of (codes "format") rows) (Some false)
-
 abbrev pub run_in : List Row → Option Asked
-run_in rows = option_and_then (λ json. option_map (λ heap. asked.Run heap json)
-    (number_given (codes "heap") 16 1048576 rows)) (json_given rows)
-
-abbrev pub audit_in : List Row → Option Asked
-audit_in rows = option_map asked.Audit (json_given rows)
+run_in rows = option_map asked.Run (number_given (codes "heap") 16 1048576 rows)
 
 abbrev pub fuzz_in : List Row → Option Asked
-fuzz_in rows = option_and_then (λ json. option_and_then (λ seed. option_map
-    (λ steps. asked.Fuzz (unwrap_or seed 1) (unwrap_or steps 1000) (has_flag (codes "free") rows) json)
-    (number_given (codes "steps") 0 100000 rows)) (seed_given rows)) (json_given rows)
+fuzz_in rows = option_and_then (λ seed. option_map
+    (λ steps. asked.Fuzz (unwrap_or seed 1) (unwrap_or steps 1000) (has_flag (codes "free") rows))
+    (number_given (codes "steps") 0 100000 rows)) (seed_given rows)
 
 -- `stops` of the events that `fuzz` draws
 abbrev pub plain_in : List Row → Option Asked
-plain_in rows = option_and_then (λ json. option_and_then (λ seed. option_map
-    (λ steps. asked.Stops (unwrap_or seed 1) (unwrap_or steps 300) json)
-    (number_given (codes "steps") 0 1000 rows)) (seed_given rows)) (json_given rows)
+plain_in rows = option_and_then (λ seed. option_map
+    (λ steps. asked.Stops (unwrap_or seed 1) (unwrap_or steps 300))
+    (number_given (codes "steps") 0 1000 rows)) (seed_given rows)
 
 -- the number that was given for an option, or else this one; None where it is no number of the range
 abbrev pub number_or : ℕ → Text → ℕ → ℕ → List Row → Option ℕ
@@ -136,9 +124,9 @@ drawing_in seed usual most rows =
 
 -- `stops` of the events that `explore` draws
 abbrev pub explored_in : List Row → Option Asked
-explored_in rows = option_and_then (λ json. option_and_then (λ seed.
-    option_map (λ drawing. asked.StopsExplored drawing json) (drawing_in seed 300 1000 rows))
-    (number_or 1 (codes "seed") 0 18446744073709551615 rows)) (json_given rows)
+explored_in rows = option_and_then (λ seed.
+    option_map asked.StopsExplored (drawing_in seed 300 1000 rows))
+    (number_or 1 (codes "seed") 0 18446744073709551615 rows)
 
 -- hosts, replicas or segments were given
 abbrev pub is_sized : List Row → Bool
@@ -151,15 +139,15 @@ stops_in rows =
     if has_flag (codes "explored") rows then explored_in rows else (if is_sized rows then None else plain_in rows)
 
 -- `explore` of one seed
-abbrev pub single_in : Bool → List Row → Option Asked
-single_in json rows = option_and_then (λ seed. option_map
-    (λ drawing. asked.Explore drawing (has_flag (codes "save") rows) (has_flag (codes "progress") rows) json)
+abbrev pub single_in : List Row → Option Asked
+single_in rows = option_and_then (λ seed. option_map
+    (λ drawing. asked.Explore drawing (has_flag (codes "save") rows) (has_flag (codes "progress") rows))
     (drawing_in seed 2000 100000 rows)) (number_or 1 (codes "seed") 0 18446744073709551615 rows)
 
 -- `explore` of these seeds, which goes with neither `--seed` nor `--save`
-abbrev pub survey_in : Bool → ℕ × ℕ → List Row → Option Asked
-survey_in json seeds rows = if has_option (codes "seed") rows || has_flag (codes "save") rows then None
-    else option_map (λ drawing. asked.Survey drawing seeds.1 (has_flag (codes "progress") rows) json)
+abbrev pub survey_in : ℕ × ℕ → List Row → Option Asked
+survey_in seeds rows = if has_option (codes "seed") rows || has_flag (codes "save") rows then None
+    else option_map (λ drawing. asked.Survey drawing seeds.1 (has_flag (codes "progress") rows))
     (drawing_in seeds.0 2000 100000 rows)
 
 -- the seeds that are looked through where none were given
@@ -170,24 +158,22 @@ abbrev pub seeds_or_first : List Row → Option (ℕ × ℕ)
 seeds_or_first rows = option_map (λ seeds. unwrap_or seeds first_seeds) (seeds_given rows)
 
 -- the first of these seeds that reaches what is named
-abbrev pub sought_in : Bool → ℕ × ℕ → Text → List Row → Option Asked
-sought_in json seeds goal rows = option_map (λ drawing. asked.Until goal drawing seeds.1
-    (has_flag (codes "save") rows) (has_flag (codes "progress") rows) json) (drawing_in seeds.0 2000 100000 rows)
+abbrev pub sought_in : ℕ × ℕ → Text → List Row → Option Asked
+sought_in seeds goal rows = option_map (λ drawing. asked.Until goal drawing seeds.1
+    (has_flag (codes "save") rows) (has_flag (codes "progress") rows)) (drawing_in seeds.0 2000 100000 rows)
 
 -- `explore` until a seed reaches what is named, which does not go with `--seed`
 abbrev pub until_in : Text → List Row → Option Asked
 until_in goal rows = if has_option (codes "seed") rows then None else
-    option_and_then (λ json. option_and_then (λ seeds. sought_in json seeds goal rows) (seeds_or_first rows))
-    (json_given rows)
+    option_and_then (λ seeds. sought_in seeds goal rows) (seeds_or_first rows)
 
-abbrev pub drawn_by : Bool → Option (ℕ × ℕ) → List Row → Option Asked
-drawn_by json None rows = single_in json rows
-drawn_by json (Some seeds) rows = survey_in json seeds rows
+abbrev pub drawn_by : Option (ℕ × ℕ) → List Row → Option Asked
+drawn_by None rows = single_in rows
+drawn_by (Some seeds) rows = survey_in seeds rows
 
 -- `explore` of one seed, or of several
 abbrev pub drawn_in : List Row → Option Asked
-drawn_in rows = option_and_then (λ json. option_and_then (λ seeds. drawn_by json seeds rows) (seeds_given rows))
-    (json_given rows)
+drawn_in rows = option_and_then (λ seeds. drawn_by seeds rows) (seeds_given rows)
 
 abbrev pub explore_by : Option Text → List Row → Option Asked
 explore_by None rows = drawn_in rows
@@ -199,21 +185,8 @@ explore_in rows = explore_by (first_of (codes "until") rows) rows
 abbrev pub shrink_in : List Row → Option Asked
 shrink_in rows = option_map asked.Shrink (first_of (codes "keep") rows)
 
-abbrev pub log_in : List Row → Option Asked
-log_in rows = Some (asked.Log (has_flag (codes "json") rows) (has_flag (codes "whole") rows))
-
-abbrev pub picture_in : List Row → Option Asked
-picture_in rows = Some (asked.Picture (has_flag (codes "mermaid") rows))
-
 abbrev pub heal_in : List Row → Option Asked
 heal_in rows = Some (asked.Heal (has_flag (codes "power-cycle") rows))
-
--- `explain` with the word that was given, if one was
-abbrev pub explained_in : Bool → List Row → Option Asked
-explained_in json rows = Some (asked.Explain (first_of (codes "word") rows) json)
-
-abbrev pub explain_in : List Row → Option Asked
-explain_in rows = option_and_then (λ json. explained_in json rows) (json_given rows)
 
 -- the command of this name, with what was given for its options; first of those that read nothing
 abbrev pub unread_in : Text → List Row → Option Asked
@@ -227,19 +200,17 @@ abbrev pub named_in : Text → List Row → Option Asked
 named_in name rows =
     if bytes_eq name (codes "run") then run_in rows
     else (if bytes_eq name (codes "trace") then Some asked.Trace
-    else (if bytes_eq name (codes "audit") then audit_in rows
+    else (if bytes_eq name (codes "audit") then Some asked.Audit
     else (if bytes_eq name (codes "history") then Some asked.History
     else (if bytes_eq name (codes "check") then Some asked.Check
-    else (if bytes_eq name (codes "log") then log_in rows
-    else (if bytes_eq name (codes "picture") then picture_in rows
+    else (if bytes_eq name (codes "log") then Some asked.Log
     else (if bytes_eq name (codes "heal") then heal_in rows
-    else unread_in name rows)))))))
+    else unread_in name rows))))))
 
 abbrev pub command_in : Text → List Row → Option Asked
 command_in name rows =
     if bytes_eq name (codes "shrink") then shrink_in rows
-    else (if bytes_eq name (codes "explain") then explain_in rows
-    else (if bytes_eq name (codes "explore") then explore_in rows else named_in name rows))
+    else (if bytes_eq name (codes "explore") then explore_in rows else named_in name rows)
 
 -- nothing, where `clap` finds a fault in the words
 abbrev pub where_taken : Kinds → Option Asked → Option Asked
@@ -279,8 +250,7 @@ is_alone name (word ∷ rest) = bytes_eq name word && is_end rest
 
 abbrev pub names : List Text
 names = codes "run" ∷ codes "trace" ∷ codes "audit" ∷ codes "fuzz" ∷ codes "stops" ∷ codes "threads" ∷ codes "explore"
-    ∷ codes "log" ∷ codes "picture" ∷ codes "explain" ∷ codes "shrink" ∷ codes "heal" ∷ codes "history"
-    ∷ codes "check" ∷ []
+    ∷ codes "log" ∷ codes "shrink" ∷ codes "heal" ∷ codes "history" ∷ codes "check" ∷ []
 
 abbrev pub is_command : Text → Bool
 is_command word = list_any (λ name. bytes_eq name word) names
@@ -308,39 +278,36 @@ asks_for_text [] = false
 asks_for_text (word ∷ rest) = if is_command word then begins_with_help rest else (is_help word || is_version word)
 
 abbrev pub stopping : List Text
-stopping = codes "format" ∷ codes "seed" ∷ codes "steps" ∷ codes "hosts" ∷ codes "factor" ∷ codes "segment"
+stopping = codes "seed" ∷ codes "steps" ∷ codes "hosts" ∷ codes "factor" ∷ codes "segment"
     ∷ codes "free" ∷ codes "explored" ∷ []
 
 abbrev pub exploring : List Text
-exploring = codes "format" ∷ codes "seed" ∷ codes "steps" ∷ codes "hosts" ∷ codes "factor" ∷ codes "segment"
+exploring = codes "seed" ∷ codes "steps" ∷ codes "hosts" ∷ codes "factor" ∷ codes "segment"
     ∷ codes "free" ∷ codes "save" ∷ codes "seeds" ∷ codes "progress" ∷ codes "until" ∷ []
 
 -- the options of a command
 abbrev pub options_of : Text → List Text
 options_of name =
-    if bytes_eq (codes "run") name then codes "format" ∷ codes "heap" ∷ []
-    else (if bytes_eq (codes "audit") name then codes "format" ∷ []
-    else (if bytes_eq (codes "fuzz") name then codes "format" ∷ codes "seed" ∷ codes "steps" ∷ codes "free" ∷ []
+    if bytes_eq (codes "run") name then codes "heap" ∷ []
+    else (if bytes_eq (codes "fuzz") name then codes "seed" ∷ codes "steps" ∷ codes "free" ∷ []
     else (if bytes_eq (codes "stops") name then stopping
     else (if bytes_eq (codes "threads") name then codes "hosts" ∷ codes "writes" ∷ []
     else (if bytes_eq (codes "explore") name then exploring
-    else (if bytes_eq (codes "log") name then codes "json" ∷ codes "whole" ∷ []
-    else (if bytes_eq (codes "picture") name then codes "mermaid" ∷ []
+    else (if bytes_eq (codes "log") name then codes "json" ∷ []
     else (if bytes_eq (codes "shrink") name then codes "keep" ∷ []
-    else (if bytes_eq (codes "heal") name then codes "power-cycle" ∷ [] else [])))))))))
+    else (if bytes_eq (codes "heal") name then codes "power-cycle" ∷ [] else [])))))))
 
 -- `--NAME` or `--NAME=VALUE`, for one of these options
 abbrev pub is_option : List Text → Text → Bool
 is_option options word =
     option_map_or (λ flag. list_any (λ option. bytes_eq option flag.0) options) (long_of word) false
 
--- neither is the first word `help`, or `explain` with a word after it, nor the second an option of a command that is
--- the first
+-- neither is the first word `help`, nor the second an option of a command that is the first
 abbrev pub is_plain : List Text → Bool
 is_plain [] = true
 is_plain (word ∷ []) = not (bytes_eq (codes "help") word)
 is_plain (word ∷ next ∷ rest) = not (bytes_eq (codes "help") word) &&
-    not (bytes_eq (codes "explain") word || is_option (options_of word) next)
+    not (is_option (options_of word) next)
 
 -- ---- lines with each option once
 

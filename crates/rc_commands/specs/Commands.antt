@@ -10,30 +10,22 @@ use Rattle.clap.specs.declared.builder.command.Command.TheViews.{out-Command}
 abbrev pub option : Text → Rule
 option name = record (new_rule name) { long = Some name; value_names = 1 }
 
--- a word that stands by itself
-abbrev pub word : Text → Rule
-word name = record (new_rule name) { value_names = 1 }
-
 -- `--NAME`
 abbrev pub flag : Text → Rule
 flag name = record (new_rule name) { long = Some name; action = Some SetTrue }
 
--- a command of this name that can answer in JSON too
-abbrev pub formatted : Text → App
-formatted name = with_rule (new_app name) (option (codes "format"))
-
 abbrev pub run : App
-run = with_rule (formatted (codes "run")) (option (codes "heap"))
+run = with_rule (new_app (codes "run")) (option (codes "heap"))
 
 abbrev pub trace : App
 trace = new_app (codes "trace")
 
 abbrev pub audit : App
-audit = formatted (codes "audit")
+audit = new_app (codes "audit")
 
 -- a command that draws events, with the options of its drawing
 abbrev pub drawn : Text → App
-drawn name = with_rule (with_rule (formatted name) (option (codes "seed"))) (option (codes "steps"))
+drawn name = with_rule (with_rule (new_app name) (option (codes "seed"))) (option (codes "steps"))
 
 abbrev pub fuzz : App
 fuzz = with_rule (drawn (codes "fuzz")) (flag (codes "free"))
@@ -69,16 +61,10 @@ abbrev pub shrink : App
 shrink = with_rule (new_app (codes "shrink")) (option (codes "keep"))
 
 abbrev pub log : App
-log = with_rule (with_rule (new_app (codes "log")) (flag (codes "json"))) (flag (codes "whole"))
-
-abbrev pub picture : App
-picture = with_rule (new_app (codes "picture")) (flag (codes "mermaid"))
+log = with_rule (new_app (codes "log")) (flag (codes "json"))
 
 abbrev pub heal : App
 heal = with_rule (new_app (codes "heal")) (flag (codes "power-cycle"))
-
-abbrev pub explain : App
-explain = with_rule (formatted (codes "explain")) (word (codes "word"))
 
 abbrev pub history : App
 history = new_app (codes "history")
@@ -92,15 +78,15 @@ alone = on_top (λ top. record top { has_version = true; no_binary_name = true; 
 
 -- with the commands that read, then with those up to `threads` too
 abbrev pub reading : App
-reading = with_subcommand (with_subcommand (with_subcommand (with_subcommand (with_subcommand alone run.top) trace.top)
-    audit.top) log.top) picture.top
+reading = with_subcommand (with_subcommand (with_subcommand (with_subcommand alone run.top) trace.top) audit.top)
+    log.top
 
 abbrev pub running : App
 running = with_subcommand (with_subcommand (with_subcommand reading fuzz.top) stops.top) threads.top
 
 abbrev pub ramseg : App
-ramseg = with_subcommand (with_subcommand (with_subcommand (with_subcommand (with_subcommand (with_subcommand running
-    explore.top) shrink.top) heal.top) explain.top) history.top) check.top
+ramseg = with_subcommand (with_subcommand (with_subcommand (with_subcommand (with_subcommand running explore.top)
+    shrink.top) heal.top) history.top) check.top
 
 -- a command that is built so, and has no option for its subcommands
 abbrev pub IsBuiltAs : App → Command → Type 0

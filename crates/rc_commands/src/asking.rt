@@ -4,8 +4,8 @@ ghost use Rattle.std.specs.Prelude.{◌≡◌, ◌≢◌, ◌↔◌, Some, None,
 ghost use Rattle.std.specs.Prelude.{option_map, MatchResult, option_and_then, List, ℕ, ◌≤◌};
 ghost use Rattle.clap.specs.Faults.{fault_of};
 ghost use Rattle.clap.specs.Words.{found_of, kind_of, rows_of, subcommand_rows_of};
-ghost use Rattle.rc_commands.specs.Asking.{IsInRange, Tells, as_command, asked_in, asks_for_text, audit_in};
-ghost use Rattle.rc_commands.specs.Asking.{command_in, drawn_in, explain_in, explained_in, explore_in, fuzz_in};
+ghost use Rattle.rc_commands.specs.Asking.{IsInRange, Tells, as_command, asked_in, asks_for_text};
+ghost use Rattle.rc_commands.specs.Asking.{command_in, drawn_in, explore_in, fuzz_in};
 ghost use Rattle.rc_commands.specs.Asking.{fuzz_line, heap_line, is_alone, is_plain, is_request, is_text, named_in};
 ghost use Rattle.rc_commands.specs.Asking.{option_zip_with, run_in, shrink_in, seeds_or_first, single_in};
 ghost use Rattle.rc_commands.specs.Asking.{sought_in, stops_in, stops_line, survey_in, threads_in, unread_in};
@@ -14,7 +14,7 @@ ghost use Rattle.rc_commands.specs.Numbers.{decimal_in};
 ghost use Rattle.rc_commands.specs.Commands.{ramseg};
 
 use crate::commands::program;
-use crate::numbers::{BadWord, has_flag, has_option, json_of, number_of, seeds_of};
+use crate::numbers::{BadWord, has_flag, has_option, number_of, seeds_of};
 use clap::error::ErrorKind;
 use clap::{ArgMatches, Error};
 use rc_types::Seq;
@@ -37,21 +37,17 @@ pub struct Drawing {
     pub free: bool,
 }
 
-/// What a command line asks for. Where a command has `json`, that says whether a JSON document is wanted in place of
-/// the text.
+/// What a command line asks for.
 #[derive(Drop)]
 pub enum Asked {
     /// Replay a scenario; where a heap is given, the coordinator's tree stands in one of so many bytes.
     Run {
         heap: Option<usize>,
-        json: bool,
     },
     /// Replay a scenario, and write the trace of what was sent.
     Trace,
     /// Judge a trace.
-    Audit {
-        json: bool,
-    },
+    Audit,
     /// Replay a scenario, and write its clients' writes and confirmed reads.
     History,
     /// Judge a history of clients.
@@ -61,18 +57,15 @@ pub enum Asked {
         seed: u64,
         steps: u32,
         free: bool,
-        json: bool,
     },
     /// Draw events from a seed, and cut the power after each of them.
     Stops {
         seed: u64,
         steps: u32,
-        json: bool,
     },
     /// Draw events from a seed so that much happens, and cut the power after each of them.
     StopsExplored {
         drawing: Drawing,
-        json: bool,
     },
     /// Run nodes on threads: so many hosts, and so many writes.
     Threads {
@@ -84,14 +77,12 @@ pub enum Asked {
         drawing: Drawing,
         save: bool,
         progress: bool,
-        json: bool,
     },
     /// Run events that are drawn so from each seed, the drawing's up to the last, and sum up what was reached.
     Survey {
         drawing: Drawing,
         last: u64,
         progress: bool,
-        json: bool,
     },
     /// Look among the seeds, the drawing's up to the last, for the first whose run reaches what is named so: a rule,
     /// or a kind of event or of message; print how, or the events up to there, where `save` says so.
@@ -101,31 +92,17 @@ pub enum Asked {
         last: u64,
         save: bool,
         progress: bool,
-        json: bool,
     },
     /// Look for a smallest scenario whose report still has a line that begins with this text.
     Shrink {
         keep: Seq<u8>,
     },
-    /// Replay a scenario, and tell each event and each message; as JSON, where `json` says so; and long lists whole,
-    /// where `whole` does.
-    Log {
-        json: bool,
-        whole: bool,
-    },
-    /// Replay a scenario, and draw the run as a page; or for Mermaid, where `mermaid` says so.
-    Picture {
-        mermaid: bool,
-    },
+    /// Replay a scenario, and tell each event and each message as JSON.
+    Log,
     /// Add to a scenario the events that bring its tablets back; after all servers were stopped and all hosts started,
     /// where `power_cycle` says so.
     Heal {
         power_cycle: bool,
-    },
-    /// Say what this word means, or which words there are.
-    Explain {
-        word: Option<Seq<u8>>,
-        json: bool,
     },
     /// Nothing but this text, for standard output: help, or the version.
     Tell(String),
@@ -142,28 +119,24 @@ pub fn asked_for(alloc: Global, words: &[String]) -> Result<Asked, AllocError>
 
     // Lines without options, by their words alone.
     ensures run { IfOk result
-        (λ a. (a ≡ Asked.Run None false) ↔ (is_alone (codes "run") (map string_bytes words.now) ≡ true)) }
+        (λ a. (a ≡ Asked.Run None) ↔ (is_alone (codes "run") (map string_bytes words.now) ≡ true)) }
     ensures trace { IfOk result
         (λ a. (a ≡ Asked.Trace) ↔ (is_alone (codes "trace") (map string_bytes words.now) ≡ true)) }
     ensures audit { IfOk result
-        (λ a. (a ≡ Asked.Audit false) ↔ (is_alone (codes "audit") (map string_bytes words.now) ≡ true)) }
+        (λ a. (a ≡ Asked.Audit) ↔ (is_alone (codes "audit") (map string_bytes words.now) ≡ true)) }
     ensures fuzz { IfOk result
-        (λ a. is_alone (codes "fuzz") (map string_bytes words.now) ≡ true → a ≡ Asked.Fuzz 1 1000 false false) }
+        (λ a. is_alone (codes "fuzz") (map string_bytes words.now) ≡ true → a ≡ Asked.Fuzz 1 1000 false) }
     ensures stops { IfOk result
-        (λ a. is_alone (codes "stops") (map string_bytes words.now) ≡ true → a ≡ Asked.Stops 1 300 false) }
+        (λ a. is_alone (codes "stops") (map string_bytes words.now) ≡ true → a ≡ Asked.Stops 1 300) }
     ensures threads { IfOk result
         (λ a. is_alone (codes "threads") (map string_bytes words.now) ≡ true → a ≡ Asked.Threads 4 10) }
     ensures explore { IfOk result (λ a. is_alone (codes "explore") (map string_bytes words.now) ≡ true
         → a ≡ Asked.Explore (record { seed = 1; steps = 2000; hosts = 5; factor = 2; segment = 2; free = false })
-        false false false) }
+        false false) }
     ensures log { IfOk result
-        (λ a. is_alone (codes "log") (map string_bytes words.now) ≡ true → a ≡ Asked.Log false false) }
-    ensures picture { IfOk result
-        (λ a. is_alone (codes "picture") (map string_bytes words.now) ≡ true → a ≡ Asked.Picture false) }
+        (λ a. is_alone (codes "log") (map string_bytes words.now) ≡ true → a ≡ Asked.Log) }
     ensures heal { IfOk result
         (λ a. is_alone (codes "heal") (map string_bytes words.now) ≡ true → a ≡ Asked.Heal false) }
-    ensures explain { IfOk result
-        (λ a. is_alone (codes "explain") (map string_bytes words.now) ≡ true → a ≡ Asked.Explain None false) }
     ensures history { IfOk result
         (λ a. is_alone (codes "history") (map string_bytes words.now) ≡ true → a ≡ Asked.History) }
     ensures check { IfOk result
@@ -173,12 +146,12 @@ pub fn asked_for(alloc: Global, words: &[String]) -> Result<Asked, AllocError>
 
     // Lines with each option of a command once, by their words.
     ensures heap { IfOk result (λ a. (bytes : List ℕ) → map string_bytes words.now ≡ heap_line bytes
-        → as_command a ≡ option_map (λ n. Asked.Run (Some n) false) (decimal_in 16 1048576 bytes)) }
+        → as_command a ≡ option_map (λ n. Asked.Run (Some n)) (decimal_in 16 1048576 bytes)) }
     ensures drawn { IfOk result (λ a. (seed steps : List ℕ) → map string_bytes words.now ≡ fuzz_line seed steps
-        → as_command a ≡ option_zip_with (λ s n. Asked.Fuzz s n true false)
+        → as_command a ≡ option_zip_with (λ s n. Asked.Fuzz s n true)
         (decimal_in 0 18446744073709551615 seed) (decimal_in 0 100000 steps)) }
     ensures cut { IfOk result (λ a. (seed steps : List ℕ) → map string_bytes words.now ≡ stops_line seed steps
-        → as_command a ≡ option_zip_with (λ s n. Asked.Stops s n false)
+        → as_command a ≡ option_zip_with (λ s n. Asked.Stops s n)
         (decimal_in 0 18446744073709551615 seed) (decimal_in 0 1000 steps)) }
 {
     match program(alloc)?.try_get_matches_from(words) {
@@ -208,7 +181,6 @@ fn found_named(alloc: Global, name: &str, given: &ArgMatches<'_>) -> Result<Aske
 {
     match name {
         "shrink" => shrink_of(alloc, given),
-        "explain" => explain_of(alloc, given),
         "explore" => explore_of(alloc, given),
         _ => match command_named(name, given) {
             Ok(command) => Ok(command),
@@ -249,16 +221,10 @@ fn command_named<'a>(name: &str, given: &ArgMatches<'a>) -> Result<Asked, BadWor
     match name {
         "run" => run_of(given),
         "trace" => Ok(Asked::Trace),
-        "audit" => audit_of(given),
+        "audit" => Ok(Asked::Audit),
         "history" => Ok(Asked::History),
         "check" => Ok(Asked::Check),
-        "log" => Ok(Asked::Log {
-            json: has_flag(given, "json"),
-            whole: has_flag(given, "whole"),
-        }),
-        "picture" => Ok(Asked::Picture {
-            mermaid: has_flag(given, "mermaid"),
-        }),
+        "log" => Ok(Asked::Log),
         "heal" => Ok(Asked::Heal {
             power_cycle: has_flag(given, "power-cycle"),
         }),
@@ -281,30 +247,18 @@ fn unread_named<'a>(name: &str, given: &ArgMatches<'a>) -> Result<Asked, BadWord
     }
 }
 
-/// `audit` with its option.
-fn audit_of<'a>(given: &ArgMatches<'a>) -> Result<Asked, BadWord<'a>>
-    ensures command { let asked = audit_in (rows_of (found_of given.now)) in
-        MatchResult result (λ a. as_command a ≡ asked) (λ _. asked ≡ None) }
-    ensures text { IfOk result (λ a. is_text a ≡ false) }
-    ensures ranges { IfOk result IsInRange }
-{
-    let json = json_of(given)?;
-    Ok(Asked::Audit { json })
-}
-
-/// `run` with its options.
+/// `run` with its option.
 fn run_of<'a>(given: &ArgMatches<'a>) -> Result<Asked, BadWord<'a>>
     ensures command { let asked = run_in (rows_of (found_of given.now)) in
         MatchResult result (λ a. as_command a ≡ asked) (λ _. asked ≡ None) }
     ensures text { IfOk result (λ a. is_text a ≡ false) }
     ensures ranges { IfOk result IsInRange }
 {
-    let json = json_of(given)?;
     let heap = match number_of(given, "heap", 16, 1_048_576)? {
         Some(bytes) => Some(bytes as usize),
         None => None,
     };
-    Ok(Asked::Run { heap, json })
+    Ok(Asked::Run { heap })
 }
 
 /// `fuzz` with its options.
@@ -314,16 +268,10 @@ fn fuzz_of<'a>(given: &ArgMatches<'a>) -> Result<Asked, BadWord<'a>>
     ensures text { IfOk result (λ a. is_text a ≡ false) }
     ensures ranges { IfOk result IsInRange }
 {
-    let json = json_of(given)?;
     let seed = number_of(given, "seed", 0, u64::MAX)?.unwrap_or(1);
     let steps = number_of(given, "steps", 0, 100_000)?.unwrap_or(1_000) as u32;
     let free = has_flag(given, "free");
-    Ok(Asked::Fuzz {
-        seed,
-        steps,
-        free,
-        json,
-    })
+    Ok(Asked::Fuzz { seed, steps, free })
 }
 
 /// `stops` with its options.
@@ -359,10 +307,9 @@ fn explored_of<'a>(given: &ArgMatches<'a>) -> Result<Asked, BadWord<'a>>
     ensures text { IfOk result (λ a. is_text a ≡ false) }
     ensures ranges { IfOk result IsInRange }
 {
-    let json = json_of(given)?;
     let seed = number_of(given, "seed", 0, u64::MAX)?.unwrap_or(1);
     let drawing = drawing_of(given, seed, 300, 1_000)?;
-    Ok(Asked::StopsExplored { drawing, json })
+    Ok(Asked::StopsExplored { drawing })
 }
 
 /// What is drawn from this seed, with so many steps where none are given, and so many at most.
@@ -402,10 +349,9 @@ fn plain_of<'a>(given: &ArgMatches<'a>) -> Result<Asked, BadWord<'a>>
     ensures text { IfOk result (λ a. is_text a ≡ false) }
     ensures ranges { IfOk result IsInRange }
 {
-    let json = json_of(given)?;
     let seed = number_of(given, "seed", 0, u64::MAX)?.unwrap_or(1);
     let steps = number_of(given, "steps", 0, 1_000)?.unwrap_or(300) as u32;
-    Ok(Asked::Stops { seed, steps, json })
+    Ok(Asked::Stops { seed, steps })
 }
 
 /// `threads` with its options.
@@ -464,21 +410,16 @@ fn drawn_of<'a>(given: &ArgMatches<'a>) -> Result<Asked, BadWord<'a>>
     ensures text { IfOk result (λ a. is_text a ≡ false) }
     ensures ranges { IfOk result IsInRange }
 {
-    let json = json_of(given)?;
     match seeds_of(given)? {
-        Some(seeds) => survey_of(given, json, seeds),
-        None => single_of(given, json),
+        Some(seeds) => survey_of(given, seeds),
+        None => single_of(given),
     }
 }
 
 /// `explore` of these seeds with its other options.
-fn survey_of<'a>(
-    given: &ArgMatches<'a>,
-    json: bool,
-    seeds: (u64, u64),
-) -> Result<Asked, BadWord<'a>>
+fn survey_of<'a>(given: &ArgMatches<'a>, seeds: (u64, u64)) -> Result<Asked, BadWord<'a>>
     requires few { IsFew seeds }
-    ensures command { let asked = survey_in json seeds (rows_of (found_of given.now)) in
+    ensures command { let asked = survey_in seeds (rows_of (found_of given.now)) in
         MatchResult result (λ a. as_command a ≡ asked) (λ _. asked ≡ None) }
     ensures text { IfOk result (λ a. is_text a ≡ false) }
     ensures ranges { IfOk result IsInRange }
@@ -493,13 +434,12 @@ fn survey_of<'a>(
         drawing,
         last,
         progress,
-        json,
     })
 }
 
 /// `explore` of one seed with its options.
-fn single_of<'a>(given: &ArgMatches<'a>, json: bool) -> Result<Asked, BadWord<'a>>
-    ensures command { let asked = single_in json (rows_of (found_of given.now)) in
+fn single_of<'a>(given: &ArgMatches<'a>) -> Result<Asked, BadWord<'a>>
+    ensures command { let asked = single_in (rows_of (found_of given.now)) in
         MatchResult result (λ a. as_command a ≡ asked) (λ _. asked ≡ None) }
     ensures text { IfOk result (λ a. is_text a ≡ false) }
     ensures ranges { IfOk result IsInRange }
@@ -512,7 +452,6 @@ fn single_of<'a>(given: &ArgMatches<'a>, json: bool) -> Result<Asked, BadWord<'a
         drawing,
         save,
         progress,
-        json,
     })
 }
 
@@ -526,9 +465,8 @@ fn until_of<'a>(given: &ArgMatches<'a>, goal: Seq<u8>) -> Result<Asked, BadWord<
     if has_option(given, "seed") {
         return Err(BadWord::NoSeed);
     }
-    let json = json_of(given)?;
     let seeds = seeds_sought(given)?;
-    sought_of(given, goal, json, seeds)
+    sought_of(given, goal, seeds)
 }
 
 /// The seeds that are looked through: those that were given, or else the first ones.
@@ -547,11 +485,10 @@ fn seeds_sought<'a>(given: &ArgMatches<'a>) -> Result<(u64, u64), BadWord<'a>>
 fn sought_of<'a>(
     given: &ArgMatches<'a>,
     goal: Seq<u8>,
-    json: bool,
     seeds: (u64, u64),
 ) -> Result<Asked, BadWord<'a>>
     requires few { IsFew seeds }
-    ensures command { let asked = sought_in json seeds goal (rows_of (found_of given.now)) in
+    ensures command { let asked = sought_in seeds goal (rows_of (found_of given.now)) in
         MatchResult result (λ a. as_command a ≡ asked) (λ _. asked ≡ None) }
     ensures text { IfOk result (λ a. is_text a ≡ false) }
     ensures ranges { IfOk result IsInRange }
@@ -566,33 +503,7 @@ fn sought_of<'a>(
         last,
         save,
         progress,
-        json,
     })
-}
-
-/// `explain` with its option and its word.
-fn explain_of(alloc: Global, given: &ArgMatches<'_>) -> Result<Asked, AllocError>
-    ensures command { IfOk result (λ a. as_command a ≡ explain_in (rows_of (found_of given.now))) }
-    ensures text { IfOk result (λ a. is_text a ≡ false) }
-    ensures ranges { IfOk result IsInRange }
-{
-    match json_of(given) {
-        Ok(json) => explained_of(alloc, given, json),
-        Err(word) => wrong(alloc, &word),
-    }
-}
-
-/// `explain` with its word.
-fn explained_of(alloc: Global, given: &ArgMatches<'_>, json: bool) -> Result<Asked, AllocError>
-    ensures command { IfOk result (λ a. as_command a ≡ explained_in json (rows_of (found_of given.now))) }
-    ensures text { IfOk result (λ a. is_text a ≡ false) }
-    ensures ranges { IfOk result IsInRange }
-{
-    let Some(text) = given.get_str("word") else {
-        return Ok(Asked::Explain { word: None, json });
-    };
-    let word = Some(Seq::from_vec(text.as_bytes().to_vec(alloc)?));
-    Ok(Asked::Explain { word, json })
 }
 
 /// What is told in place of a command's work: help and the version, or what is wrong.

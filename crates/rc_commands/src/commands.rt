@@ -16,8 +16,7 @@ pub fn program<'a>(alloc: Global) -> Result<Command<'a>, AllocError>
     let exploring = with(running, explore(alloc))?;
     let shrinking = with(exploring, shrink(alloc))?;
     let healing = with(shrinking, heal(alloc))?;
-    let explaining = with(healing, explain(alloc))?;
-    let telling = with(explaining, Ok(history(alloc)))?;
+    let telling = with(healing, Ok(history(alloc)))?;
     with(telling, Ok(check(alloc)))
 }
 
@@ -38,9 +37,8 @@ fn reading<'a>(alloc: Global) -> Result<Command<'a>, AllocError>
     let alone = alone(alloc)?;
     let replaying = with(alone, run(alloc))?;
     let tracing = with(replaying, Ok(trace(alloc)))?;
-    let judging = with(tracing, audit(alloc))?;
-    let telling = with(judging, log(alloc))?;
-    with(telling, picture(alloc))
+    let judging = with(tracing, Ok(audit(alloc)))?;
+    with(judging, log(alloc))
 }
 
 /// The program with one command more, if that could be made.
@@ -78,33 +76,16 @@ fn command<'a>(alloc: Global, name: &'a str, about: &'a str, example: &'a str) -
     Command::new(alloc, name).about(about).after_help(example)
 }
 
-/// A command that can answer in JSON too. Its help ends with an example.
-fn formatted<'a>(
-    alloc: Global,
-    name: &'a str,
-    about: &'a str,
-    example: &'a str,
-) -> Result<Command<'a>, AllocError>
-    ensures { IfOk result (IsBuiltAs (spec.formatted name.now)) }
-{
-    command(alloc, name, about, example).arg(option(
-        alloc,
-        "format",
-        "json",
-        "Prints one JSON document in place of the text",
-    ))
-}
-
-/// `run` with its options.
+/// `run` with its option.
 fn run<'a>(alloc: Global) -> Result<Command<'a>, AllocError>
     ensures { IfOk result (IsBuiltAs spec.run) }
 {
-    formatted(
+    command(
         alloc,
         "run",
         "Replays a scenario that it reads from standard input, and prints the report",
         "Example: ramseg run --heap 65536 < examples/first-write.json",
-    )?
+    )
     .arg(option(
         alloc,
         "heap",
@@ -125,11 +106,11 @@ fn trace<'a>(alloc: Global) -> Command<'a>
     )
 }
 
-/// `audit` with its option.
-fn audit<'a>(alloc: Global) -> Result<Command<'a>, AllocError>
-    ensures { IfOk result (IsBuiltAs spec.audit) }
+/// `audit`.
+fn audit<'a>(alloc: Global) -> Command<'a>
+    ensures { IsBuiltAs spec.audit result }
 {
-    formatted(
+    command(
         alloc,
         "audit",
         "Judges a trace that it reads from standard input",
@@ -329,7 +310,7 @@ fn drawn<'a>(
 ) -> Result<Command<'a>, AllocError>
     ensures { IfOk result (IsBuiltAs (spec.drawn name.now)) }
 {
-    formatted(alloc, name, about, example)?
+    command(alloc, name, about, example)
         .arg(option(alloc, "seed", "N", "The seed, below 2^64; 1 if not given"))?
         .arg(option(alloc, "steps", "N", steps))
 }
@@ -352,39 +333,17 @@ fn shrink<'a>(alloc: Global) -> Result<Command<'a>, AllocError>
     ))
 }
 
-/// `log` with its flags.
+/// `log` with its flag, which says what is told anyway.
 fn log<'a>(alloc: Global) -> Result<Command<'a>, AllocError>
     ensures { IfOk result (IsBuiltAs spec.log) }
 {
     command(
         alloc,
         "log",
-        "Replays a scenario that it reads from standard input, and tells each event and each message",
-        "Example: ramseg log < examples/first-write.json",
+        "Replays a scenario that it reads from standard input, and tells each event and each message as JSON",
+        "Example: ramseg log --json < examples/first-write.json",
     )
-    .arg(flag(alloc, "json", "Tells it as one JSON value"))?
-    .arg(flag(
-        alloc,
-        "whole",
-        "Tells all of the lists, digests and values of messages and starts, not just the first of them",
-    ))
-}
-
-/// `picture` with its flag.
-fn picture<'a>(alloc: Global) -> Result<Command<'a>, AllocError>
-    ensures { IfOk result (IsBuiltAs spec.picture) }
-{
-    command(
-        alloc,
-        "picture",
-        "Replays a scenario that it reads from standard input, and draws the run as a page for a browser",
-        "Example: ramseg picture < examples/first-write.json > run.html",
-    )
-    .arg(flag(
-        alloc,
-        "mermaid",
-        "Draws a sequence diagram as text for Mermaid in place of the page",
-    ))
+    .arg(flag(alloc, "json", "Tells it as one JSON value, as without it"))
 }
 
 /// `heal` with its flag.
@@ -402,23 +361,6 @@ fn heal<'a>(alloc: Global) -> Result<Command<'a>, AllocError>
         "power-cycle",
         "Stops all servers first, and starts all hosts",
     ))
-}
-
-/// `explain` with the word that it explains.
-fn explain<'a>(alloc: Global) -> Result<Command<'a>, AllocError>
-    ensures { IfOk result (IsBuiltAs spec.explain) }
-{
-    formatted(
-        alloc,
-        "explain",
-        "Says what a code, a message, an event or a rule is, and what to do about it",
-        "Example: ramseg explain F18",
-    )?
-    .arg(
-        Arg::new(alloc, "word").value_name("WORD").help(
-            "A code, as F18 or 18, or a name; if not given, all are listed",
-        ),
-    )
 }
 
 /// A flag `--NAME`.

@@ -1,9 +1,9 @@
-//! Values on the command line: numbers, of decimal digits alone, and the name of a format.
+//! Numbers on the command line, of decimal digits alone.
 
 ghost use Rattle.std.specs.Prelude.{◌≡◌, Some, None, IfOk, IfSome, MatchResult};
 ghost use Rattle.clap.specs.Words.{found_of, rows_of};
 ghost use Rattle.rc_commands.specs.Asking as spec;
-ghost use Rattle.rc_commands.specs.Asking.{IsFew, json_given, number_given, seeds_given};
+ghost use Rattle.rc_commands.specs.Asking.{IsFew, number_given, seeds_given};
 ghost use Rattle.rc_commands.specs.Numbers.{IsWithin, decimal_in};
 
 use clap::ArgMatches;
@@ -21,10 +21,6 @@ pub enum BadWord<'a> {
     },
     /// No range of seeds.
     Range {
-        text: &'a str,
-    },
-    /// No name of a format.
-    Format {
         text: &'a str,
     },
     /// Options that do not go with a range of seeds.
@@ -55,9 +51,6 @@ impl fmt::Display for BadWord<'_> {
                 f,
                 "error: '{text}' is no value for '--seeds': A..B, A at most B, at most {MOST_SEEDS} seeds\n"
             )?,
-            BadWord::Format { text } => {
-                write!(f, "error: '{text}' is no value for '--format': json\n")?
-            }
             BadWord::NoSeed => write!(
                 f,
                 "error: '--seed' does not go with '--until'; '--seeds' says which are looked through\n"
@@ -122,21 +115,6 @@ pub(crate) fn has_option(given: &ArgMatches<'_>, name: &str) -> bool
     match given.get_str(name) {
         Some(_) => true,
         None => false,
-    }
-}
-
-/// Whether JSON is asked for.
-pub(crate) fn json_of<'a>(given: &ArgMatches<'a>) -> Result<bool, BadWord<'a>>
-    ensures { let json = json_given (rows_of (found_of given.now)) in
-        MatchResult result (λ found. json ≡ Some found) (λ _. json ≡ None) }
-{
-    let Some(text) = given.get_str("format") else {
-        return Ok(false);
-    };
-    if text == "json" {
-        Ok(true)
-    } else {
-        Err(BadWord::Format { text })
     }
 }
 

@@ -5,6 +5,7 @@ use Rattle.std.proofs.lemmas.List.{length-set}
 use Rattle.rc_model.specs.Model.{put, Segment, ServerId, Opening, Log, new_log, with_segment, has_segment}
 use Rattle.rc_segment.specs.Lists.{segment_at}
 use Rattle.rc_segment.proofs.SegmentTables.{segment_at-nil, segment_at-set}
+use Rattle.rc_headroll.specs.declared.durable.Counted.{Counted}
 use Rattle.rc_headroll.specs.Before.{first_mark}
 use Rattle.rc_headroll.specs.Watching.{Watched}
 use Rattle.rc_headroll.specs.LogData.{LogData, log_of}
@@ -18,7 +19,7 @@ log_of-set kept place x seg e inside =
     rw (head, table) refl
 
 -- a log with no segment is a new one
-pub log_of-nil : (own : ServerId) (factor size : ℕ) (watch : Watched) →
+pub log_of-nil : (own : ServerId) (factor size : ℕ) (counted : Counted) (watch : Watched) →
     log_of (record {
       own = own;
       factor = factor;
@@ -26,10 +27,11 @@ pub log_of-nil : (own : ServerId) (factor size : ℕ) (watch : Watched) →
       segments = [];
       phase = Opening;
       durable = 0;
+      counted = counted;
       mark = first_mark;
       watch = watch;
     }) ≡ new_log own factor size
-log_of-nil own factor size watch = rw segment_at-nil refl
+log_of-nil own factor size counted watch = rw segment_at-nil refl
 
 -- what is behind a model, at a segment
 pub data-segments : (a b : LogData) → a ≡ b → a.segments ≡ b.segments

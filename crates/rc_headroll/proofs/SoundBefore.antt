@@ -9,6 +9,7 @@ use Rattle.rc_segment.specs.Lists.{segment_at}
 use Rattle.rc_headroll.specs.LogData.{LogData, log_of, before_of}
 use Rattle.rc_headroll.specs.Soundness.{IsSound, IsSoundLog}
 use Rattle.rc_headroll.specs.Watching.{Watched}
+use Rattle.rc_headroll.specs.declared.durable.Counted.{Counted}
 use Rattle.rc_headroll.specs.Before.{Mark, first_mark, mark_of, as_it_was, kept_of, was_there, segments_before}
 use Rattle.rc_segment.proofs.SegmentTables.{segment_at-within, segment_at-nil}
 use Rattle.rc_headroll.proofs.LogTables.{log_of-nil}
@@ -34,7 +35,7 @@ sound-begin kept passed entries new sound is =
 
 -- A log with no segment
 
-pub before_of-nil : (own : ServerId) (factor size : ℕ) (watch : Watched) →
+pub before_of-nil : (own : ServerId) (factor size : ℕ) (counted : Counted) (watch : Watched) →
     before_of (record {
       own = own;
       factor = factor;
@@ -42,13 +43,14 @@ pub before_of-nil : (own : ServerId) (factor size : ℕ) (watch : Watched) →
       segments = [];
       phase = Opening;
       durable = 0;
+      counted = counted;
       mark = first_mark;
       watch = watch;
     }) ≡ new_log own factor size
-before_of-nil own factor size watch =
+before_of-nil own factor size counted watch =
     ap (λ (t : ℕ → Segment). record (new_log own factor size) { segments = t }) (begin-before [] Opening 0 0 0 ∙ segment_at-nil)
 
-pub sound_log-new : (own : ServerId) (factor size : ℕ) (watch : Watched) → factor ≤ MAX_FACTOR → size ≤ MAX_SEGMENT →
+pub sound_log-new : (own : ServerId) (factor size : ℕ) (counted : Counted) (watch : Watched) → factor ≤ MAX_FACTOR → size ≤ MAX_SEGMENT →
     IsSoundLog (record {
       own = own;
       factor = factor;
@@ -56,12 +58,13 @@ pub sound_log-new : (own : ServerId) (factor size : ℕ) (watch : Watched) → f
       segments = [];
       phase = Opening;
       durable = 0;
+      counted = counted;
       mark = first_mark;
       watch = watch;
     }) 0 0
-sound_log-new own factor size watch few small = record {
-  now = rw (log_of-nil own factor size watch) (sound-new own factor size few small);
-  before = rw (before_of-nil own factor size watch) (sound-new own factor size few small);
+sound_log-new own factor size counted watch few small = record {
+  now = rw (log_of-nil own factor size counted watch) (sound-new own factor size few small);
+  before = rw (before_of-nil own factor size counted watch) (sound-new own factor size few small);
   back = begin-back [] Opening 0 0 0;
 }
 

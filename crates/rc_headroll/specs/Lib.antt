@@ -1,3 +1,4 @@
+pub mod Counts
 pub mod LogData
 pub mod Soundness
 pub mod Advancing

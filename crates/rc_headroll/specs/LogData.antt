@@ -5,6 +5,7 @@ use Rattle.rc_types.specs.declared.kept.Phase.{Phase}
 use Rattle.rc_model.specs.Segment.{Segment}
 use Rattle.rc_model.specs.Log.{Log}
 use Rattle.rc_segment.specs.Lists.{segment_at}
+use Rattle.rc_headroll.specs.declared.durable.Counted.{Counted}
 use Rattle.rc_headroll.specs.Before.{Mark, segments_before}
 use Rattle.rc_headroll.specs.Watching.{Watched}
 
@@ -15,6 +16,8 @@ pub record LogData : Type 0 where
   pub segments : List Segment
   pub phase : Phase
   pub durable : ℕ
+  -- how many places have become durable, whether or not they were gone over
+  pub counted : Counted
   -- where the log goes back to
   pub mark : Mark
   -- which segments the timer goes over

@@ -5,6 +5,7 @@ ghost use Rattle.std.specs.Prelude.{OnOk};
 ghost use Rattle.rc_types.specs.declared.limits.TheConstants.{MAX_SEGMENT};
 ghost use Rattle.rc_model.specs.Log.{durable_now, has_segment, places_in};
 ghost use Rattle.rc_model.specs.FollowUps.{first_open, new_durable};
+ghost use Rattle.rc_headroll.specs.Counts.{with_counted};
 ghost use Rattle.rc_headroll.specs.LogData.{log_of, before_of};
 ghost use Rattle.rc_headroll.specs.Soundness.{entries_to};
 ghost use Rattle.rc_headroll.specs.Places.{log_place};
@@ -12,6 +13,15 @@ ghost use Rattle.rc_headroll.specs.Places.{log_place};
 use crate::log::LogHead;
 use rc_types::Entry;
 use std::alloc::{AllocError, Global};
+
+/// How many places have become durable, and how many had when a step began.
+#[derive(Clone, Copy)]
+pub struct Counted {
+    /// Now.
+    pub now: usize,
+    /// When the step began.
+    pub before: usize,
+}
 
 /// The shut segments at the front of a log.
 #[derive(Clone, Copy)]
@@ -92,11 +102,39 @@ impl LogHead {
         Ok(places)
     }
 
-    /// What is durable at this moment is durable for good.
+    /// How many places have become durable, counted from the log's first one, by what `stored`, `committed_at` and
+    /// `advance` have noted. Members that are lost later take nothing of it back.
+    pub fn durable(&self) -> usize
+        ensures { result ≡ self.now.counted.now }
+    {
+        self.counted.now
+    }
+
+    /// What is durable at this moment is counted, besides what was counted before.
+    pub(crate) fn count_durable(&mut self)
+        ensures log { log_of self.new ≡ log_of self.old }
+        ensures before { before_of self.new ≡ before_of self.old }
+        ensures counted { self.new.counted ≡ with_counted (durable_now (log_of self.old)) self.old.counted }
+    {
+        let now = self.durable_now();
+        if self.counted.now < now {
+            self.counted.now = now;
+        }
+    }
+
+    /// How many of the durable places were gone over: from here on `newly_durable` begins.
+    pub fn passed_on(&self) -> usize
+        ensures { result ≡ self.now.durable }
+    {
+        self.durable
+    }
+
+    /// The durable places were gone over, up to those that are durable at this moment: they are for good.
     pub fn keep_durable(&mut self)
         requires { self.old.durable ≤ durable_now (log_of self.old) }
         ensures state { log_of self.new ≡ record (log_of self.old) { durable = durable_now (log_of self.old) } }
         ensures before { before_of self.new ≡ before_of self.old }
+        ensures counted { self.new.counted ≡ self.old.counted }
     {
         let front = self.shut_front();
         self.durable = self.durable_now();

@@ -6,8 +6,10 @@ ghost use Rattle.std.specs.List.{list_any};
 ghost use Rattle.rc_model.specs.Ids.{same_id};
 ghost use Rattle.rc_model.specs.MasterTick.{stood};
 ghost use Rattle.rc_headroll.specs.Before.{IsKept};
+ghost use Rattle.rc_headroll.specs.Counts.{counted_anew};
 ghost use Rattle.rc_headroll.specs.LogData.{log_of, before_of};
 
+use crate::durable::Counted;
 use crate::log::LogHead;
 use rc_config::Config;
 use rc_types::ServerId;
@@ -17,6 +19,29 @@ impl LogHead {
     pub fn begin(&mut self)
         ensures log { log_of self.new ≡ log_of self.old }
         ensures before { before_of self.new ≡ log_of self.old }
+        ensures counted { self.new.counted ≡ counted_anew self.old.counted.now }
+    {
+        self.begin_log();
+        self.count_from(self.counted.now);
+    }
+
+    /// So many places have become durable, as when the step began.
+    fn count_from(&mut self, count: usize)
+        ensures log { log_of self.new ≡ log_of self.old }
+        ensures before { before_of self.new ≡ before_of self.old }
+        ensures counted { self.new.counted ≡ counted_anew count }
+    {
+        self.counted = Counted {
+            now: count,
+            before: count,
+        };
+    }
+
+    /// From here on `restore_log` goes back to now.
+    fn begin_log(&mut self)
+        ensures log { log_of self.new ≡ log_of self.old }
+        ensures before { before_of self.new ≡ log_of self.old }
+        ensures counted { self.new.counted ≡ self.old.counted }
     {
         self.before.begin(
             self.segments.as_slice(),
@@ -31,6 +56,17 @@ impl LogHead {
     pub fn restore(&mut self)
         ensures log { log_of self.new ≡ before_of self.old }
         ensures before { before_of self.new ≡ before_of self.old }
+        ensures counted { self.new.counted ≡ counted_anew self.old.counted.before }
+    {
+        self.restore_log();
+        self.count_from(self.counted.before);
+    }
+
+    /// The log becomes as it was, but for what is counted.
+    fn restore_log(&mut self)
+        ensures log { log_of self.new ≡ before_of self.old }
+        ensures before { before_of self.new ≡ before_of self.old }
+        ensures counted { self.new.counted ≡ self.old.counted }
     {
         self.alive.clear();
         self.whole = false;
@@ -69,6 +105,7 @@ impl LogHead {
         requires { has_segment (log_of self.old) seg ≡ true }
         ensures log { log_of self.new ≡ log_of self.old }
         ensures before { before_of self.new ≡ before_of self.old }
+        ensures counted { self.new.counted ≡ self.old.counted }
         ensures kept { IsKept self.new.mark seg }
         ensures watch { self.new.watch ≡ self.old.watch }
     {

@@ -3,12 +3,13 @@
 ghost use Rattle.std.specs.Prelude.{◌≡◌, ◌<◌, ◌∷◌, [], true, length, filter, not, nat_eq, slice_index_or, is_some};
 ghost use Rattle.std.specs.Prelude.{unwrap_or, IfOk};
 ghost use Rattle.std.specs.List.{list_any};
-ghost use Rattle.rc_model.specs.Log.{head_of, old_head_of, has_segment, with_segment};
+ghost use Rattle.rc_model.specs.Log.{head_of, old_head_of, has_segment, with_segment, durable_now};
 ghost use Rattle.rc_model.specs.Heads.{shuts, with_shut, may_start, may_close, may_write, starts, closes_old};
 ghost use Rattle.rc_model.specs.Heads.{left_out, with_freed, writes_on};
 ghost use Rattle.rc_model.specs.FollowUps.{close_is_due, close_marked};
 ghost use Rattle.rc_headroll.specs.Advancing.{advanced, advances, next_phase};
 ghost use Rattle.rc_headroll.specs.Before.{IsKept};
+ghost use Rattle.rc_headroll.specs.Counts.{with_counted};
 ghost use Rattle.rc_headroll.specs.LogData.{log_of, before_of};
 
 use crate::log::LogHead;
@@ -22,14 +23,18 @@ impl LogHead {
     /// is done that may be: the first head writes, since it is placed on all its members under a committed epoch; the
     /// old head is to be closed, since the new one is placed on all its members; the new head writes, since the old one
     /// is shut and the new one is placed on all its members under a committed epoch, and the segments that its digest
-    /// leaves out are freed. The answer says whether one was done. It takes no memory.
+    /// leaves out are freed. The answer says whether one was done. What has become durable is counted. It takes no
+    /// memory.
     pub fn advance(&mut self) -> bool
         ensures advances { result ≡ advances (log_of self.old) }
         ensures state { log_of self.new ≡ advanced (log_of self.old) }
         ensures before { before_of self.new ≡ before_of self.old }
+        ensures counted { self.new.counted ≡ with_counted (durable_now (log_of self.new)) self.old.counted }
     {
         self.mark_shut();
-        self.go_on()
+        let goes_on = self.go_on();
+        self.count_durable();
+        goes_on
     }
 
     /// The first of the three ways in which the phase goes on, if one may be.
@@ -37,6 +42,7 @@ impl LogHead {
         ensures advances { result ≡ is_some (next_phase (log_of self.old)) }
         ensures state { log_of self.new ≡ unwrap_or (next_phase (log_of self.old)) (log_of self.old) }
         ensures before { before_of self.new ≡ before_of self.old }
+        ensures counted { self.new.counted ≡ self.old.counted }
     {
         if self.may_start() {
             self.start();
@@ -61,6 +67,7 @@ impl LogHead {
     pub fn mark_shut(&mut self)
         ensures state { log_of self.new ≡ with_shut (log_of self.old) }
         ensures before { before_of self.new ≡ before_of self.old }
+        ensures counted { self.new.counted ≡ self.old.counted }
     {
         if self.shuts() {
             let old = self.segments.len() - 2;
@@ -80,6 +87,7 @@ impl LogHead {
         requires { may_start (log_of self.old) ≡ true }
         ensures state { log_of self.new ≡ starts (log_of self.old) }
         ensures before { before_of self.new ≡ before_of self.old }
+        ensures counted { self.new.counted ≡ self.old.counted }
     {
         self.phase = Phase::Writing;
     }
@@ -96,6 +104,7 @@ impl LogHead {
         requires { may_close (log_of self.old) ≡ true }
         ensures state { log_of self.new ≡ closes_old (log_of self.old) }
         ensures before { before_of self.new ≡ before_of self.old }
+        ensures counted { self.new.counted ≡ self.old.counted }
     {
         self.phase = Phase::Closing;
     }
@@ -113,6 +122,7 @@ impl LogHead {
         requires { close_is_due (log_of self.old) ≡ true }
         ensures state { log_of self.new ≡ close_marked (log_of self.old) }
         ensures before { before_of self.new ≡ before_of self.old }
+        ensures counted { self.new.counted ≡ self.old.counted }
     {
         let old = self.segments.len() - 2;
         self.segments[old].mark_close_sent();
@@ -124,6 +134,7 @@ impl LogHead {
         ensures marked { log_of self.new ≡ with_segment seg
             (record ((log_of self.old).segments seg) { commit_sent = true }) (log_of self.old) }
         ensures before { before_of self.new ≡ before_of self.old }
+        ensures counted { self.new.counted ≡ self.old.counted }
     {
         self.keep(seg);
         self.mark_commit(seg);
@@ -136,6 +147,7 @@ impl LogHead {
         ensures marked { log_of self.new ≡ with_segment seg
             (record ((log_of self.old).segments seg) { commit_sent = true }) (log_of self.old) }
         ensures before { before_of self.new ≡ before_of self.old }
+        ensures counted { self.new.counted ≡ self.old.counted }
     {
         self.segments[usize::from(seg) - 1].mark_commit_sent();
     }
@@ -166,6 +178,7 @@ impl LogHead {
         requires { may_write (log_of self.old) ≡ true }
         ensures written { log_of self.new ≡ writes_on (log_of self.old) }
         ensures before { before_of self.new ≡ before_of self.old }
+        ensures counted { self.new.counted ≡ self.old.counted }
     {
         self.begin_writing();
         self.free_left_out();
@@ -176,6 +189,7 @@ impl LogHead {
         requires { may_write (log_of self.old) ≡ true }
         ensures writing { log_of self.new ≡ starts (log_of self.old) }
         ensures before { before_of self.new ≡ before_of self.old }
+        ensures counted { self.new.counted ≡ self.old.counted }
     {
         self.phase = Phase::Writing;
     }
@@ -185,10 +199,12 @@ impl LogHead {
         requires { 1 < (log_of self.old).head }
         ensures freed { log_of self.new ≡ with_freed (left_out (log_of self.old)) (log_of self.old) }
         ensures before { before_of self.new ≡ before_of self.old }
+        ensures counted { self.new.counted ≡ self.old.counted }
     {
-        if !self.whole {
-            self.free_each();
+        if self.whole {
+            return;
         }
+        self.free_each();
     }
 
     /// Frees the segments that the head's digest leaves out. It goes over the old head's digest once, and over the
@@ -197,6 +213,7 @@ impl LogHead {
         requires { 1 < (log_of self.old).head }
         ensures freed { log_of self.new ≡ with_freed (left_out (log_of self.old)) (log_of self.old) }
         ensures before { before_of self.new ≡ before_of self.old }
+        ensures counted { self.new.counted ≡ self.old.counted }
     {
         let count = self.previous().digest().len();
         let mut place = 0;
@@ -233,6 +250,7 @@ impl LogHead {
             with_freed (filter (λ seg. not (list_any (nat_eq seg) (head_of (log_of self.old)).digest))
             (slice_index_or (old_head_of (log_of self.old)).digest index 0 ∷ [])) (log_of self.old) }
         ensures before { before_of self.new ≡ before_of self.old }
+        ensures counted { self.new.counted ≡ self.old.counted }
     {
         let seg = self.previous().digest()[index];
         if !has_number(self.newest().digest(), seg) {
@@ -246,6 +264,7 @@ impl LogHead {
         ensures freed { log_of self.new ≡
             with_segment seg (record ((log_of self.old).segments seg) { freed = true }) (log_of self.old) }
         ensures before { before_of self.new ≡ before_of self.old }
+        ensures counted { self.new.counted ≡ self.old.counted }
     {
         self.keep(seg);
         self.mark_freed(seg);
@@ -258,6 +277,7 @@ impl LogHead {
         ensures freed { log_of self.new ≡
             with_segment seg (record ((log_of self.old).segments seg) { freed = true }) (log_of self.old) }
         ensures before { before_of self.new ≡ before_of self.old }
+        ensures counted { self.new.counted ≡ self.old.counted }
     {
         self.segments[usize::from(seg) - 1].mark_freed();
     }

@@ -6,13 +6,15 @@ ghost use Rattle.std.specs.Option.{option_copied};
 
 use crate::alive::AliveEntry;
 use crate::before::Before;
+use crate::durable::Counted;
 use crate::watch::Watch;
 use rc_segment::{Segment, heads};
 use rc_types::{Phase, ServerId};
 use std::alloc::Global;
 use std::marker::Model;
 
-/// A master's log: its segments, of which the newest is the head, and how much of it is durable.
+/// A master's log: its segments, of which the newest is the head, how much of it is durable, and how much of that was
+/// gone over: `durable` is the latter, as in the definitions, and `counted` the former.
 /// "The master" in `docs/PROTOCOL.md` has the rules.
 pub struct LogHead {
     pub(crate) own: ServerId,
@@ -22,6 +24,8 @@ pub struct LogHead {
     pub(crate) segments: Vec<Segment>,
     pub(crate) phase: Phase,
     pub(crate) durable: usize,
+    /// How many places have become durable.
+    pub(crate) counted: Counted,
     /// How many segments, from the first on, are shut and wholly durable: nobody goes over them again.
     pub(crate) passed: usize,
     /// How many entries these have.
@@ -45,6 +49,7 @@ impl Drop for LogHead {
             segments: _,
             phase: _,
             durable: _,
+            counted: _,
             passed: _,
             passed_entries: _,
             before: _,
@@ -71,6 +76,7 @@ impl Model for LogHead {
       segments = l.segments.items;
       phase = l.phase;
       durable = l.durable;
+      counted = l.counted;
       mark = l.before.mark;
       watch = l.watch;
     } };
@@ -82,6 +88,7 @@ impl Model for LogHead {
       segments = l.segments.items;
       phase = l.phase;
       durable = l.durable;
+      counted = l.counted;
       mark = l.before.mark;
       watch = l.watch;
     }) l.passed l.passed_entries × IsWatchedLog (record {
@@ -91,6 +98,7 @@ impl Model for LogHead {
       segments = l.segments.items;
       phase = l.phase;
       durable = l.durable;
+      counted = l.counted;
       mark = l.before.mark;
       watch = l.watch;
     }) × (length l.segments.items ≤ l.before.room)
@@ -101,6 +109,7 @@ impl LogHead {
     ghost use Rattle.rc_model.specs.Log.{new_log, head_of, old_head_of, has_segment, has_old_head, is_opening};
     ghost use Rattle.rc_model.specs.Log.{is_closing, is_writing};
     ghost use Rattle.rc_model.specs.Heads.{is_full};
+    ghost use Rattle.rc_headroll.specs.Counts.{counted_anew};
     ghost use Rattle.rc_headroll.specs.LogData.{log_of, before_of};
     ghost use Rattle.rc_headroll.specs.Soundness.{IsKnown};
     ghost use Rattle.rc_types.specs.declared.limits.TheConstants.{MAX_FACTOR, MAX_SEGMENT, LAST_SEGMENT};
@@ -112,6 +121,7 @@ impl LogHead {
         requires size { size ≤ MAX_SEGMENT }
         ensures log { log_of result ≡ new_log own factor size }
         ensures before { before_of result ≡ new_log own factor size }
+        ensures counted { result.counted ≡ counted_anew 0 }
     {
         LogHead {
             own,
@@ -120,6 +130,7 @@ impl LogHead {
             segments: Vec::new(alloc),
             phase: Phase::Opening,
             durable: 0,
+            counted: Counted { now: 0, before: 0 },
             passed: 0,
             passed_entries: 0,
             before: Before::new(alloc),
@@ -158,13 +169,6 @@ impl LogHead {
         ensures { result ≡ (log_of self.now).head }
     {
         self.segments.len() as u16
-    }
-
-    /// How many places are durable, counted from the log's first one.
-    pub fn durable(&self) -> usize
-        ensures { result ≡ self.now.durable }
-    {
-        self.durable
     }
 
     /// The segment of this number, if there is one.

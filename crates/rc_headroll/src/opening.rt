@@ -51,6 +51,7 @@ impl LogHead {
         ensures err { IfErr result (λ fault. (fault ≡ OutOfMemory) ⊎ (append_fault (log_of self.old) ≡ Some fault)) }
         ensures unchanged { OnErr result (self.new ≡ self.old) }
         ensures before { before_of self.new ≡ before_of self.old }
+        ensures counted { self.new.counted ≡ self.old.counted }
     {
         self.append_entry(entry, false)
     }
@@ -68,6 +69,7 @@ impl LogHead {
         ensures err { IfErr result (λ fault. (fault ≡ OutOfMemory) ⊎ (append_fault (log_of self.old) ≡ Some fault)) }
         ensures unchanged { OnErr result (self.new ≡ self.old) }
         ensures before { before_of self.new ≡ before_of self.old }
+        ensures counted { self.new.counted ≡ self.old.counted }
     {
         self.append_entry(entry, true)
     }
@@ -80,6 +82,7 @@ impl LogHead {
         ensures err { IfErr result (λ fault. (fault ≡ OutOfMemory) ⊎ (append_fault (log_of self.old) ≡ Some fault)) }
         ensures unchanged { OnErr result (self.new ≡ self.old) }
         ensures before { before_of self.new ≡ before_of self.old }
+        ensures counted { self.new.counted ≡ self.old.counted }
     {
         if let Some(fault) = self.append_fault() {
             return Err(fault);
@@ -95,6 +98,7 @@ impl LogHead {
         ensures state { OnOk result (log_of self.new ≡ appends entry client (log_of self.old)) }
         ensures unchanged { OnErr result (self.new ≡ self.old) }
         ensures before { before_of self.new ≡ before_of self.old }
+        ensures counted { self.new.counted ≡ self.old.counted }
     {
         let last = self.segments.len() - 1;
         self.segments[last].push(entry, client)?;
@@ -114,6 +118,7 @@ impl LogHead {
             ⊎ (open_first servers.now (log_of self.old) ≡ (log_of self.old, Err fault))) }
         ensures unchanged { OnErr result (self.new ≡ self.old) }
         ensures before { before_of self.new ≡ before_of self.old }
+        ensures counted { self.new.counted ≡ self.old.counted }
     {
         let ids = choose(alloc, 1, self.own, self.factor, servers)?;
         let digest = vec![in alloc; 1]?;
@@ -146,6 +151,7 @@ impl LogHead {
             ⊎ (begin_roll servers.now dead.now (log_of self.old) ≡ (log_of self.old, Err fault))) }
         ensures unchanged { OnErr result (self.new ≡ self.old) }
         ensures before { before_of self.new ≡ before_of self.old }
+        ensures counted { self.new.counted ≡ self.old.counted }
     {
         let head = self.head();
         if head == LAST_SEGMENT {
@@ -190,6 +196,7 @@ impl LogHead {
         ensures ok { OnOk result (log_of self.new ≡ opens_head (log_of self.old) digest ids.now) }
         ensures unchanged { OnErr result (self.new ≡ self.old) }
         ensures before { before_of self.new ≡ before_of self.old }
+        ensures counted { self.new.counted ≡ self.old.counted }
     {
         let seg = self.head() + 1;
         let head = Segment::new(alloc, seg, digest, ids);

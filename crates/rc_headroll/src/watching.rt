@@ -34,6 +34,7 @@ impl LogHead {
     pub(crate) fn wake(&mut self, seg: u16) -> Result<(), AllocError>
         ensures log { log_of self.new ≡ log_of self.old }
         ensures before { before_of self.new ≡ before_of self.old }
+        ensures counted { self.new.counted ≡ self.old.counted }
         ensures awake { OnOk result (is_awake self.new.watch seg ≡ true) }
         ensures others { (other : ℕ) → is_awake self.old.watch other ≡ true → is_awake self.new.watch other ≡ true }
     {
@@ -47,6 +48,7 @@ impl LogHead {
     pub fn rouse(&mut self, servers: &ServerList) -> Result<(), AllocError>
         ensures log { log_of self.new ≡ log_of self.old }
         ensures before { before_of self.new ≡ before_of self.old }
+        ensures counted { self.new.counted ≡ self.old.counted }
         ensures roused { OnOk result (IsRoused servers.now self.new) }
     {
         self.watch.wake_crashed(servers)
@@ -58,6 +60,7 @@ impl LogHead {
         requires { before_of self.old ≡ log_of self.old }
         ensures log { log_of self.new ≡ log_of self.old }
         ensures before { before_of self.new ≡ before_of self.old }
+        ensures counted { self.new.counted ≡ self.old.counted }
     {
         self.rest_after(0)
     }
@@ -68,6 +71,7 @@ impl LogHead {
         requires { before_of self.old ≡ log_of self.old }
         ensures log { log_of self.new ≡ log_of self.old }
         ensures before { before_of self.new ≡ before_of self.old }
+        ensures counted { self.new.counted ≡ self.old.counted }
     {
         self.rest_after(self.head().saturating_sub(3))
     }
@@ -77,6 +81,7 @@ impl LogHead {
         requires { before_of self.old ≡ log_of self.old }
         ensures log { log_of self.new ≡ log_of self.old }
         ensures before { before_of self.new ≡ before_of self.old }
+        ensures counted { self.new.counted ≡ self.old.counted }
     {
         let mut done = seg;
         while let Some(seg) = self.next_awake(done) {
@@ -92,6 +97,7 @@ impl LogHead {
         requires same { before_of self.old ≡ log_of self.old }
         ensures log { log_of self.new ≡ log_of self.old }
         ensures before { before_of self.new ≡ before_of self.old }
+        ensures counted { self.new.counted ≡ self.old.counted }
     {
         if !self.segments[usize::from(seg) - 1].wants_nothing() {
             return Ok(());
@@ -108,6 +114,7 @@ impl LogHead {
         requires { has_segment (log_of self.old) seg ≡ true }
         ensures log { log_of self.new ≡ log_of self.old }
         ensures before { before_of self.new ≡ before_of self.old }
+        ensures counted { self.new.counted ≡ self.old.counted }
         ensures filed { IfOk result (λ filed. filed ≡ true →
             is_on_file self.new.own self.new.watch seg ((log_of self.new).segments seg) ≡ true) }
     {
@@ -125,6 +132,7 @@ impl LogHead {
         requires filed { is_on_file self.old.own self.old.watch seg ((log_of self.old).segments seg) ≡ true }
         ensures log { log_of self.new ≡ log_of self.old }
         ensures before { before_of self.new ≡ before_of self.old }
+        ensures counted { self.new.counted ≡ self.old.counted }
     {
         self.watch.let_go(seg);
     }

@@ -10,5 +10,6 @@ pub mod Zero
 pub mod Pending
 pub mod Standing
 pub mod Linear
+pub mod Conditions
 pub mod Following
 pub mod Ordering

@@ -1,3 +1,4 @@
 pub mod Confirmed
 pub mod Linearizable
+pub mod Conditional
 pub mod Runs

@@ -24,7 +24,7 @@ use Rattle.rc_linear.specs.Linearizable.{AWrite, ARead, Operation, IsWrite, IsRe
 use Rattle.rc_linear.specs.Linearizable.{IsLinearizable, HasReplicas, IsResponseOf}
 use Rattle.rc_linear_lives.specs.Linearized.{AreLinearized, SaysTheSame}
 use Rattle.rc_linear_lives.specs.OfProcesses.{at_moment, sent_by_deeds, IsDone, IsUnsent, request_to, asked, LinearizableOfProcesses}
-use Rattle.rc_linear_lives.specs.OfProcesses.{EachWriteOfProcesses, WhatLeavesWasDone}
+use Rattle.rc_linear_lives.specs.OfProcesses.{EachWriteOfProcesses, WhatLeavesWasDone, ConditionalWritesOfProcesses}
 use Rattle.rc_linear_lives.specs.OfProcesses as lived
 use Rattle.rc_linear.proofs.Stood.{Stood, acked-stood}
 use Rattle.rc_linear.proofs.Above.{above-acked}
@@ -32,6 +32,7 @@ use Rattle.rc_linear.proofs.Following.{writes-follow-reads}
 use Rattle.rc_linear.proofs.Fresh.{sent-of-take}
 use Rattle.rc_linear.proofs.Standing.{read-at}
 use Rattle.rc_linear.proofs.Linear.{linearized, sees, rises-from, each-write}
+use Rattle.rc_linear.proofs.Conditions.{takes-effect}
 use Rattle.rc_linear_lives.proofs.Lasting.{before, before-rest, done-lasts, deed-stands, is-done, done-from, Found, find, left-by, left-in}
 use Rattle.rc_linear_lives.proofs.Lasting.{left-was-sent, FirstLeft, first-left}
 use Rattle.rc_linear_lives.proofs.Cuts.{Cut, cut}
@@ -706,6 +707,11 @@ module _ (setup : Setup) (happenings : List Happening) (may : MayAll setup (new_
 
 pub linearizable-of-processes : LinearizableOfProcesses
 linearizable-of-processes setup happenings may some table key = lives-linearized setup happenings may some
+
+pub conditional-writes-of-processes : ConditionalWritesOfProcesses
+conditional-writes-of-processes setup happenings may some table key expected op done =
+    takes-effect (lived.IsOn setup happenings table key)
+    (linearizable-of-processes setup happenings may some table key).total expected op done
 
 pub each-write-of-processes : EachWriteOfProcesses
 each-write-of-processes setup happenings may some m ack p = each-lived setup happenings may some m ack p

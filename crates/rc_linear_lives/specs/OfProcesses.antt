@@ -29,6 +29,7 @@ use Rattle.rc_lives.specs.Processes.{Deed, Processes, Happening, Takes, Leaves, 
 use Rattle.rc_lives.specs.Processes.{after_all}
 use Rattle.rc_linear.specs.Confirmed.{HasSentFor}
 use Rattle.rc_linear.specs.Linearizable.{Operation, AWrite, ARead, HasReplicas}
+use Rattle.rc_linear.specs.Conditional.{IsDoneBehind, TakesEffectOn}
 use Rattle.rc_linear_lives.specs.Linearized.{AreLinearized}
 
 -- Moments
@@ -124,6 +125,14 @@ abbrev pub LinearizableOfProcesses : Type 0
 LinearizableOfProcesses = (setup : Setup) (happenings : List Happening) →
     MayAll setup (new_processes setup) happenings → HasReplicas setup → (table key : ℕ) →
     AreLinearized (IsOn setup happenings table key) (WasAskedFor setup happenings)
+
+-- Conditional writes take effect on just the version that was expected, in the same words
+abbrev pub ConditionalWritesOfProcesses : Type 0
+ConditionalWritesOfProcesses =
+    (setup : Setup) (happenings : List Happening) → MayAll setup (new_processes setup) happenings →
+    HasReplicas setup → (table key expected : ℕ) (op : Operation) →
+    IsDoneBehind (IsOn setup happenings table key) expected op →
+    TakesEffectOn (IsOn setup happenings table key) expected op
 
 -- Nothing is left out
 

@@ -1,5 +1,5 @@
 -- Logs and their replicas.
-use Rattle.std.proofs.Common.{◌≡◌, ℕ, ◌<◌, Bool, true, List, ◌++◌, length, Some, slice_get, inl, arith}
+use Rattle.std.proofs.Common.{◌≡◌, ℕ, ◌<◌, Bool, true, List, ◌++◌, length, Some, slice_get, inl, arith, sym, subst}
 use Rattle.std.proofs.lemmas.List.{length-map}
 use Rattle.rc_model.specs.Model.{ServerId, Entry, Message, LogPlace, Master, replay}
 use Rattle.rc_step_laws.specs.All.{log_in, IsSafe, GoodMaster, GoodReplica, OwnFine}
@@ -62,13 +62,18 @@ shut-is-safe setup events m s o shut less = shut-safe ((good-world setup events)
 pub replicas-are-beginnings : ReplicasAreBeginnings
 replicas-are-beginnings setup events i m s replica kept = record {
   begins = one.begins;
-  whole = λ closed. begins-whole one.begins (one.copy.whole closed).1;
+  whole = whole;
   made = λ o less. one.copy.made o less;
+  all_made = λ closed o entry was. subst (λ (entries : List Entry). slice_get entries o ≡ Some entry) (sym (whole closed))
+      (made-is (good-world setup events) was);
 }
   where
     one : GoodReplica (replay setup events).sent m ((replay setup events).masters m).log i
         ((replay setup events).hosts i).generation s replica
     one = (((good-world setup events).hosts_are i).held m).each s replica kept
+
+    whole : replica.closed ≡ true → replica.entries ≡ log_in ((replay setup events).masters m).log s
+    whole closed = begins-whole one.begins (one.copy.whole closed).1
 
 pub recovered-is-made : RecoveredIsMade
 recovered-is-made setup events plan s o accepted held = held-made (replay setup events).hosts

@@ -1,5 +1,5 @@
 -- What is claimed of logs, their replicas and their fences, after every list of events of every setup.
-use Rattle.std.specs.Prelude.{◌≡◌, ℕ, ◌<◌, Bool, true, List, ◌++◌, length, Some}
+use Rattle.std.specs.Prelude.{◌≡◌, ℕ, ◌<◌, Bool, true, List, ◌++◌, length, Some, slice_get}
 use Rattle.rc_types.specs.declared.ids.ServerId.{ServerId}
 use Rattle.rc_types.specs.declared.entries.Entry.{Entry}
 use Rattle.rc_types.specs.declared.rows.Row.{Row}
@@ -51,12 +51,15 @@ ShutIsSafe = (setup : Setup) (events : List Event) (m : ServerId) (s o : ℕ) �
 
 -- Copies
 
--- a replica is a beginning of its segment, a closed one all of it, and its entries were sent by the master
+-- a replica is a beginning of its segment, and its entries were sent by the master; a closed one is all of the segment,
+-- and has all that the master has ever sent for a place of it
 pub record IsBeginning (sent : List Message) (m : ServerId) (log : Log) (s : ℕ) (replica : Replica) : Type 0 where
   pub begins : Begins replica.entries (log_in log s)
   pub whole : replica.closed ≡ true → replica.entries ≡ log_in log s
   pub made : (o : ℕ) → o < length replica.entries → (entry : Entry) × (entry_in log s o ≡ Some entry) ×
       HasMade sent m s o entry
+  pub all_made : replica.closed ≡ true → (o : ℕ) (entry : Entry) → HasMade sent m s o entry →
+      slice_get replica.entries o ≡ Some entry
 
 abbrev pub ReplicasAreBeginnings : Type 0
 ReplicasAreBeginnings = (setup : Setup) (events : List Event) (i : ℕ) (m : ServerId) (s : ℕ) (replica : Replica) →

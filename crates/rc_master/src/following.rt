@@ -145,7 +145,7 @@ impl State {
         ensures noted { OnOk result (IsNoted self.new) }
         ensures before { before_step self.new ≡ before_step self.old }
     {
-        if self.log.durable() >= self.log.durable_now() {
+        if self.log.passed_on() >= self.log.durable_now() {
             return Ok(false);
         }
         acknowledge(self.alloc, &mut self.log, &mut self.ownership, sent)?;

@@ -105,6 +105,13 @@ impl Notes {
         None
     }
 
+    /// Whether each of these entries is outdated by a durable one.
+    pub(crate) fn are_outdated(&self, entries: &[Entry]) -> bool
+        ensures { result ≡ is_dead (take self.now.durable self.now.noted) entries.now }
+    {
+        entries.iter().all(|entry| self.is_outdated(entry))
+    }
+
     /// Whether no entry of the group has become durable since so many entries were. It is no walk.
     pub(crate) fn is_quiet(&self, group: usize, count: usize) -> bool
         ensures { result ≡ true → IsQuiet (take self.now.durable self.now.noted) group count }

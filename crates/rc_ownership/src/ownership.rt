@@ -263,6 +263,14 @@ impl Ownership {
         self.notes.find_alive(entries, start)
     }
 
+    /// Whether each of these entries has a greater version of its key under its term among the durable ones. It takes
+    /// no memory.
+    pub fn is_dead(&self, entries: &[Entry]) -> bool
+        ensures { result ≡ versions.is_dead (durable_of self.now) entries.now }
+    {
+        self.notes.are_outdated(entries)
+    }
+
     /// Whether no entry of the group has become durable since so many entries were. It is no walk.
     pub fn is_quiet(&self, group: usize, count: usize) -> bool
         ensures { result ≡ true → IsQuiet (durable_of self.now) group count }

@@ -3,5 +3,4 @@ mod Written
 mod Endings
 mod NoBreaches
 mod Closings
-mod AsDocument
 mod Commands

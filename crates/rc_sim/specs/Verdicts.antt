@@ -189,10 +189,6 @@ CutEach events verdict text = (verdict ≡ Clean) × (text ≡ cuts_text (3 * ev
 abbrev pub PowersCut : Verdict → List ℕ → Type 0
 PowersCut verdict text = (events : ℕ) × CutEach events verdict text
 
--- what a word means, of which nothing is claimed; or, where it names nothing, no text
-abbrev pub Worded : Verdict → List ℕ → Type 0
-Worded verdict text = (verdict ≡ Clean) ⊎ ((verdict ≡ Wrong) × (text ≡ []))
-
 -- help, or the version: nothing is claimed of the text
 abbrev pub Told : Verdict → List ℕ → Type 0
 Told verdict text = verdict ≡ Clean

@@ -11,14 +11,12 @@ ghost use Rattle.rc_sim.specs.declared.verdicts.Verdict.TheVariants.{Bad, Stoppe
 ghost use Rattle.rc_sim.specs.Verdicts.{audited, verdict_of, printed_of, last_line, Comes, Judged};
 
 use crate::counted::Counted;
-use crate::playing::Kept;
 use crate::scales::Scales;
 use crate::verdicts::{Output, Verdict};
 use rc_audit::audit;
 use rc_reading::{ReadFault, Scenario, read_scenario};
 use rc_report::{Finding, add_stopped, error_text, report_of};
 use rc_runs::Run;
-use rc_telling::Factors;
 use rc_traces::write_trace;
 use rc_types::{Code, Message};
 use rc_world::World;
@@ -30,29 +28,15 @@ use std::io::Write;
 pub struct Answer {
     pub(crate) verdict: Verdict,
     pub(crate) text: String,
-    /// How many messages were sent in the run, if it was one.
-    pub(crate) sent: usize,
 }
 
 impl Answer {
-    /// The answer to a run.
-    pub(crate) fn of_run(verdict: Verdict, text: String, sent: usize) -> Answer
-        ensures verdict { result.verdict ≡ verdict }
-        ensures text { result.text ≡ text }
-    {
-        Answer {
-            verdict,
-            text,
-            sent,
-        }
-    }
-
-    /// The answer to something else.
+    /// This text, and this verdict.
     pub(crate) fn of(verdict: Verdict, text: String) -> Answer
         ensures verdict { result.verdict ≡ verdict }
         ensures text { result.text ≡ text }
     {
-        Answer::of_run(verdict, text, 0)
+        Answer { verdict, text }
     }
 
     /// No text, and this verdict.
@@ -65,20 +49,18 @@ impl Answer {
 }
 
 /// The answer to these bytes as a scenario. The run's tablets lie in memory of the second allocator. It
-/// fails only where memory was refused outside a step of the run. What may not have been meant in the run is kept.
-/// `errors` is told where its messages take much memory.
+/// fails only where memory was refused outside a step of the run. `errors` is told where its messages take much memory.
 pub(crate) fn answer_to<E: Write, A: Allocator + Clone>(
     alloc: Global,
     bytes: &[u8],
     tablets: A,
     output: Output,
-    kept: &mut Kept,
     errors: &mut Counted<E>,
 ) -> Result<Answer, AllocError>
     ensures ok { IfOk result (λ answer. Comes output (reading bytes.now) answer.verdict (string_bytes answer.text)) }
 {
     match read_scenario(alloc, bytes) {
-        Ok(scenario) => played(alloc, scenario, tablets, output, kept, errors),
+        Ok(scenario) => played(alloc, scenario, tablets, output, errors),
         Err(ReadFault::OutOfMemory) => Err(AllocError),
         Err(ReadFault::BadInput(place)) => bad(alloc, place),
     }
@@ -90,19 +72,16 @@ fn played<E: Write, A: Allocator + Clone>(
     scenario: Scenario,
     tablets: A,
     output: Output,
-    kept: &mut Kept,
     errors: &mut Counted<E>,
 ) -> Result<Answer, AllocError>
     requires { IsWithinLimits scenario.setup }
     ensures ok { IfOk result (λ answer. Comes output (Ok scenario) answer.verdict (string_bytes answer.text)) }
 {
     let Scenario { setup, events } = scenario;
-    let factors = Factors::of(&setup);
     let mut run = Run::new(alloc, setup, tablets);
     match run.play_all(alloc, events.as_slice(), &mut Scales::new(errors)) {
         Ok(()) => {
             let world = run.world();
-            kept.hint(alloc, factors, world);
             ended(alloc, world, output)
         }
         Err((place, fault)) => stopped(alloc, run.world(), output, place, fault.code()),
@@ -135,7 +114,7 @@ fn reported(alloc: Global, sent: &[Message]) -> Result<Answer, AllocError>
         None => Verdict::Clean,
         Some(_) => Verdict::Breach,
     };
-    Ok(Answer::of_run(verdict, text, sent.len()))
+    Ok(Answer::of(verdict, text))
 }
 
 /// The answer with a trace of these messages.
@@ -144,7 +123,7 @@ fn traced(alloc: Global, sent: &[Message]) -> Result<Answer, AllocError>
     ensures text { IfOk result (λ answer. string_bytes answer.text ≡ printed_of Output.Trace sent.now) }
 {
     let text = write_trace(alloc, sent)?;
-    Ok(Answer::of_run(Verdict::Clean, text, sent.len()))
+    Ok(Answer::of(Verdict::Clean, text))
 }
 
 /// The answer to a run that stopped at this event.
@@ -159,9 +138,9 @@ pub(crate) fn stopped<A: Allocator + Clone>(
     ensures text { IfOk result (λ answer. string_bytes answer.text
         ≡ printed_of output (sent_in world.now) ++ last_line output code place) }
 {
-    let Answer { mut text, sent, .. } = ended(alloc, world, output)?;
+    let Answer { mut text, .. } = ended(alloc, world, output)?;
     add_last_line(alloc, &mut text, output, place, code)?;
-    Ok(Answer::of_run(Verdict::Stopped(place, code), text, sent))
+    Ok(Answer::of(Verdict::Stopped(place, code), text))
 }
 
 /// Adds the last line of what is printed of a run that stopped: a report has one.

@@ -1,6 +1,6 @@
 //! The whole program, on the words of its command line.
 
-ghost use Rattle.std.specs.Prelude.{◌≡◌, ◌≢◌, ◌≤◌, ℕ, Bool, Some, None, Ok, Err, IfOk, map, string_bytes};
+ghost use Rattle.std.specs.Prelude.{◌≡◌, ◌≢◌, ◌≤◌, ℕ, Some, None, Ok, Err, IfOk, map, string_bytes};
 ghost use Rattle.rc_commands.specs.declared.asking.Asked.{Asked as AskedModel};
 ghost use Rattle.rc_commands.specs.declared.asking.Asked.TheVariants.{Audit, Check};
 ghost use Rattle.rc_commands.specs.Asking.{IsInRange, as_command, asked_in};
@@ -8,16 +8,14 @@ ghost use Rattle.rc_sim.specs.declared.verdicts.Output.TheVariants.{Report};
 ghost use Rattle.rc_sim.specs.declared.verdicts.SimFault.TheVariants.{Memory, Read as ReadFailed, Write as WriteFailed};
 ghost use Rattle.rc_sim.specs.declared.verdicts.Verdict.TheVariants.{Breach, Wrong};
 ghost use Rattle.rc_sim.specs.Failures.{OneFailed, failed_reads, failed_writes};
-ghost use Rattle.rc_sim.specs.Statuses.{fault_status, outcome_status, Answered, ComesOf, Does, ShownOf};
+ghost use Rattle.rc_sim.specs.Statuses.{fault_status, outcome_status, Answered, ComesOf, Does};
 ghost use Rattle.rc_sim.specs.Verdicts.{Played, Told};
 ghost use Rattle.rc_sim.specs.Written.{IsWritten, IsBegun};
 
 use crate::counted::Counted;
 use crate::cutting::cut_explored;
 use crate::drawing::{cut_powers, fuzz};
-use crate::explaining::explained;
 use crate::exploring::explore;
-use crate::formatting::{document_wanted, write_document};
 use crate::healing::heal;
 use crate::histories::weigh_history;
 use crate::narrating::{Telling, narrate};
@@ -25,7 +23,6 @@ use crate::outlets::write_all;
 use crate::playing::{play, weigh};
 use crate::seeking::{Search, seek};
 use crate::shrinking::shrink;
-use crate::staking::tell_stake_of_drawn;
 use crate::surveying::survey;
 use crate::threading::threads;
 use crate::verdicts::{Output, SimFault, Verdict};
@@ -42,13 +39,12 @@ use std::thread;
 /// trace or history, for an event that was not possible, and where `shrink` finds no line to keep, 3 where memory was
 /// refused, 4 where a read or a write failed.
 ///
-/// `run` and `trace` run the scenario that the reader gives (see [`simulate`](crate::simulate)), `log` and `picture`
-/// tell its story, `history` what its clients saw, `heal` adds what brings its tablets back, `shrink` leaves out of it
-/// what it can, `audit` judges the trace that it gives, `check` the history; `fuzz`, `stops`, `threads`, `explore` and
-/// `explain` read nothing. Where a JSON document is wanted, that is written in place of the
-/// text. Help and the version go to the writer. What is wrong with the
-/// command line, the line of a fault (`memory`, `read`, `write N`), and why a scenario or a trace was refused, go to
-/// `errors`; where that can not be written, the status alone tells. Only `threads` starts threads and waits.
+/// `run` and `trace` run the scenario that the reader gives (see [`simulate`](crate::simulate)), `log` tells its story,
+/// `history` what its clients saw, `heal` adds what brings its tablets back, `shrink` leaves out of it what it can,
+/// `audit` judges the trace that it gives, `check` the history; `fuzz`, `stops`, `threads` and `explore` read nothing.
+/// Help and the version go to the writer. What is wrong with the command line, and the line of a fault (`memory`,
+/// `read`, `write N`), go to `errors`; where that can not be written, the status alone tells. Only `threads` starts
+/// threads and waits.
 pub fn command<H: thread::Threads + Wait + Sync, R: Read, W: Write, E: Write>(
     rt: &H,
     alloc: Global,
@@ -69,51 +65,19 @@ pub fn command<H: thread::Threads + Wait + Sync, R: Read, W: Write, E: Write>(
         → (reader.new.failures ≡ reader.old.failures) × (writer.new.failures ≡ writer.old.failures) }
 
     // a breach is told of a trace or a history alone that was given: no run has one, no drawing, no nodes on threads
-    ensures no_breach { ((json : Bool) → asked_in (map string_bytes words.now) ≢ Some (Audit json)) →
+    ensures no_breach { asked_in (map string_bytes words.now) ≢ Some Audit →
         asked_in (map string_bytes words.now) ≢ Some Check → result ≢ 1 }
 {
     match asked_for(alloc, words) {
         Ok(asked) => {
-            let outcome = shown(rt, alloc, asked, reader, writer, errors);
+            let outcome = done(rt, alloc, asked, reader, writer, errors);
             ended(outcome, errors)
         }
         Err(_) => failed(&SimFault::Memory, errors),
     }
 }
 
-/// Does what was asked for, and shows it as a text or as a document: what came of it.
-fn shown<H: thread::Threads + Wait + Sync, R: Read, W: Write, E: Write>(
-    rt: &H,
-    alloc: Global,
-    asked: Asked,
-    reader: &mut Counted<R>,
-    writer: &mut Counted<W>,
-    errors: &mut Counted<E>,
-) -> Result<Verdict, SimFault>
-    requires { IsInRange asked }
-    ensures answered { Answered (ShownOf asked) result (R.remaining reader.old.inner) (W.contents writer.old.inner)
-        (W.contents writer.new.inner) }
-    ensures unread { as_command asked ≡ None → reader.new ≡ reader.old }
-    ensures reads { reader.new.failures ≡ failed_reads result reader.old.failures }
-    ensures writes { writer.new.failures ≡ failed_writes result writer.old.failures }
-    ensures no_breach { ((json : Bool) → asked ≢ Audit json) → asked ≢ Check → result ≢ Ok Breach }
-{
-    let Some(document) = document_wanted(&asked) else {
-        return done(rt, alloc, asked, reader, writer, errors);
-    };
-    let mut told = Counted::new(Vec::new(alloc));
-    let outcome = done(rt, alloc, asked, reader, &mut told, errors);
-    write_document(
-        alloc,
-        document,
-        outcome,
-        told.inner.as_slice(),
-        writer,
-        errors,
-    )
-}
-
-/// Does what was asked for, and tells it as a text: what came of it.
+/// Does what was asked for: what came of it.
 fn done<H: thread::Threads + Wait + Sync, R: Read, W: Write, E: Write>(
     rt: &H,
     alloc: Global,
@@ -128,34 +92,25 @@ fn done<H: thread::Threads + Wait + Sync, R: Read, W: Write, E: Write>(
     ensures unread { as_command asked ≡ None → reader.new ≡ reader.old }
     ensures reads { reader.new.failures ≡ failed_reads result reader.old.failures }
     ensures writes { writer.new.failures ≡ failed_writes result writer.old.failures }
-    ensures no_breach { ((json : Bool) → asked ≢ Audit json) → asked ≢ Check → result ≢ Ok Breach }
+    ensures no_breach { asked ≢ Audit → asked ≢ Check → result ≢ Ok Breach }
 {
     match asked {
-        Asked::Run { heap, .. } => run(alloc, heap, reader, writer, errors),
+        Asked::Run { heap } => run(alloc, heap, reader, writer, errors),
         Asked::Trace => play(alloc, alloc, Output::Trace, reader, writer, errors),
-        Asked::Audit { .. } => weigh(alloc, reader, writer, errors),
-        Asked::History => narrate(alloc, Telling::History, reader, writer, errors),
-        Asked::Check => weigh_history(alloc, reader, writer, errors),
-        Asked::Fuzz {
-            seed,
-            steps,
-            free,
-            ..
-        } => { fuzz(alloc, seed, steps as usize, free, writer, errors) }
-        Asked::Stops { seed, steps, .. } => {
-            tell_stake_of_drawn(alloc, seed, steps as usize, errors);
-            cut_powers(alloc, seed, steps as usize, writer)
-        }
-        Asked::StopsExplored { drawing, .. } => {
+        Asked::Audit => weigh(alloc, reader, writer),
+        Asked::History => narrate(alloc, Telling::History, reader, writer),
+        Asked::Check => weigh_history(alloc, reader, writer),
+        Asked::Fuzz { seed, steps, free } => fuzz(alloc, seed, steps as usize, free, writer),
+        Asked::Stops { seed, steps } => cut_powers(alloc, seed, steps as usize, writer),
+        Asked::StopsExplored { drawing } => {
             let options = options_of(&drawing);
-            cut_explored(alloc, &options, writer, errors)
+            cut_explored(alloc, &options, writer)
         }
-        Asked::Threads { hosts, writes } => threads(rt, alloc, hosts, writes, writer, errors),
+        Asked::Threads { hosts, writes } => threads(rt, alloc, hosts, writes, writer),
         Asked::Explore {
             drawing,
             save,
             progress,
-            ..
         } => {
             let options = options_of(&drawing);
             explore(alloc, &options, save, progress, writer, errors)
@@ -164,7 +119,6 @@ fn done<H: thread::Threads + Wait + Sync, R: Read, W: Write, E: Write>(
             drawing,
             last,
             progress,
-            ..
         } => {
             let options = options_of(&drawing);
             survey(alloc, &options, last, progress, writer, errors)
@@ -175,7 +129,6 @@ fn done<H: thread::Threads + Wait + Sync, R: Read, W: Write, E: Write>(
             last,
             save,
             progress,
-            ..
         } => {
             let options = options_of(&drawing);
             let search = Search {
@@ -186,15 +139,9 @@ fn done<H: thread::Threads + Wait + Sync, R: Read, W: Write, E: Write>(
             };
             seek(alloc, &options, &search, writer, errors)
         }
-        Asked::Shrink { keep } => shrink(alloc, keep.as_slice(), reader, writer, errors),
-        Asked::Log { json, whole } => {
-            narrate(alloc, Telling::of_log(json, whole), reader, writer, errors)
-        }
-        Asked::Picture { mermaid } => {
-            narrate(alloc, Telling::of_picture(mermaid), reader, writer, errors)
-        }
+        Asked::Shrink { keep } => shrink(alloc, keep.as_slice(), reader, writer),
+        Asked::Log => narrate(alloc, Telling::Json, reader, writer),
         Asked::Heal { power_cycle } => heal(alloc, power_cycle, reader, writer, errors),
-        Asked::Explain { word, json } => explained(alloc, word, json, writer, errors),
         Asked::Tell(text) => tell(text.as_str(), writer),
         Asked::Wrong(text) => Ok(refused(text.as_str(), errors)),
     }

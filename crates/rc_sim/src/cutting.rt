@@ -14,7 +14,6 @@ use crate::answers::Answer;
 use crate::counted::Counted;
 use crate::drawing::cuts_answer;
 use crate::simulating::write_answer;
-use crate::staking::tell_stake_of_explored;
 use crate::surveying::drawn;
 use crate::verdicts::{SimFault, Verdict};
 use rc_study::Options;
@@ -23,14 +22,13 @@ use std::alloc::{AllocError, Global};
 use std::io::Write;
 
 /// Draws events so that much happens, cuts the power after each of them, in three ways, and writes how often that was
-/// done and in how many of these a breach was found, which is none. `errors` is told what was at stake.
+/// done and in how many of these a breach was found, which is none.
 ///
 /// It fails as `fuzz` does.
-pub(crate) fn cut_explored<W: Write, E: Write>(
+pub(crate) fn cut_explored<W: Write>(
     alloc: Global,
     options: &Options,
     writer: &mut Counted<W>,
-    errors: &mut Counted<E>,
 ) -> Result<Verdict, SimFault>
     ensures ok { IfOk result (λ verdict.
         IsWritten PowersCut verdict (W.contents writer.old.inner) (W.contents writer.new.inner)) }
@@ -42,20 +40,15 @@ pub(crate) fn cut_explored<W: Write, E: Write>(
     ensures unread { result ≢ Err ReadFailed }
     ensures no_breach { result ≢ Ok Breach }
 {
-    let answer = explored_answer(alloc, options, errors)?;
+    let answer = explored_answer(alloc, options)?;
     write_answer(writer, &answer)
 }
 
 /// What is printed of such power failures.
-fn explored_answer<E: Write>(
-    alloc: Global,
-    options: &Options,
-    errors: &mut Counted<E>,
-) -> Result<Answer, AllocError>
+fn explored_answer(alloc: Global, options: &Options) -> Result<Answer, AllocError>
     ensures ok { IfOk result (λ answer. PowersCut answer.verdict (string_bytes answer.text)) }
 {
     let run = drawn(alloc, options)?;
-    tell_stake_of_explored(alloc, run.world().sent(), errors);
     let setup = options.setup(alloc);
     events_answer(alloc, &setup, options.hosts, run.world().events())
 }

@@ -11,25 +11,21 @@ ghost use Rattle.rc_sim.specs.Written.{IsWritten, IsBegun};
 use crate::answers::{Answer, ended};
 use crate::counted::Counted;
 use crate::simulating::write_answer;
-use crate::staking::{OF_FUZZ, tell_stake};
-use crate::telling::tell_codes;
 use crate::verdicts::{Output, SimFault, Verdict};
 use rc_draw::drawn_world;
 use std::alloc::{AllocError, Global};
 use std::io::Write;
 
-/// Runs so many steps of events that are drawn from the seed, and writes the report. `errors` is told what was at
-/// stake.
+/// Runs so many steps of events that are drawn from the seed, and writes the report.
 ///
 /// After `Memory` nothing was written, after `Write(n)` the first n bytes of the report. `Write` comes only
 /// where the writer has failed in this very call.
-pub fn fuzz<W: Write, E: Write>(
+pub fn fuzz<W: Write>(
     alloc: Global,
     seed: u64,
     steps: usize,
     free: bool,
     writer: &mut Counted<W>,
-    errors: &mut Counted<E>,
 ) -> Result<Verdict, SimFault>
     ensures ok { IfOk result (λ verdict.
         IsWritten (Drawn seed steps free) verdict (W.contents writer.old.inner) (W.contents writer.new.inner)) }
@@ -41,27 +37,17 @@ pub fn fuzz<W: Write, E: Write>(
     ensures unread { result ≢ Err ReadFailed }
     ensures no_breach { result ≢ Ok Breach }
 {
-    let answer = drawn_answer(alloc, seed, steps, free, errors)?;
-    tell_stake(answer.text.as_str(), OF_FUZZ, errors);
+    let answer = drawn_answer(alloc, seed, steps, free)?;
     write_answer(writer, &answer)
 }
 
-/// The report of a drawing; `errors` is told the names of the codes in it.
-fn drawn_answer<E: Write>(
-    alloc: Global,
-    seed: u64,
-    steps: usize,
-    free: bool,
-    errors: &mut Counted<E>,
-) -> Result<Answer, AllocError>
+/// The report of a drawing.
+fn drawn_answer(alloc: Global, seed: u64, steps: usize, free: bool) -> Result<Answer, AllocError>
     ensures ok { IfOk result (λ answer. Drawn seed steps free answer.verdict (string_bytes answer.text)) }
     ensures no_breach { IfOk result (λ answer. answer.verdict ≢ Breach) }
 {
     match drawn_world(alloc, seed, steps, free) {
-        Ok(world) => {
-            tell_codes(alloc, world.sent(), errors);
-            ended(alloc, &world, Output::Report)
-        }
+        Ok(world) => ended(alloc, &world, Output::Report),
         Err(_) => Err(AllocError),
     }
 }

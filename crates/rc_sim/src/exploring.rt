@@ -11,7 +11,6 @@ ghost use Rattle.rc_sim.specs.Written.{IsWritten, IsBegun};
 use crate::answers::{Answer, ended};
 use crate::counted::Counted;
 use crate::simulating::write_answer;
-use crate::telling::tell_codes;
 use crate::verdicts::{Output, SimFault, Verdict};
 use rc_study::{Exploration, Options, saved_events};
 use std::alloc::{AllocError, Global};
@@ -43,9 +42,6 @@ pub fn explore<W: Write, E: Write>(
     ensures no_breach { result ≢ Ok Breach }
 {
     let run = explored(alloc, options, progress, errors)?;
-    if !save {
-        tell_codes(alloc, run.world().sent(), errors);
-    }
     let answer = explored_answer(alloc, options, save, &run)?;
     write_answer(writer, &answer)
 }

@@ -10,11 +10,10 @@ ghost use Rattle.rc_sim.specs.Verdicts.{IsHealed, Healed as HealedText};
 use crate::answers::{Answer, bad};
 use crate::counted::Counted;
 use crate::outlets::read_all;
-use crate::playing::{Kept, finish};
+use crate::simulating::write_answer;
 use crate::verdicts::{SimFault, Verdict};
 use rc_healing::{Deed, Gone, Healed, Served, Why};
 use rc_reading::{ReadFault, Scenario, ScenarioEvent, read_scenario};
-use rc_reasons::Dialect;
 use rc_runs::Run;
 use rc_study::{Left, saved_scenario};
 use rc_types::{Event, Fault, Setup, Tablet, TryClone};
@@ -42,8 +41,7 @@ pub(crate) fn heal<R: Read, W: Write, E: Write>(
 {
     let bytes = read_all(alloc, reader)?;
     let answer = healed_of(alloc, bytes.as_slice(), power_cycle, errors)?;
-    let kept = Kept::new(alloc).with(bytes, &answer);
-    finish(alloc, Dialect::Scenario, &kept, &answer, writer, errors)
+    write_answer(writer, &answer)
 }
 
 /// What is written of these bytes as a scenario.
@@ -81,8 +79,7 @@ fn answer_of<E: Write>(
         note_place(&mut places, run.world().events().len(), place)?;
         if let Err((_, fault)) = outcome {
             let verdict = Verdict::Stopped(place, fault.code());
-            let sent = run.world().sent().len();
-            return Ok(Answer::of_run(verdict, String::new(alloc), sent));
+            return Ok(Answer::nothing(alloc, verdict));
         }
     }
     match rc_healing::heal(alloc, &setup, run.world().events(), power_cycle) {

@@ -7,12 +7,12 @@ ghost use Rattle.rc_sim.specs.Statuses.{Answered};
 
 use crate::answers::{Answer, bad};
 use crate::counted::Counted;
-use crate::outlets::{read_all, write_all};
+use crate::outlets::read_all;
 use crate::simulating::write_answer;
 use crate::verdicts::{SimFault, Verdict};
 use rc_clients::{
-    HistoryFault, LineFault, ReadHistory, Violation, check, history_of, history_text,
-    judgement_text, read_history,
+    HistoryFault, ReadHistory, Violation, check, history_of, history_text, judgement_text,
+    read_history,
 };
 use rc_reading::limits::MOST_BYTES;
 use rc_types::Message;
@@ -25,15 +25,14 @@ pub(crate) fn history_lines(alloc: Global, messages: &[Message]) -> Result<Strin
     history_text(alloc, &history)
 }
 
-/// Reads a history, judges it, and writes what was found, or the one line of a history that is wrong; why it is wrong
-/// goes to `errors`. Nothing is claimed of the text.
+/// Reads a history, judges it, and writes what was found, or the one line of a history that is wrong. Nothing is
+/// claimed of the text.
 ///
 /// It fails as [`simulate`](crate::simulate) does.
-pub(crate) fn weigh_history<R: Read, W: Write, E: Write>(
+pub(crate) fn weigh_history<R: Read, W: Write>(
     alloc: Global,
     reader: &mut Counted<R>,
     writer: &mut Counted<W>,
-    errors: &mut Counted<E>,
 ) -> Result<Verdict, SimFault>
     ensures answered { Answered Checked result (R.remaining reader.old.inner) (W.contents writer.old.inner)
         (W.contents writer.new.inner) }
@@ -41,35 +40,22 @@ pub(crate) fn weigh_history<R: Read, W: Write, E: Write>(
     ensures writes { writer.new.failures ≡ failed_writes result writer.old.failures }
 {
     let bytes = read_all(alloc, reader)?;
-    let answer = judged(alloc, bytes.as_slice(), errors)?;
+    let answer = judged(alloc, bytes.as_slice())?;
     write_answer(writer, &answer)
 }
 
 /// What is answered to these bytes as a history.
-fn judged<E: Write>(
-    alloc: Global,
-    bytes: &[u8],
-    errors: &mut Counted<E>,
-) -> Result<Answer, AllocError>
+fn judged(alloc: Global, bytes: &[u8]) -> Result<Answer, AllocError>
     ensures ok { IfOk result (λ answer. Checked bytes.now answer.verdict (string_bytes answer.text)) }
 {
     if bytes.len() > MOST_BYTES {
-        let _ = write_all(errors, b"the history is too long\n");
         return bad(alloc, 0);
     }
     match read_history(alloc, bytes) {
         Ok(history) => weighed_answer(alloc, &history),
         Err(HistoryFault::OutOfMemory) => Err(AllocError),
-        Err(HistoryFault::BadLine(line, fault)) => {
-            tell_line(line, fault, errors);
-            bad(alloc, line)
-        }
+        Err(HistoryFault::BadLine(line, _)) => bad(alloc, line),
     }
-}
-
-/// Tells what is wrong with a line.
-fn tell_line<E: Write>(line: usize, fault: LineFault, errors: &mut Counted<E>) {
-    let _ = writeln!(errors.inner, "line {line}: {fault}");
 }
 
 /// What the judge says of a history.

@@ -15,7 +15,6 @@ use crate::outlets::write_all;
 use crate::simulating::write_answer;
 use crate::surveying::tell_seed;
 use crate::verdicts::{SimFault, Verdict};
-use rc_reasons::nearest;
 use rc_study::{Exploration, Options, saved_events};
 use rc_survey::Goal;
 use rc_types::{Event, EventKind, Kind, Message, Seq};
@@ -187,19 +186,15 @@ fn tell_event(text: &mut String, event: &Event, sent: &[Message]) -> Result<(), 
     Ok(())
 }
 
-/// That a word names nothing that can be reached, and what may have been meant.
+/// That a word names nothing that can be reached, and what can be.
 fn unknown(alloc: Global, word: &str) -> Result<String, AllocError> {
     let mut text = String::new(alloc);
     write!(
         text,
         "error: '{word}' is no rule, kind of event or kind of message"
     )?;
-    let names = Goal::names(alloc)?;
-    if let Some(near) = nearest(alloc, word, names.as_slice())? {
-        write!(text, "; did you mean '{near}'?")?;
-    }
     text.push_str("\n\nThey are:")?;
-    for name in &names {
+    for name in &Goal::names(alloc)? {
         write!(text, " {name}")?;
     }
     text.push_str("\n")?;

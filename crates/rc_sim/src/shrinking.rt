@@ -10,10 +10,9 @@ ghost use Rattle.rc_sim.specs.Verdicts.{IsShrunk, Shrunk};
 use crate::answers::{Answer, bad};
 use crate::counted::Counted;
 use crate::outlets::read_all;
-use crate::playing::{Kept, finish};
+use crate::simulating::write_answer;
 use crate::verdicts::{SimFault, Verdict};
 use rc_reading::{ReadFault, Scenario, read_scenario};
-use rc_reasons::Dialect;
 use std::alloc::{AllocError, Global};
 use std::io::{Read, Write};
 
@@ -21,12 +20,11 @@ use std::io::{Read, Write};
 /// of a scenario that is wrong. Where its own report has no such line, nothing is written.
 ///
 /// It fails as [`simulate`](crate::simulate) does.
-pub(crate) fn shrink<R: Read, W: Write, E: Write>(
+pub(crate) fn shrink<R: Read, W: Write>(
     alloc: Global,
     keep: &[u8],
     reader: &mut Counted<R>,
     writer: &mut Counted<W>,
-    errors: &mut Counted<E>,
 ) -> Result<Verdict, SimFault>
     ensures answered { Answered Shrunk result (R.remaining reader.old.inner) (W.contents writer.old.inner)
         (W.contents writer.new.inner) }
@@ -37,8 +35,7 @@ pub(crate) fn shrink<R: Read, W: Write, E: Write>(
     let keep = str::from_utf8(keep).unwrap_or("");
     let bytes = read_all(alloc, reader)?;
     let answer = shrunk_of(alloc, bytes.as_slice(), keep)?;
-    let kept = Kept::new(alloc).with(bytes, &answer);
-    finish(alloc, Dialect::Scenario, &kept, &answer, writer, errors)
+    write_answer(writer, &answer)
 }
 
 /// What is written of these bytes as a scenario.

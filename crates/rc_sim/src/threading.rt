@@ -12,7 +12,6 @@ ghost use Rattle.rc_sim.specs.Written.{IsWritten, IsBegun};
 use crate::answers::{Answer, ended, stopped};
 use crate::counted::Counted;
 use crate::simulating::write_answer;
-use crate::telling::tell_codes;
 use crate::verdicts::{Output, SimFault, Verdict};
 use rc_types::Code;
 use rc_wire::world_of_threads;
@@ -26,13 +25,12 @@ use std::thread;
 /// last line that says so, with how many events had happened.
 ///
 /// It fails as `fuzz` does: `Memory` also where a thread was refused.
-pub fn threads<R: thread::Threads + Wait + Sync, W: Write, E: Write>(
+pub fn threads<R: thread::Threads + Wait + Sync, W: Write>(
     rt: &R,
     alloc: Global,
     hosts: u8,
     writes: u32,
     writer: &mut Counted<W>,
-    errors: &mut Counted<E>,
 ) -> Result<Verdict, SimFault>
     requires { hosts ≤ MAX_HOSTS }
     ensures ok { IfOk result (λ verdict.
@@ -45,26 +43,22 @@ pub fn threads<R: thread::Threads + Wait + Sync, W: Write, E: Write>(
     ensures unread { result ≢ Err ReadFailed }
     ensures no_breach { result ≢ Ok Breach }
 {
-    let answer = threaded_answer(rt, alloc, hosts, writes, errors)?;
+    let answer = threaded_answer(rt, alloc, hosts, writes)?;
     write_answer(writer, &answer)
 }
 
-/// What is written of such a run; `errors` is told the names of the codes in it.
-fn threaded_answer<R: thread::Threads + Wait + Sync, E: Write>(
+/// What is written of such a run.
+fn threaded_answer<R: thread::Threads + Wait + Sync>(
     rt: &R,
     alloc: Global,
     hosts: u8,
     writes: u32,
-    errors: &mut Counted<E>,
 ) -> Result<Answer, AllocError>
     requires { hosts ≤ MAX_HOSTS }
     ensures ok { IfOk result (λ answer. Threaded hosts writes answer.verdict (string_bytes answer.text)) }
 {
     match world_of_threads(rt, alloc, hosts, writes) {
-        Ok((world, true)) => {
-            tell_codes(alloc, world.sent(), errors);
-            ended(alloc, &world, Output::Report)
-        }
+        Ok((world, true)) => ended(alloc, &world, Output::Report),
         Ok((world, false)) => {
             let place = world.events().len();
             stopped(alloc, &world, Output::Report, place, Code::BadEvent)

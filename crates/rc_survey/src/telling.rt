@@ -2,7 +2,6 @@
 
 use crate::counts::{Counts, OUTCOME_NAMES, OUTCOMES, more, sum};
 use crate::rules::{RULE_NAMES, RULES, Rule};
-use rc_pen::{Pen, Piece, Spelling};
 use rc_types::{EventKind, Kind};
 use std::alloc::AllocError;
 
@@ -14,28 +13,26 @@ impl Counts {
     ///
     /// Memory was refused.
     pub fn tell(&self, text: &mut String) -> Result<(), AllocError> {
-        let mut pen = Pen::new(*text.allocator(), Spelling::Plain);
         let event_names = EventKind::ALL.map(|kind| kind.name());
         let message_names = Kind::ALL.map(|kind| kind.name());
-        pen.put("events");
-        tell_counted(&mut pen, &event_names, &self.events);
-        pen.put("\nmessages");
-        tell_counted(&mut pen, &message_names, &self.bodies);
-        pen.put("\nrefusals");
+        text.push_str("events")?;
+        tell_counted(text, &event_names, &self.events)?;
+        text.push_str("\nmessages")?;
+        tell_counted(text, &message_names, &self.bodies)?;
+        text.push_str("\nrefusals")?;
         for (code, count) in self.refused.iter().enumerate() {
             if *count > 0 {
-                pen.put_all(" F% %", &[Piece::Size(code), Piece::U64(*count)]);
+                write!(text, " F{code} {count}")?;
             }
         }
-        pen.put("\nreached");
-        tell_all(&mut pen, &self.outcomes());
-        pen.put("\nunreached");
-        tell_missing(&mut pen, &message_names, &self.bodies);
-        tell_missing(&mut pen, &OUTCOME_NAMES, &self.outcomes());
-        pen.put("\nunreached-rules");
-        tell_missing(&mut pen, &RULE_NAMES, &self.rules);
-        pen.put("\n");
-        pen.end_after(text)
+        text.push_str("\nreached")?;
+        tell_all(text, &self.outcomes())?;
+        text.push_str("\nunreached")?;
+        tell_missing(text, &message_names, &self.bodies)?;
+        tell_missing(text, &OUTCOME_NAMES, &self.outcomes())?;
+        text.push_str("\nunreached-rules")?;
+        tell_missing(text, &RULE_NAMES, &self.rules)?;
+        text.push_str("\n")
     }
 
     /// The line of it among those of other seeds.
@@ -44,16 +41,14 @@ impl Counts {
     ///
     /// Memory was refused.
     pub fn tell_seed(&self, text: &mut String, seed: u64, clean: bool) -> Result<(), AllocError> {
-        let mut pen = Pen::new(*text.allocator(), Spelling::Plain);
-        pen.put_number("seed ", seed);
-        tell_count(&mut pen, "events", sum(&self.events));
-        tell_count(&mut pen, "messages", sum(&self.bodies));
-        tell_counted(&mut pen, &OUTCOME_NAMES, &self.outcomes());
+        write!(text, "seed {seed}")?;
+        tell_count(text, "events", sum(&self.events))?;
+        tell_count(text, "messages", sum(&self.bodies))?;
+        tell_counted(text, &OUTCOME_NAMES, &self.outcomes())?;
         let rules = self.rules.iter().filter(|count| **count > 0).count();
-        tell_count(&mut pen, "rules", rules as u64);
-        pen.put_number("/", RULES as u64);
-        pen.put_either(clean, " clean\n", " breach\n");
-        pen.end_after(text)
+        tell_count(text, "rules", rules as u64)?;
+        write!(text, "/{RULES}")?;
+        text.push_str(if clean { " clean\n" } else { " breach\n" })
     }
 }
 
@@ -104,16 +99,11 @@ impl Sum {
     /// Memory was refused.
     pub fn tell(&self, text: &mut String) -> Result<(), AllocError> {
         self.total.tell(text)?;
-        let mut pen = Pen::new(*text.allocator(), Spelling::Plain);
-        pen.put("in-runs");
-        tell_all(&mut pen, &self.outcomes);
-        pen.put_all(" all-three %\nrules-in-runs", &[Piece::U64(self.full)]);
-        tell_counted(&mut pen, &RULE_NAMES, &self.rules);
-        pen.put_all(
-            "\nruns %\nbreaches %\n",
-            &[Piece::U64(self.runs), Piece::U64(self.breaches)],
-        );
-        pen.end_after(text)
+        text.push_str("in-runs")?;
+        tell_all(text, &self.outcomes)?;
+        write!(text, " all-three {}\nrules-in-runs", self.full)?;
+        tell_counted(text, &RULE_NAMES, &self.rules)?;
+        write!(text, "\nruns {}\nbreaches {}\n", self.runs, self.breaches)
     }
 }
 
@@ -125,32 +115,42 @@ fn add_reached(runs: &mut [u64], counts: &[u64]) {
 }
 
 /// A name and its count.
-fn tell_count(pen: &mut Pen, name: &'static str, count: u64) {
-    pen.put_all(" % %", &[Piece::Words(name), Piece::U64(count)]);
+fn tell_count(text: &mut String, name: &str, count: u64) -> Result<(), AllocError> {
+    write!(text, " {name} {count}")
 }
 
 /// All counts of what came of the events, by name.
-fn tell_all(pen: &mut Pen, counts: &[u64; OUTCOMES]) {
+fn tell_all(text: &mut String, counts: &[u64; OUTCOMES]) -> Result<(), AllocError> {
     for (name, count) in OUTCOME_NAMES.iter().zip(counts) {
-        tell_count(pen, name, *count);
+        tell_count(text, name, *count)?;
     }
+    Ok(())
 }
 
 /// The counts by name; where one is 0, it is left out.
-fn tell_counted(pen: &mut Pen, names: &[&'static str], counts: &[u64]) {
+fn tell_counted(
+    text: &mut String,
+    names: &[&'static str],
+    counts: &[u64],
+) -> Result<(), AllocError> {
     for (name, count) in names.iter().zip(counts) {
         if *count > 0 {
-            tell_count(pen, name, *count);
+            tell_count(text, name, *count)?;
         }
     }
+    Ok(())
 }
 
 /// The names whose count is 0.
-fn tell_missing(pen: &mut Pen, names: &[&'static str], counts: &[u64]) {
+fn tell_missing(
+    text: &mut String,
+    names: &[&'static str],
+    counts: &[u64],
+) -> Result<(), AllocError> {
     for (name, count) in names.iter().zip(counts) {
         if *count == 0 {
-            pen.put(" ");
-            pen.put(name);
+            write!(text, " {name}")?;
         }
     }
+    Ok(())
 }

@@ -102,3 +102,6 @@ pub use view::{Desk, Place, View};
 pub use wire::Wire;
 pub use work::Work;
 pub use world::world_of_threads;
+
+/// The name of a seat: that of the node which it is of.
+pub use rc_types::NodeName as SeatName;

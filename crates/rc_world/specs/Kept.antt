@@ -1,6 +1,7 @@
 -- What logs, replicas, recoveries and owners keep, said of one world: of its events, and of what was sent in it.
 use Rattle.std.specs.Prelude.{◌≡◌, ◌⊎◌, ℕ, ◌<◌, true, Some}
 use Rattle.rc_types.specs.declared.ids.ServerId.{ServerId}
+use Rattle.rc_types.specs.declared.ids.Addr.TheVariants.{Server}
 use Rattle.rc_types.specs.declared.entries.Entry.{Entry}
 use Rattle.rc_model.specs.Replica.{Replica}
 use Rattle.rc_model.specs.Backup.{replica_of}
@@ -8,10 +9,10 @@ use Rattle.rc_model.specs.Recovered.{Ack, Accepted}
 use Rattle.rc_model.specs.Owners.{Granted, IsGranted, covers, IsEarlier}
 use Rattle.rc_model.specs.Durable.{IsDurable}
 use Rattle.rc_model.specs.Headline.{HasMade, HasAcknowledged, WasAccepted, IsHeld}
-use Rattle.rc_log_laws.specs.WordClaims.{log_of, entry_in}
+use Rattle.rc_log_laws.specs.WordClaims.{log_of, entry_in, IsRecorded}
 use Rattle.rc_log_laws.specs.LogClaims.{held_after, IsBeginning}
 use Rattle.rc_owner_laws.specs.VersionClaims.{DataIsCut, GrantsStart, VersionsRiseWithThePlace, NoVersionTwice}
-use Rattle.rc_write_laws.specs.Handovers.{IsHandedOn, OwnersKeep}
+use Rattle.rc_write_laws.specs.Handovers.{HasKept}
 use Rattle.rc_world.specs.Happened.{Happened, replayed, sent_in}
 
 -- Logs and their copies
@@ -52,11 +53,22 @@ pub record KeepsOwners (world : Happened) : Type 0 where
 
 -- Handovers
 
+-- each later owner of the entry's point keeps it, at a durable place
+abbrev pub OwnersKeep : Happened → Entry → Type 0
+OwnersKeep world was = (grant : Granted) (owner : ServerId) → IsGranted (sent_in world) grant →
+    grant.owner ≡ Server owner → IsEarlier (sent_in world) was.table was.key was.term grant.term →
+    HasKept world.setup world.events owner grant.term was
+
+-- what a master has acknowledged, then or since, stands in its log at the acknowledged place; it is what the master
+-- has sent for that place; and each later owner keeps it
+pub record IsHandedOn (world : Happened) (m : ServerId) (ack : Ack) : Type 0 where
+  pub recorded : IsRecorded (log_of world.setup world.events m) ack
+  pub made : HasMade (sent_in world) m ack.seg ack.offset recorded.entry
+  pub kept : OwnersKeep world recorded.entry
+
 pub record KeepsWrites (world : Happened) : Type 0 where
   -- what was acknowledged is handed on to each later owner of its point
-  pub acknowledged : (m : ServerId) (ack : Ack) → HasAcknowledged (sent_in world) m ack →
-      IsHandedOn world.setup world.events m ack
+  pub acknowledged : (m : ServerId) (ack : Ack) → HasAcknowledged (sent_in world) m ack → IsHandedOn world m ack
   -- and so is what is durable
   pub durable : (m : ServerId) (s o : ℕ) → IsDurable world.setup world.events m s o →
-      (entry : Entry) × (entry_in (log_of world.setup world.events m) s o ≡ Some entry)
-      × OwnersKeep world.setup world.events entry
+      (entry : Entry) × (entry_in (log_of world.setup world.events m) s o ≡ Some entry) × OwnersKeep world entry

@@ -123,7 +123,10 @@ impl<A: Allocator + Clone> World<A> {
         ensures logs { KeepsLogs self.now }
         ensures owners { KeepsOwners self.now }
         ensures writes { KeepsWrites self.now }
-    {}
+    {
+        // what is true of its fields is known where one is named
+        let _ = &self.events;
+    }
 
     /// All events that have happened, in order.
     pub fn events(&self) -> &[Event]

@@ -5,15 +5,14 @@ scenario with a clean audit, and finds the breach of RULE.audit in each trace. T
 examples, are those that `explain` knows. With --build each RULE that is named, or all, is broken in a program, and what
 that tells compared; with --write it is written."""
 
-import re
+import json
 import subprocess
 
 from parts.program import ask
-from parts.tree import CRATES, EXAMPLES, TOP
+from parts.tree import EXAMPLES, TOP
 
 FOLDER = EXAMPLES / "broken"
 TOLD = (("run", "report"), ("trace", "trace"), ("picture", "html"))
-RULE = re.compile(r'^        name: "([^"]*)",$(.*?)^        example: "([^"]*)', re.M | re.S)
 
 
 def built(rule, program, writes):
@@ -66,9 +65,9 @@ def check(program, words=(), builds=False, writes=False):
         if builds or writes:
             yield from built(rule, program, writes)
         yield from differences(rule, program)
-    known = RULE.findall((CRATES / "rc_reasons/src/rules.rt").read_text())
-    for rule in sorted(names((TOP / "wrong/code").glob("*.edit")) ^ {name for name, _, _ in known}):
+    known = json.loads((TOP / "tools/ramseg/explain.json").read_text())["rules"]
+    for rule in sorted(names((TOP / "wrong/code").glob("*.edit")) ^ {rule["name"] for rule in known}):
         yield f"{rule}: one of wrong/code and `explain` does not know it"
-    for rule in sorted(names(FOLDER.glob("*.json")) ^ {name for name, _, example in known if example}):
+    for rule in sorted(names(FOLDER.glob("*.json")) ^ {rule["name"] for rule in known if rule["example"]}):
         yield f"{rule}: one of examples/broken and `explain` has no example of it"
     return f"{len(rules)} rules"

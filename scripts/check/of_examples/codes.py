@@ -9,9 +9,9 @@ from parts.tree import CRATES, EXAMPLES
 
 # what no scenario can show
 WITHOUT = {
-    6: "a log fills after 65,534 rolls of four deliveries or more, and a world takes 200,000 events; crates/parts_rows",
-    19: "a change of epoch 65,535 is not begun and nobody is told; a world takes 200,000 events; crates/parts_rows",
-    20: "a seat alone answers it, whose step is pending; crates/rc_wire_tests",
+    6: "a log fills after 65,534 rolls of four deliveries or more, and a world takes 200,000 events; crates/test_rows",
+    19: "a change of epoch 65,535 is not begun and nobody is told; a world takes 200,000 events; crates/test_rows",
+    20: "a seat alone answers it, whose step is pending; crates/test_calls",
 }
 
 # each rule, and what standard error says where it is broken
@@ -23,7 +23,7 @@ RULES = [
     ("0: a comma too few, or a second value", "a comma is missing before this"),
     ("0: other quotes", "JSON has texts and names in double quotes"),
     ("0: a number as JSON has none", "this number is too great, or written"),
-    ("0: a number out of range", "the number before this is too great"),
+    ("0: a number out of range", "this number is too great: numbers"),
     ("0: too deep", "127 deep"),
     ("0: no JSON", "this is no JSON from here on$"),
     ("1: no object", "the scenario has to be an object"),
@@ -122,5 +122,5 @@ def check(program):
             yield f"{rule}: no example"
         else:
             print(f"{rule}: {found.stem}")
-    print("0: more than 16,777,216 bytes: no file here, for its size; crates/ramseg_rows has it")
+    print("0: more than 16,777,216 bytes: no file here, for its size; crates/test_rows has it")
     return f"{codes} codes, of which {len(WITHOUT)} can not be shown"

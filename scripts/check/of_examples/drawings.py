@@ -2,11 +2,12 @@
 event; an arrow leads from where a message was sent to where it was delivered. The marks are those of the page that
 `picture` makes; the legend at the foot of each has them. With --write they are drawn anew."""
 
-import json
 import re
 
 from parts.program import ask
 from parts.tree import EXAMPLES, TOP
+from story.reading import read_story
+from story.telling import told
 
 DRAWN = ("first-write", "roll", "backup-replaced", "zombie", "recovery")
 ROW, COLUMN, LEFT, RIGHT = 17, 150, 126, 24
@@ -341,8 +342,8 @@ class Picture:
 
 def check(program, writes=False):
     for name in DRAWN:
-        told = ask(program, "log", "--json", given=EXAMPLES / f"{name}.json").printed
-        file, text = TOP / f"docs/pictures/{name}.svg", Picture(name, json.loads(told)).text()
+        story = read_story(ask(program, "log", "--json", given=EXAMPLES / f"{name}.json").printed)
+        file, text = TOP / f"docs/pictures/{name}.svg", Picture(name, told(story)).text()
         if writes:
             file.write_text(text)
         elif not file.exists() or file.read_text() != text:

@@ -1,8 +1,9 @@
 """For each scenario of examples/ `log --json` fits docs/schemas/log.json and agrees with the report of `run`
-(acknowledgements, where the run stopped), `log` has a line for each event and each message, `picture` is a page that
-holds just that JSON and names no other place, and `picture --mermaid` has each message that arrives. Where a browser is
-there (chromium), it loads each page at two widths, and shows no error, the rows, the verdict in the title, and at the head
-each zombie and the first stale reads."""
+(acknowledgements, where the run stopped). What tools/story makes of it agrees with it: the log has a line for each event,
+the page holds just this story and names no other place, and the diagram has each message that arrives. Where there is a
+NAME.log or a NAME.mermaid, they are just that. The pages of examples/broken are of the parts that page/ has; with --write
+they get these. Where a browser is there (chromium), it loads each page at two widths, and shows no error, the rows, the
+verdict in the title, and at the head each zombie and the first stale reads."""
 
 import json
 import pathlib
@@ -10,10 +11,17 @@ import re
 import shutil
 import subprocess
 import tempfile
+from html import unescape
 
 from of_examples.schemas import judge_of
 from parts.program import ask
 from parts.tree import EXAMPLES, TOP
+from story.log import log_text
+from story.mermaid import mermaid
+from story.page import page as page_of
+from story.page import page_around
+from story.reading import read_story
+from story.telling import told, told_json
 
 # drawn by `drawings`, with the same marks
 DRAWN = ("first-write", "roll", "backup-replaced", "zombie", "recovery")
@@ -21,28 +29,23 @@ BROWSERS = ("chromium", "chromium-browser", "google-chrome")
 
 
 def disagreements(program, scenario, fits):
-    """What is wrong with the log and the pictures of a scenario."""
+    """What is wrong with the story of a scenario, and with what is made of it."""
     report = scenario.with_suffix(".report").read_text()
     status = 2 if report.startswith(("error", "stopped")) or "\nstopped" in report else 0
-    told = {words: ask(program, *words, given=scenario)[:2] for words in
-            (("log",), ("log", "--json"), ("picture",), ("picture", "--mermaid"))}
-    for words, (ended, _) in told.items():
-        if ended != status:
-            yield f"{' '.join(words)} ends with status {ended}, and not {status}"
+    answer = ask(program, "log", "--json", given=scenario)
+    if answer.status != status:
+        yield f"log --json ends with status {answer.status}, and not {status}"
     if report.startswith("error"):
-        # the script ./ramseg says an error of a page or of JSON on standard error alone
-        whole = {("log", "--json"), ("picture",), ("picture", "--mermaid")}
-        for words, (_, text) in told.items():
-            if text != report.splitlines(keepends=True)[0] and not (words in whole and not text):
-                yield f"{' '.join(words)} prints something else than run"
+        # the script ./ramseg says an error of JSON on standard error alone
+        if answer.printed not in ("", report.splitlines(keepends=True)[0]):
+            yield "log --json prints something else than run"
         return
-    text = told["log", "--json"][1]
-    story = json.loads(text)
+    story = read_story(answer.printed)
     if not fits(story):
         yield "log --json does not fit its schema"
-    if [it for event in story["events"] for it in event["sent"]] != [it["n"] for it in story["messages"]]:
+    if [it for event in story["events"] for it in event["sent"]] != list(range(len(story["messages"]))):
         yield "the events do not send the messages in order"
-    if f"audit {story['audit']}" not in report.splitlines() or f"audit {story['audit']}" not in told["log",][1]:
+    if f"audit {story['audit']}" not in report.splitlines():
         yield "another verdict than in the report"
     acknowledged = sum(it["kind"] == "WriteOk" for it in story["messages"])
     if acknowledged != len(re.findall("^ack ", report, re.M)):
@@ -50,17 +53,33 @@ def disagreements(program, scenario, fits):
     stopped = re.search(r"^stopped (F\d+) at event (\d+)$", report, re.M)
     if (stopped and {"code": stopped[1], "place": int(stopped[2])}) != story["stopped"]:
         yield "it stops at another place than the report"
-    lines = told["log",][1].splitlines()
-    if sum(it.startswith("event ") for it in lines) != len(story["events"]):
-        yield "log has another number of events"
-    page = told["picture",][1]
-    if page.count(text) != 1 or re.search(r"(src|href)\s*=\s*[\"']?(?!data:)\w", page):
+    yield from differences(story)
+    for ending, made in ((".log", log_text), (".mermaid", mermaid)):
+        file = scenario.with_suffix(ending)
+        if file.exists() and file.read_text() != made(story):
+            yield f"{file.name} is another text"
+
+
+def differences(story):
+    """Where what is made of a story differs from it."""
+    words = told(story)
+    lines = log_text(story).splitlines()
+    if sum(it.startswith("event ") for it in lines) != len(story["events"]) or f"audit {story['audit']}" not in lines:
+        yield "the log has another number of events, or another verdict"
+    page = page_of(story)
+    if page.count(told_json(words)) != 1 or re.search(r"(src|href)\s*=\s*[\"']?(?!data:)\w", page):
         yield "the page has not just this story, or asks for something else"
-    arrived = sum(len(it["delivered"]) for it in story["messages"] if it["to"] != "out")
-    arrows = len(re.findall(r"^    \w+->>(?!out)\w+: ", told["picture", "--mermaid"][1], re.M))
-    crossed = sum("why" in event for event in story["events"])
+    arrived = sum(len(it["delivered"]) for it in words["messages"] if it["to"] != "out")
+    arrows = len(re.findall(r"^    \w+->>(?!out)\w+: ", mermaid(story), re.M))
+    crossed = sum("why" in event for event in words["events"])
     if arrows != arrived - crossed:
         yield f"the diagram has {arrows} arrows that arrive, and not {arrived - crossed}"
+
+
+def with_parts(page):
+    """The parts of page/ around the story of this page."""
+    title, told_story = re.search('<title>(.*?)</title>.*?id="story">(.*?)</script>', page, re.S).groups()
+    return page_around(told_story, unescape(title))
 
 
 def findings(story):
@@ -153,18 +172,24 @@ def handled(browser, page):
     return [] if told == ["nothing"] else [f"by hand: {told[0] if told else 'nothing was tried'}"]
 
 
-def check(program):
+def check(program, writes=False):
     fits = judge_of(json.loads((TOP / "docs/schemas/log.json").read_text()))
     browser = next(filter(None, map(shutil.which, BROWSERS)), None)
     scenarios = sorted(EXAMPLES.glob("*.json"))
+    for page in sorted((EXAMPLES / "broken").glob("*.html")):
+        text = with_parts(page.read_text())
+        if writes:
+            page.write_text(text)
+        elif text != page.read_text():
+            yield f"{page.name} has other parts than page/"
     with tempfile.TemporaryDirectory() as room:
         page = pathlib.Path(room, "page.html")
         for scenario in scenarios:
             found = list(disagreements(program, scenario, fits))
             if browser and not scenario.with_suffix(".report").read_text().startswith("error"):
-                page.write_text(ask(program, "picture", given=scenario).printed)
-                story = json.loads(ask(program, "log", "--json", given=scenario).printed)
-                found += [it for width in (375, 1440) for it in browsed(browser, page, width, story)]
+                story = read_story(ask(program, "log", "--json", given=scenario).printed)
+                page.write_text(page_of(story))
+                found += [it for width in (375, 1440) for it in browsed(browser, page, width, told(story))]
                 if scenario.stem == "zombie":
                     found += handled(browser, page)
             yield from (f"{scenario.name}: {it}" for it in found)

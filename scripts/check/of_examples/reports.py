@@ -1,24 +1,19 @@
 """`run` of NAME.json prints NAME.report, `audit` of NAME.trace NAME.audit, and `trace` and `history` of NAME.json
 NAME.trace and NAME.history, where there are both, with the status of the last lines: 2 for `error` and `stopped`, 1 for
-a breach, else 0. NAME.txt is a script, of which `script` makes NAME.json. What is a row of crates/ramseg_rows, which
-the gate runs, is compared with that row's answer."""
+a breach, else 0. NAME.txt is a script, of which `script` makes NAME.json. What is a row of crates/test_rows, which the
+gate runs, is compared with that row's answer."""
 
 import json
-import subprocess
 
-from parts.program import ask
-from parts.tree import CRATES, EXAMPLES, TOP
-
-
-def sections(name):
-    """The texts of the rows that this file has, each from its title on."""
-    return ("\n" + (CRATES / "ramseg_rows" / name).read_text()).split("\n== ")[1:]
+from parts.program import ask, tell
+from parts.rows import command_lines
+from parts.tree import EXAMPLES
 
 
 def answers():
     """What each row answers, by its command line and its input."""
     found = {}
-    for row, answer in zip(sections("stdin"), sections("stdout"), strict=True):
+    for row, answer in zip(command_lines("stdin"), command_lines("stdout"), strict=True):
         head, _, body = row.partition("\n\n")
         words = [line.removeprefix("args: ") for line in head.split("\n")[1:]]
         if len(words) == 1:
@@ -64,7 +59,7 @@ def check(program):
             yield f"{command} of {given.name} from {output.name}, with status {status}"
     for script in sorted(EXAMPLES.glob("*.txt")):
         runs += 1
-        made = subprocess.run([TOP / "scripts/ramseg/script-scenario", program, script], capture_output=True, text=True)
-        if made.returncode != 0 or json.loads(made.stdout) != json.loads(script.with_suffix(".json").read_text()):
-            yield f"script of {script.name}; {made.stderr}"
+        made = tell(program, "script", script)
+        if made.status != 0 or json.loads(made.printed) != json.loads(script.with_suffix(".json").read_text()):
+            yield f"script of {script.name}; {made.said}"
     return f"{compared} compared with rows, {runs} runs"

@@ -1,5 +1,5 @@
 """Each scenario and trace of examples/ fits its schema in docs/schemas exactly where its report is no `error`, and so
-does each line of its histories, and each document that a row of crates/ramseg_rows with `--format json` prints. An
+does each line of its histories, and each document that `--format json` gives of these and of drawn runs. An
 editor finds them by `.vscode/settings.json`: all that fit, and also a file NAME.scenario.json and a NAME.trace. A
 FOLDER has further inputs: NAME.stdin, with the command in NAME.args and what the program prints in NAME.stdout. The
 library jsonschema judges where it is there, else the few words that the schemas use are judged here."""
@@ -8,7 +8,8 @@ import json
 import pathlib
 import re
 
-from parts.tree import CRATES, EXAMPLES, TOP
+from parts.program import tell
+from parts.tree import EXAMPLES, TOP
 
 TYPES = {"object": dict, "array": list, "string": str, "boolean": bool, "integer": int, "null": type(None)}
 
@@ -110,15 +111,20 @@ def schema_of(words):
     return {"fuzz": "run"}.get(command, command)
 
 
-def documents():
-    """What the rows print in place of a text, each with its schema."""
-    rows = CRATES / "ramseg_rows"
-    asked = re.findall(r"^== (.*)\nargs: (.*)$", (rows / "stdin").read_text(errors="replace"), re.M)
-    told = dict(re.findall(r"^== (.*)\nstatus \d\n(.*)$", (rows / "stdout").read_text(errors="replace"), re.M))
-    for title, line in asked:
-        words = line.replace("=", " ").split()
-        if {"--format", "json"} <= {*words} and "--save" not in words and told.get(title, "").startswith("{"):
-            yield schema_of(words), title, b"", told[title].encode()
+DRAWN = ("fuzz --steps 200", "fuzz --steps 200 --free", "stops --steps 20", "stops --explored --steps 20",
+         "explore --steps 300", "explore --steps 300 --free", "explore --seeds 1..3 --steps 100", "explore --until roll",
+         "explain", "explain F18", "explain write", "explain stores_after_gather")
+
+
+def documents(program):
+    """What `--format json` gives in place of a text, each with its schema."""
+    asked = [(["run"], file) for file in sorted([*EXAMPLES.glob("*.json"), *(EXAMPLES / "codes").glob("*.json")])]
+    asked += [(["audit"], file) for file in sorted([*EXAMPLES.glob("*.trace"), *(EXAMPLES / "broken").glob("*.trace")])]
+    asked += [(line.split(), b"") for line in DRAWN]
+    for words, given in asked:
+        printed = tell(program, *words, "--format", "json", given=given).printed
+        if printed:
+            yield schema_of(words), f"{' '.join(words)} of {given or 'nothing'}", b"", printed.encode()
 
 
 def unmapped():
@@ -136,7 +142,7 @@ def check(program, words=()):
     kinds = ("scenario", "trace", "history", "run", "audit", "stops", "explore", "survey", "until", "explain")
     judges = {kind: judge_of(json.loads((TOP / f"docs/schemas/{kind}.json").read_text())) for kind in kinds}
     number = refused = 0
-    for kind, file, printed, data in [*inputs(words), *documents()]:
+    for kind, file, printed, data in [*inputs(words), *documents(program)]:
         value = value_of(data)
         taken = not printed.startswith(b"error")
         number, refused = number + 1, refused + (not taken)

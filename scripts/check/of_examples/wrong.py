@@ -5,7 +5,7 @@ stop. Each scenario of examples/hints/ goes through, with what NAME.hint has on 
 import difflib
 import re
 
-from parts.program import ask
+from parts.program import tell
 from parts.tree import EXAMPLES
 
 ENDS = re.compile(r"(error F17 at|stopped F18 at event) \d+")
@@ -27,14 +27,14 @@ def check(program):
         wanted = file.with_suffix(".error").read_text()
         for command in ("run", "trace") if file.suffix == ".json" else ("audit",):
             number += 1
-            status, printed, said = ask(program, command, given=file)
+            status, printed, said = tell(program, command, given=file)
             last = last_line(printed)
             if status != 2 or said != wanted or command != "trace" and not ENDS.fullmatch(last):
                 yield f"{command} of {file.name}, status {status}, {last}{told(said, wanted)}"
     for file in sorted((EXAMPLES / "hints").glob("*.json")):
         number += 1
         wanted = file.with_suffix(".hint").read_text()
-        status, printed, said = ask(program, "run", given=file)
+        status, printed, said = tell(program, "run", given=file)
         if status != 0 or last_line(printed) != "audit clean" or said != wanted:
             yield f"the hints at {file.name}, {last_line(printed)}{told(said, wanted)}"
     return f"{number} runs"

@@ -1,54 +1,41 @@
 //! What an event changes at a master and in the replicas of a backup.
 
-use crate::telling::standing::{newest, replica_at};
+use crate::telling::standing::{newest, phase_name, put_replica};
 use rc_backup::Held;
-use rc_telling::Changes;
+use rc_story::JsonWriter;
 use rc_types::{Addr, Body, Event, Message, ServerId};
 use rc_world::World;
-use std::alloc::{AllocError, Global};
+use std::alloc::Global;
 
-/// The event of this number, which has happened at this host of the world.
-#[derive(Clone, Copy)]
-struct Place<'a> {
-    at: usize,
-    host: u8,
-    world: &'a World<Global>,
+/// The master of the host at which the event happens, and the name of its phase, if there is one.
+pub(crate) fn phase_at(event: &Event, world: &World<Global>) -> Option<(ServerId, &'static str)> {
+    let host = host_of(event, world.sent())?;
+    let master = world.master(host)?;
+    Some((master.id(), phase_name(master)))
 }
 
-impl Place<'_> {
-    /// What the host keeps of a master, if anything.
-    fn held(&self, master: ServerId) -> Option<&Held> {
-        self.world.backup(self.host)?.kept().get(&master)
-    }
-}
-
-/// Notes what the event of this number has changed, which has happened in the world.
-pub(crate) fn note_change(
-    at: usize,
+/// What an event has changed, which has happened in the world: the phase of its master, which was this one before, and
+/// replicas that it may have changed.
+pub(crate) fn put_changes(
+    writer: &mut JsonWriter,
     event: &Event,
     world: &World<Global>,
-    changes: &mut Changes,
-) -> Result<(), AllocError> {
+    before: Option<(ServerId, &'static str)>,
+) {
     let Some(host) = host_of(event, world.sent()) else {
-        return Ok(());
+        return;
     };
-    let place = Place { at, host, world };
-    if let Some(master) = world.master(host) {
-        let phase = master.log().phase();
-        changes.note_phase(at, master.id(), phase, master.is_deposed())?;
+    if let Some((id, phase)) = phase_at(event, world) {
+        if before.is_none_or(|before| before.0 != id || before.1 != phase) {
+            writer.word_member("master", id);
+            writer.word_member("phase", phase);
+        }
     }
     match event {
-        Event::Deliver(message) => note_delivery(place, *message, changes)?,
-        Event::Start { .. } => {
-            if let Some(backup) = world.backup(host) {
-                for master in backup.kept().keys() {
-                    note_all(place, *master, changes)?;
-                }
-            }
-        }
-        _ => {}
+        Event::Deliver(number) => put_delivery(writer, host, world, *number),
+        Event::Start { .. } => put_kept(writer, host, world),
+        Event::Ask { .. } | Event::Tick(_) | Event::Stop(_) | Event::Order(_) => {}
     }
-    Ok(())
 }
 
 /// The host at which an event happens, if it happens at one.
@@ -58,7 +45,7 @@ fn host_of(event: &Event, messages: &[Message]) -> Option<u8> {
         Event::Tick(addr) => *addr,
         Event::Stop(id) => Addr::Server(*id),
         Event::Start { host, .. } => return Some(*host),
-        _ => Addr::Outside,
+        Event::Ask { .. } | Event::Order(_) => return None,
     };
     match addr {
         Addr::Server(id) => Some(id.index),
@@ -66,50 +53,82 @@ fn host_of(event: &Event, messages: &[Message]) -> Option<u8> {
     }
 }
 
-/// Notes what the delivery of this message has changed in the replicas of the host.
-fn note_delivery(
-    place: Place<'_>,
-    message: usize,
-    changes: &mut Changes,
-) -> Result<(), AllocError> {
-    let Some(delivered) = place.world.sent().get(message) else {
-        return Ok(());
-    };
-    match (delivered.from, &delivered.body) {
-        (
-            Addr::Server(master),
-            Body::Place { seg, .. }
-            | Body::Append { seg, .. }
-            | Body::Close { seg, .. }
-            | Body::Free { seg },
-        ) => note_one(place, master, *seg, changes),
-        (_, Body::Gather { master, .. }) => note_all(place, *master, changes),
-        _ => Ok(()),
+/// All replicas that a host keeps.
+fn put_kept(writer: &mut JsonWriter, host: u8, world: &World<Global>) {
+    if let Some(backup) = world.backup(host) {
+        writer.name("copies");
+        writer.open("[");
+        for (master, held) in backup.kept() {
+            put_all(writer, newest(host, world), *master, held);
+        }
+        writer.close("]");
     }
 }
 
-/// Notes how one replica stands, or that it is gone, where the host has kept something of the master.
-fn note_one(
-    place: Place<'_>,
-    master: ServerId,
-    seg: u16,
-    changes: &mut Changes,
-) -> Result<(), AllocError> {
-    let Some(held) = place.held(master) else {
-        return Ok(());
+/// The replicas of the host that the delivery of this message may have changed.
+fn put_delivery(writer: &mut JsonWriter, host: u8, world: &World<Global>, number: usize) {
+    let touched = world.sent().get(number).and_then(touched_by);
+    let Some((master, seg)) = touched else {
+        return;
     };
-    let standing = replica_at(newest(place.host, place.world), master, seg, held);
-    let is_gone = held.replicas().get(&seg).is_none();
-    changes.note_replica(place.at, standing, is_gone)
+    let backup = world.backup(host);
+    let Some(held) = backup.and_then(|backup| backup.kept().get(&master)) else {
+        return;
+    };
+    let holder = newest(host, world);
+    writer.name("copies");
+    writer.open("[");
+    match seg {
+        Some(seg) => put_copy(writer, holder, master, seg, held),
+        None => put_all(writer, holder, master, held),
+    }
+    writer.close("]");
 }
 
-/// Notes how all replicas of a master stand that the host keeps.
-fn note_all(place: Place<'_>, master: ServerId, changes: &mut Changes) -> Result<(), AllocError> {
-    let Some(held) = place.held(master) else {
-        return Ok(());
-    };
+/// The master of which a message may change replicas, and the segment; no segment, where it may change all of them.
+fn touched_by(message: &Message) -> Option<(ServerId, Option<u16>)> {
+    match &message.body {
+        Body::Place { seg, .. }
+        | Body::Append { seg, .. }
+        | Body::Close { seg, .. }
+        | Body::Free { seg } => match message.from {
+            Addr::Server(master) => Some((master, Some(*seg))),
+            Addr::Coordinator | Addr::Outside => None,
+        },
+        Body::Gather { master, .. } => Some((*master, None)),
+        Body::Write { .. }
+        | Body::Read { .. }
+        | Body::WriteOk { .. }
+        | Body::ReadOk { .. }
+        | Body::Refused { .. }
+        | Body::Stored { .. }
+        | Body::Commit { .. }
+        | Body::CommitOk { .. }
+        | Body::Enlist
+        | Body::Ready
+        | Body::List { .. }
+        | Body::Replicas { .. }
+        | Body::Plan { .. }
+        | Body::Fetch { .. }
+        | Body::Data { .. }
+        | Body::Recovered { .. }
+        | Body::Own { .. }
+        | Body::SplitOk { .. } => None,
+    }
+}
+
+/// How all replicas of a master stand that a backup keeps.
+fn put_all(writer: &mut JsonWriter, holder: ServerId, master: ServerId, held: &Held) {
     for seg in held.replicas().keys() {
-        note_one(place, master, *seg, changes)?;
+        put_copy(writer, holder, master, *seg, held);
     }
-    Ok(())
+}
+
+/// How a replica stands, or that it is gone.
+fn put_copy(writer: &mut JsonWriter, holder: ServerId, master: ServerId, seg: u16, held: &Held) {
+    let is_gone = held.replicas().get(&seg).is_none();
+    writer.open("{");
+    put_replica(writer, holder, master, seg, held);
+    writer.member("gone", is_gone);
+    writer.close("}");
 }

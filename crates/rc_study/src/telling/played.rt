@@ -1,46 +1,38 @@
-//! A scenario that was played, with what is noted of its run.
+//! A scenario that was played, and the story of its run.
 
 ghost use Rattle.rc_world.specs.HostView.{IsWithinLimits};
 
-use crate::telling::changing::note_change;
-use crate::telling::standing::standing_in;
+use crate::telling::changing::{phase_at, put_changes};
+use crate::telling::standing::{put_masters, put_replicas};
 use rc_audit::audit;
 use rc_reading::ScenarioEvent;
 use rc_runs::Run;
-use rc_telling::{Changes, Notes, Standing, Step, Story};
-use rc_types::{Addr, Breach, Code, Event, Fault, Setup, TryClone};
+use rc_story::{JsonWriter, put_event, put_message, put_setup};
+use rc_types::{Addr, Body, Code, Event, Fault, Message, Setup, TryClone};
 use rc_world::World;
 use std::alloc::{AllocError, Global};
 use std::slice;
 
 /// A scenario that was played, up to the first event that is not possible.
 pub struct Played {
-    /// The world after it.
-    world: World<Global>,
-    notes: Notes,
-    changes: Changes,
-    standing: Standing,
-    /// What the audit finds in what was sent.
-    breach: Option<Breach>,
+    run: Run<Global>,
+    /// Of each event of the world, the place of what it comes from in the scenario.
+    places: Vec<usize>,
     stopped: Option<(usize, Code)>,
 }
 
 impl Drop for Played {
     fn drop(self) {
         let Played {
-            world: _,
-            notes: _,
-            changes: _,
-            standing: _,
-            breach: _,
+            run: _,
+            places: _,
             stopped: _,
         } = self;
     }
 }
 
 impl Played {
-    /// Plays the scenario, judges what was sent, and takes the same events once more, one after another, to note what
-    /// each of them did.
+    /// Plays the scenario.
     ///
     /// # Errors
     ///
@@ -51,30 +43,9 @@ impl Played {
         let mut run = Run::new(alloc, setup.try_clone(alloc)?, alloc);
         let mut places = Vec::new(alloc);
         let stopped = play_through(alloc, &mut run, &mut places, events)?;
-        let breach = audit(alloc, run.world().sent()).map_err(|_| AllocError)?;
-        let mut world = World::new(alloc, setup.try_clone(alloc)?, alloc);
-        let mut notes = Notes::new(alloc);
-        let mut changes = Changes::new(alloc);
-        for (number, (event, place)) in run.world().events().iter().zip(&places).enumerate() {
-            let first = world.sent().len();
-            let log_end = log_end_at(&world, event);
-            world.take(alloc, event).map_err(|_| AllocError)?;
-            note_change(number, event, &world, &mut changes)?;
-            let step = Step {
-                place: *place,
-                first,
-                end: world.sent().len(),
-                log_end,
-            };
-            notes.take(alloc, event, step, world.sent())?;
-        }
-        let standing = standing_in(alloc, &world)?;
         Ok(Played {
-            world,
-            notes,
-            changes,
-            standing,
-            breach,
+            run,
+            places,
             stopped,
         })
     }
@@ -84,22 +55,9 @@ impl Played {
         self.stopped
     }
 
-    /// How many messages were sent.
-    pub fn sent(&self) -> usize {
-        self.world.sent().len()
-    }
-
-    /// The story of the run.
-    pub fn story(&self) -> Story<'_> {
-        Story {
-            events: self.world.events(),
-            messages: self.world.sent(),
-            notes: &self.notes,
-            changes: &self.changes,
-            standing: &self.standing,
-            breach: self.breach,
-            stopped: self.stopped,
-        }
+    /// The messages that were sent.
+    pub fn messages(&self) -> &[Message] {
+        self.run.world().sent()
     }
 }
 
@@ -123,15 +81,112 @@ fn play_through(
     Ok(None)
 }
 
-/// Where the log of the master ends to which the event delivers something.
+/// The story of a run of this setup, as one JSON value. The same events are taken once more, one after another, to see
+/// what each of them does.
+///
+/// # Errors
+///
+/// Memory was refused.
+pub fn story_json(alloc: Global, setup: &Setup, played: &Played) -> Result<String, AllocError>
+    requires { IsWithinLimits setup.now }
+{
+    let mut writer = JsonWriter::new(alloc);
+    writer.open("{");
+    put_setup(&mut writer, setup);
+    writer.name("events");
+    writer.open("[");
+    let mut world = World::new(alloc, setup.try_clone(alloc)?, alloc);
+    for (event, place) in played.run.world().events().iter().zip(&played.places) {
+        writer.line();
+        put_turn(alloc, &mut writer, &mut world, event, *place)?;
+    }
+    writer.close("]");
+    writer.name("messages");
+    writer.open("[");
+    for message in world.sent() {
+        writer.line();
+        put_message(&mut writer, message);
+    }
+    writer.close("]");
+    put_masters(&mut writer, &world);
+    put_replicas(&mut writer, &world);
+    put_end(alloc, &mut writer, &world, played.stopped)?;
+    writer.close("}");
+    writer.end_line()
+}
+
+/// An event, which the world takes: its place in the scenario, what it says, the numbers of what it sent, and what it
+/// changed.
+fn put_turn(
+    alloc: Global,
+    writer: &mut JsonWriter,
+    world: &mut World<Global>,
+    event: &Event,
+    place: usize,
+) -> Result<(), AllocError> {
+    writer.open("{");
+    writer.member("place", place);
+    put_event(writer, event);
+    put_log_end(writer, world, event);
+    let before = phase_at(event, world);
+    let first = world.sent().len();
+    world.take(alloc, event).map_err(|_| AllocError)?;
+    writer.name("sent");
+    writer.open("[");
+    for number in first..world.sent().len() {
+        writer.value(number);
+    }
+    writer.close("]");
+    put_changes(writer, event, world, before);
+    writer.close("}");
+    Ok(())
+}
+
+/// Where the log of the master ends to which the event delivers a write.
+fn put_log_end(writer: &mut JsonWriter, world: &World<Global>, event: &Event) {
+    if let Some((seg, offset)) = log_end_at(world, event) {
+        writer.name("log_end");
+        writer.open("{");
+        writer.member("seg", seg);
+        writer.member("offset", offset);
+        writer.close("}");
+    }
+}
+
+/// The segment and the offset at which the log of the master ends to which the event delivers a write, if it has one.
 fn log_end_at(world: &World<Global>, event: &Event) -> Option<(u16, usize)> {
     let Event::Deliver(number) = event else {
         return None;
     };
-    let Addr::Server(id) = world.sent().get(*number)?.to else {
+    let message = world.sent().get(*number)?;
+    let (Addr::Server(id), Body::Write { .. }) = (message.to, &message.body) else {
         return None;
     };
     let log = world.master(id.index)?.log();
     let head = log.head();
     Some((head, log.segment(head)?.len()))
+}
+
+/// What the audit finds in the messages, and where the run stopped.
+fn put_end(
+    alloc: Global,
+    writer: &mut JsonWriter,
+    world: &World<Global>,
+    stopped: Option<(usize, Code)>,
+) -> Result<(), AllocError> {
+    match audit(alloc, world.sent()).map_err(|_| AllocError)? {
+        Some(breach) => writer.word_member("audit", breach),
+        None => writer.word_member("audit", "clean"),
+    }
+    writer.name("stopped");
+    match stopped {
+        Some((place, code)) => {
+            writer.open("{");
+            writer.word_member("code", code);
+            writer.member("place", place);
+            writer.close("}");
+        }
+        None => writer.value("null"),
+    }
+    Ok(())
 }

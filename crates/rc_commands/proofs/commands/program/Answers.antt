@@ -9,6 +9,5 @@ returns c =
     let exploring = c.in_ok-exploring.ensures spec.explore c.explore.ensures ∙ ap (and spec.explore) c.in_ok-running.ensures in
     let shrinking = c.in_ok-shrinking.ensures spec.shrink c.shrink.ensures ∙ ap (and spec.shrink) exploring in
     let healing = c.in_ok-healing.ensures spec.heal c.heal.ensures ∙ ap (and spec.heal) shrinking in
-    let explaining = c.in_ok-explaining.ensures spec.explain c.explain.ensures ∙ ap (and spec.explain) healing in
-    let telling = c.in_ok-telling.ensures spec.history c.history.ensures ∙ ap (and spec.history) explaining in
-    IfOk-weaker c.with-6.result _ _ (λ p h. h spec.check c.check.ensures ∙ ap (and spec.check) telling) c.with-6.ensures
+    let telling = c.in_ok-telling.ensures spec.history c.history.ensures ∙ ap (and spec.history) healing in
+    IfOk-weaker c.with-5.result _ _ (λ p h. h spec.check c.check.ensures ∙ ap (and spec.check) telling) c.with-5.ensures

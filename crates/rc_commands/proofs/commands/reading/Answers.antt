@@ -9,5 +9,4 @@ returns c =
     let replaying = c.in_ok-replaying.ensures spec.run c.run.ensures ∙ ap (and spec.run) c.in_ok-alone.ensures in
     let tracing = c.in_ok-tracing.ensures spec.trace c.trace.ensures ∙ ap (and spec.trace) replaying in
     let judging = c.in_ok-judging.ensures spec.audit c.audit.ensures ∙ ap (and spec.audit) tracing in
-    let telling = c.in_ok-telling.ensures spec.log c.log.ensures ∙ ap (and spec.log) judging in
-    IfOk-weaker c.with-5.result _ _ (λ p h. h spec.picture c.picture.ensures ∙ ap (and spec.picture) telling) c.with-5.ensures
+    IfOk-weaker c.with-4.result _ _ (λ p h. h spec.log c.log.ensures ∙ ap (and spec.log) judging) c.with-4.ensures

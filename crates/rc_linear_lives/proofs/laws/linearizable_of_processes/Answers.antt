@@ -1,11 +1,12 @@
 use Rattle.rc_linear_lives.proofs.OfProcesses.{linearizable-of-processes, each-write-of-processes, what-leaves-was-done}
-use Rattle.rc_linear_lives.proofs.OfProcesses.{says-the-same}
+use Rattle.rc_linear_lives.proofs.OfProcesses.{says-the-same, conditional-writes-of-processes}
 use Rattle.rc_linear_lives.proofs.laws.linearizable_of_processes.Goals as goal
 
 pub returns : goal.returns
 returns c = record {
   processes = linearizable-of-processes;
   same = says-the-same;
+  conditional = conditional-writes-of-processes;
   writes = each-write-of-processes;
   sent = what-leaves-was-done;
 }

@@ -3,9 +3,9 @@ use Rattle.rc_sim.proofs.NoBreaches.{world_answer}
 use Rattle.rc_sim.proofs.drawing.drawn_answer.Goals as goal
 
 pub returns-in-Ok-clause-ok : goal.returns-in-Ok-clause-ok
-returns-in-Ok-clause-ok g c =
-    drawn_of c.ended.result c.in-Ok.world c.args.seed c.args.steps c.args.free c.in-Ok.ensures.world
-    c.ended.ensures.verdict c.ended.ensures.text
+returns-in-Ok-clause-ok g =
+    drawn_of g.ended.result g.in-Ok.world g.args.seed g.args.steps g.args.free g.in-Ok.ensures.world
+    g.ended.ensures.verdict g.ended.ensures.text
 
 pub returns-in-Ok-clause-no_breach : goal.returns-in-Ok-clause-no_breach
-returns-in-Ok-clause-no_breach g c = world_answer c.ended.result c.in-Ok.world c.ended.ensures.verdict
+returns-in-Ok-clause-no_breach g = world_answer g.ended.result g.in-Ok.world g.ended.ensures.verdict

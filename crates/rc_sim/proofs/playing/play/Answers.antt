@@ -10,7 +10,7 @@ use Rattle.rc_sim.proofs.playing.play.Goals as goal
 pub returns-clause-answered : goal.returns-clause-answered
 returns-clause-answered g c =
     let answer = c.in_ok-answer.answer in
-    let done = c.finish in
+    let done = c.write_answer in
     answered_of (g.R.Read.remaining c.args.reader.now.inner) c.in_ok-bytes.bytes.items c.as_slice.result.now (Played c.args.output)
     done.result answer.verdict (string_bytes answer.text) (g.W.Write.contents c.args.writer.now.inner)
     (g.W.Write.contents done.new.writer.inner) c.in_ok-bytes.ensures.ok c.as_slice.ensures.value
@@ -20,7 +20,7 @@ returns-clause-answered g c =
 pub returns-clause-no_breach : goal.returns-clause-no_breach
 returns-clause-no_breach g c =
     let answer = c.in_ok-answer.answer in
-    no_breach_of c.finish.result answer.verdict c.finish.ensures.verdict
+    no_breach_of c.write_answer.result answer.verdict c.write_answer.ensures.verdict
     (played_is_none c.args.output (reading c.as_slice.result.now) answer.verdict (string_bytes answer.text) c.in_ok-answer.ensures.ok)
 
 pub returns-in_err-bytes-clause-answered : goal.returns-in_err-bytes-clause-answered

@@ -42,6 +42,7 @@ loop-index-preserved c =
         freed = ap log_of w.self-is ∙ freed-not log now c.loop-index.index c.loop-index.invariant.freed inside
             (c.stands.ensures.among w.if-stands.true);
         before = rw w.self-is c.loop-index.invariant.before;
+        counted = rw w.self-is c.loop-index.invariant.counted;
         all = c.loop-index.invariant.all;
         place = omega (arith, w.place-is, c.loop-index.invariant.place);
       }
@@ -49,6 +50,7 @@ loop-index-preserved c =
         freed = ap log_of w.self-is ∙ freed-more log now (log_of w.free_if_left_out.new.self) c.loop-index.index
             c.loop-index.invariant.freed inside w.free_if_left_out.ensures.freed;
         before = rw w.self-is (w.free_if_left_out.ensures.before ∙ c.loop-index.invariant.before);
+        counted = rw w.self-is (w.free_if_left_out.ensures.counted ∙ c.loop-index.invariant.counted);
         all = c.loop-index.invariant.all;
         place = omega (arith, w.place-is, c.loop-index.invariant.place);
       }

@@ -9,6 +9,7 @@ abbrev pub invariant-loop-index : goal.invariant-loop-index
 invariant-loop-index l = record {
   freed : log_of l.self ≡ with_freed (left_to (log_of l.fn.self) l.index) (log_of l.fn.self);
   before : before_of l.self ≡ before_of l.fn.self;
+  counted : l.self.counted ≡ l.fn.self.counted;
   all : l.count ≡ length (old_head_of (log_of l.fn.self)).digest;
   place : l.place ≤ l.index;
 }

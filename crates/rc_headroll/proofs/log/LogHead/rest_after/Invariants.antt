@@ -7,6 +7,7 @@ abbrev pub invariant-loop-seg : goal.invariant-loop-seg
 invariant-loop-seg l = record {
   log : log_of l.self ≡ log_of l.fn.self;
   before : before_of l.self ≡ before_of l.fn.self;
+  counted : l.self.counted ≡ l.fn.self.counted;
 }
 
 -- the segments that are left

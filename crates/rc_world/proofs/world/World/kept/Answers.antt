@@ -1,4 +1,6 @@
 use Rattle.rc_world.proofs.Keeping.{keeps-logs, keeps-owners, keeps-writes}
+use Rattle.rc_world.specs.Happened.{Happened}
+use Rattle.rc_world.specs.Kept.{KeepsWrites}
 use Rattle.rc_world.proofs.world.World.kept.Goals as goal
 
 pub returns-clause-logs : goal.returns-clause-logs
@@ -8,4 +10,7 @@ pub returns-clause-owners : goal.returns-clause-owners
 returns-clause-owners g c = keeps-owners _
 
 pub returns-clause-writes : goal.returns-clause-writes
-returns-clause-writes g c = keeps-writes _
+returns-clause-writes g c =
+    let opened : Happened = record { setup = c.self.inside.nodes.setup; events = c.self.inside.events.items } in
+    let inside : KeepsWrites opened = keeps-writes opened c.self.invariant.limits in
+    rw c.self.view_is at inside

@@ -1,0 +1,5 @@
+pub mod Store
+pub mod Leaders
+pub mod Claims
+pub mod OfLeaders
+pub mod Worked

@@ -1,6 +1,0 @@
-use Rattle.std.proofs.Common.{◌≡◌, true}
-use Rattle.rc_wire.specs.Runs.{none_fetched}
-use Rattle.rc_wire_tests.proofs.runs.add_writes.Given as goal
-
-abbrev pub invariant-loop : goal.invariant-loop
-invariant-loop l = none_fetched l.steps.items ≡ true

@@ -1,4 +1,0 @@
-use Rattle.rc_wire_tests.proofs.runs.first_write.Given as goal
-
-abbrev pub ghosts-run : goal.ghosts-run
-ghosts-run g a = record { wire = a.opening }

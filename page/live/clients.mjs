@@ -1,0 +1,50 @@
+// What the clients saw: a bar in time for each operation, by key, with the order that shows it linearizable, or with
+// what refutes that.
+import { operationsOf, orderOf, refutingIn } from "./operations.mjs";
+import { lettersOf } from "./spelling.mjs";
+import { byId, safe } from "./view.mjs";
+
+const LEFT = 210, RIGHT_SIDE = 20, ROW_HEIGHT = 22, MOST_OPERATIONS = 300, WIDTH = 900;
+
+const labelOf = ({ f, value, version, isOpen }) => {
+  const what = value === null ? "nothing" : `"${lettersOf(value)}"`;
+  return `${f === "write" ? "write" : "read of"} ${f === "read" && isOpen ? "?" : what}` +
+    (version === null ? ", no answer" : `, version ${version}`);
+};
+
+function keyPart(key, operations, last, refuting) {
+  const x = (time) => LEFT + time / last * (WIDTH - LEFT - RIGHT_SIDE), height = (operations.length + 1) * ROW_HEIGHT;
+  const rowOf = new Map(operations.map((one, row) => [one, row * ROW_HEIGHT + ROW_HEIGHT / 2]));
+  const bars = operations.map((one) => {
+    const isRefuting = one.lines.some((at) => refuting.has(at));
+    const kinds = `bar ${one.f}${one.isOpen ? " open" : ""}${isRefuting ? " refutes" : ""}`;
+    return `<text x="${LEFT - 8}" y="${rowOf.get(one) + 4}" text-anchor="end">${safe(labelOf(one))}</text>` +
+      `<rect class="${kinds}" x="${x(one.from)}" y="${rowOf.get(one) - 7}" height="14" rx="3" ` +
+      `width="${Math.max(4, x(one.until) - x(one.from))}"><title>${safe(labelOf(one))}, from message ${one.from} to ` +
+      `${one.until}</title></rect>`;
+  });
+  const order = orderOf(operations), points = order.map(({ one, moment }) => `${x(moment) + 2},${rowOf.get(one)}`);
+  const line = refuting.size > 0 || order.length < 2 ? "" : `<polyline class="order" points="${points.join(" ")}"/>`;
+  const numbers = refuting.size > 0 ? [] : order.map(({ one, moment }, place) =>
+    `<text x="${x(moment) + 6}" y="${rowOf.get(one) + 4}">${place + 1}</text>`);
+  const told = order.map(({ one }, place) => `${place + 1}. ${labelOf(one)}`).join("; ");
+  const drawn = `${bars.join("")}${line}${numbers.join("")}`, label = safe(`Operations of key ${key}, in order: ${told}`);
+  return `<h3>Key ${safe(key)}</h3><svg viewBox="0 0 ${WIDTH} ${height}" role="img" aria-label="${label}">${drawn}</svg>`;
+}
+
+// Shows a history with its verdict.
+export function showClients({ history, verdict }) {
+  const { operations, last } = operationsOf(history);
+  const isLinearizable = /^linearizable$/m.test(verdict), words = verdict.trim().split("\n").at(-1);
+  const refuting = isLinearizable ? new Set() : refutingIn(words);
+  const keys = [...new Set(operations.map(({ key }) => key))];
+  const told = isLinearizable ? "Linearizable: the line goes through the operations in an order that shows it." :
+    `Refuted: ${words}. The operations with a thick edge can't both stand in one order.`;
+  const few = operations.slice(0, MOST_OPERATIONS);
+  byId("clients").innerHTML = `<p>${safe(told)} A bar goes from a request to its answer, in time from left to ` +
+    "right; a dashed one has no answer. Reads that nobody confirmed are left out.</p>" +
+    keys.map((key) => [key, few.filter((one) => one.key === key)]).filter(([, list]) => list.length > 0)
+      .map(([key, list]) => keyPart(key, list, last, refuting)).join("") +
+    (operations.length > few.length ? `<p>and ${operations.length - few.length} operations more</p>` : "") +
+    (operations.length === 0 ? "<p>Nothing was acknowledged, and no read was confirmed.</p>" : "");
+}

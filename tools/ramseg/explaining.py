@@ -1,0 +1,210 @@
+"""`ramseg explain`: what a code, a message, an event, a rule or a word of the glossary means.
+
+The texts of the first four stand in `explain.json` beside this file. Words of the glossary, and the rules that
+`explore` counts, are read from the documents that define them.
+"""
+
+import json
+import pathlib
+from typing import NamedTuple
+
+from .nearest import question
+
+HERE = pathlib.Path(__file__).resolve().parent
+DOCUMENTS = HERE.parents[1] / "docs"
+WIDTH = 80
+"""How long a line gets, save where a word is longer."""
+
+KINDS = {"codes": "code", "messages": "message", "events": "event", "rules": "rule"}
+"""Each group of the data file, with the name of its member in a JSON document."""
+
+SECTIONS = {
+    "codes": {"when": "When it comes", "remedy": "What to do"},
+    "messages": {"has": "What it has", "says": "What it says", "then": "What comes of it"},
+    "events": {"example": "How it is written", "says": "What happens"},
+    "rules": {"keeps": "The rule", "without": "Without it", "example": "The example"},
+}
+"""The texts of each group below their titles, in order."""
+
+Texts = dict[str, str | int]
+"""What there is to say of one word: its name and its texts."""
+
+
+class Meaning(NamedTuple):
+    """What is told of a word."""
+
+    text: str
+    is_known: bool
+    """Whether the word names something; else the text is an error."""
+
+
+class Words:
+    """All words with their texts."""
+
+    def __init__(self) -> None:
+        data = json.loads((HERE / "explain.json").read_text())
+        self.groups: dict[str, list[Texts]] = {
+            group: [{name: _joined(text) for name, text in texts.items()} for texts in data[group]] for group in KINDS
+        }
+
+    def names(self, group: str) -> list[str]:
+        """The names of a group, in order."""
+        return [str(texts["name"]) for texts in self.groups[group]]
+
+    def code(self, number: int) -> Texts | None:
+        """The code of this number."""
+        return next((texts for texts in self.groups["codes"] if texts["number"] == number), None)
+
+    def find(self, word: str) -> dict[str, Texts]:
+        """All that a word names, by group, with small letters or capital ones; a code also by its number."""
+        found = {}
+        number = _code_number(word)
+        for group, listed in self.groups.items():
+            for texts in listed:
+                is_it = group == "codes" and texts["number"] == number
+                if is_it or number is None and str(texts["name"]).lower() == word.lower():
+                    found[group] = texts
+        return found
+
+
+def explain(word: str | None) -> Meaning:
+    """What a word means, or which words there are."""
+    words = Words()
+    if word is None:
+        return Meaning(_list(words), True)
+    found = words.find(word)
+    parts = [_told(group, texts) for group, texts in found.items()] or _from_documents(word)
+    if parts:
+        return Meaning("\n".join(parts), True)
+    known = [name for group in KINDS for name in words.names(group)] + _document_names()
+    asked = question(word, known)
+    return Meaning(f"error: '{word}' is no code, message, event, rule or word of the glossary{asked}\n\n"
+                   "`ramseg explain` lists them.\n", False)
+
+
+def document(word: str | None) -> str | None:
+    """The same as a JSON document, as docs/schemas/explain.json has it; None for a word that names nothing there."""
+    words = Words()
+    if word is None:
+        short = [{name: texts[name] for name in ("number", "name", "short")} for texts in words.groups["codes"]]
+        names = {group: words.names(group) for group in ("messages", "events", "rules")}
+        return _json({"format": 1, "codes": short, **names})
+    found = words.find(word)
+    if not found:
+        return None
+    return _json({"format": 1, **{member: found.get(group) for group, member in KINDS.items()}})
+
+
+def short_of_code(number: int) -> str | None:
+    """The line that names a code, as standard error has it where a run was refused something."""
+    texts = Words().code(number)
+    return texts and f"refused {number}: {texts['name']}, {texts['short']}"
+
+
+def _joined(text: str | int | list[str]) -> str | int:
+    """A text; a long one stands in lines in the data file."""
+    return " ".join(text) if isinstance(text, list) else text
+
+
+def _json(value: object) -> str:
+    return json.dumps(value, ensure_ascii=False, separators=(",", ":")) + "\n"
+
+
+def _code_number(word: str) -> int | None:
+    """The number that stands in the word by itself, or after an `F`."""
+    digits = word.lstrip("Ff")
+    return int(digits) if digits.isascii() and digits.isdigit() and len(digits) < 20 else None
+
+
+def _told(group: str, texts: Texts) -> str:
+    """What there is to say of what a word names."""
+    name = texts["name"]
+    heading = {
+        "codes": f"F{texts.get('number')} {name}: {texts.get('short')}",
+        "messages": f"{name}, a message {texts.get('way')}",
+        "events": f"{name}, an event of a scenario",
+        "rules": f"{name}, a rule that can be broken",
+    }[group]
+    told = heading + "\n"
+    for member, title in SECTIONS[group].items():
+        if texts[member]:
+            told += f"\n{title}\n{_wrapped(str(texts[member]).split())}\n"
+    if group == "rules":
+        scenario = f"examples/broken/{name}.json" if texts["example"] else "FILE"
+        told += f"\nTo see it\n  ./ramseg --without {name} run {scenario}\n"
+    return told
+
+
+def _wrapped(words: list[str]) -> str:
+    """These words in lines that are set in."""
+    lines = [""]
+    for word in words:
+        column = len(lines[-1]) + 2
+        if lines[-1] and column + len(word) >= WIDTH:
+            lines.append("")
+        lines[-1] += f" {word}" if lines[-1] else word
+    return "\n".join(f"  {line}" for line in lines)
+
+
+def _list(words: Words) -> str:
+    """A line for each code, and the names of the rest."""
+    longest = max(len(name) for name in words.names("codes"))
+    told = ""
+    for texts in words.groups["codes"]:
+        number = f"F{texts['number']}"
+        told += f"{number:<3}  {texts['name']:<{longest}}  {texts['short']}\n"
+    for group, title in (("messages", "Messages"), ("events", "Events"), ("rules", "Rules that can be broken")):
+        told += f"\n{title}\n{_wrapped(words.names(group))}\n"
+    return told + (
+        "\n`ramseg explain WORD` says more of one: of a code, as F18, 18 or BadEvent, of a name above, of a word of\n"
+        "docs/GLOSSARY.md, as zombie, or of a rule that `explore` counts, as roll.\n"
+    )
+
+
+def _rows(name: str, heading: str) -> list[list[str]]:
+    """The rows of the table of a document that begins with this heading; none, where the document is not there."""
+    try:
+        lines = (DOCUMENTS / name).read_text().splitlines()
+        begin = lines.index(heading) + 2
+    except (OSError, ValueError):
+        return []
+    rows = []
+    for line in lines[begin:]:
+        if not line.startswith("|"):
+            break
+        rows.append([cell.strip() for cell in line.strip("|").split("|")])
+    return rows
+
+
+def _glossary() -> list[list[str]]:
+    return _rows("GLOSSARY.md", "| Word | What it is | Usual terms |")
+
+
+def _counted_rules() -> list[list[str]]:
+    return _rows("FORMATS.md", "| Rule | Reached where |")
+
+
+def _from_documents(word: str) -> list[str]:
+    """What the glossary says of a word, and where a rule of `explore` counts as reached."""
+    told = []
+    for names, says, usual in _glossary():
+        if any(_is_form(word, name) for name in names.split(", ")):
+            also = f"\nUsual terms\n{_wrapped(usual.split())}\n" if usual else ""
+            told.append(f"{names}, in the glossary\n\nWhat it is\n{_wrapped(says.split())}\n{also}")
+    for name, where in _counted_rules():
+        if name.strip("`") == word.lower():
+            told.append(f"{word.lower()}, a rule that `explore` counts\n\nIt is reached where\n"
+                        f"{_wrapped(where.split())}\n")
+    return told
+
+
+def _is_form(word: str, name: str) -> bool:
+    """Whether a word is this name of the glossary, or another form of it: `fence` is one of `fenced`."""
+    word, name = word.lower(), name.lower()
+    stems = {word, word.removesuffix("s"), word.removesuffix("es")}
+    return name in {stem + ending for stem in stems for ending in ("", "d", "ed", "s", "es")}
+
+
+def _document_names() -> list[str]:
+    names = [name for row in _glossary() for name in row[0].split(", ")]
+    return names + [row[0].strip("`") for row in _counted_rules()]

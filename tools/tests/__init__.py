@@ -1,0 +1,1 @@
+"""Tests of what stands in tools/; `scripts/check/tools` runs them."""
