@@ -9,6 +9,7 @@ mod fault;
 pub mod message;
 mod node;
 mod raw;
+pub mod trace;
 mod work;
 
 pub use fault::Fault;

@@ -61,12 +61,16 @@ pub mod kind {
     pub const CLOSE: u8 = 7;
     /// What is kept of a replica.
     pub const STORED: u8 = 8;
+    /// A segment's epoch is committed.
+    pub const COMMIT_OK: u8 = 10;
     /// A server is there.
     pub const ENLIST: u8 = 11;
     /// A server has a head, and can take tablets.
     pub const READY: u8 = 12;
     /// The list of servers.
     pub const LIST: u8 = 13;
+    /// A backup is to fence a crashed master, and to say what it holds of it.
+    pub const GATHER: u8 = 14;
     /// What a backup holds of a crashed master.
     pub const REPLICAS: u8 = 15;
     /// A recovery begins.
@@ -77,6 +81,8 @@ pub mod kind {
     pub const DATA: u8 = 18;
     /// A range is granted.
     pub const OWN: u8 = 20;
+    /// A segment is dead, and need not be kept.
+    pub const FREE: u8 = 22;
 }
 
 /// The front of a coded message: from whom to whom, its kind, and its body's bytes.

@@ -151,16 +151,24 @@ impl Node {
 
     /// Adds to `ready` what the node wants now.
     pub fn ready(&mut self, ready: &mut Ready) -> Result<(), Fault> {
-        Fault::of(self.take(raw::sevunthi_take_journal, &mut ready.journal))?;
-        loop {
-            match self.take(raw::sevunthi_leave, &mut ready.messages) {
-                0 => {}
-                8 => break,
-                number => return Fault::of(number),
-            }
-        }
+        self.take_journal(&mut ready.journal)?;
+        while self.leave(&mut ready.messages)? {}
         ready.waits = self.info().is_waiting;
         Ok(())
+    }
+
+    /// Adds to `journal` what has to be added to the journal's file. [`Node::ready`] does this, and what follows.
+    pub fn take_journal(&mut self, journal: &mut Vec<u8>) -> Result<(), Fault> {
+        Fault::of(self.take(raw::sevunthi_take_journal, journal))
+    }
+
+    /// Adds to `messages` what one step has sent and may leave, each message behind its length; says whether something
+    /// may.
+    pub fn leave(&mut self, messages: &mut Vec<u8>) -> Result<bool, Fault> {
+        match self.take(raw::sevunthi_leave, messages) {
+            8 => Ok(false),
+            number => Fault::of(number).map(|()| true),
+        }
     }
 
     /// So many bytes of the journal's file are safe.

@@ -9,6 +9,8 @@ pub enum Work {
     Tick,
     /// The server that runs on the host stops.
     Stop,
+    /// The host's server is started, and its open replicas are gone. [`Node::start`](crate::Node::start) keeps them.
+    StartWithoutOpen,
     /// To the coordinator: this server is believed dead.
     Suspect(Id),
     /// To the coordinator: decide the recovery of this server.
@@ -36,6 +38,10 @@ impl Work {
         match self {
             Work::Tick => code.push(2),
             Work::Stop => code.push(3),
+            Work::StartWithoutOpen => {
+                code.push(4);
+                code.extend_from_slice(&0u64.to_le_bytes());
+            }
             Work::Suspect(id) => put_id(5, id, &mut code),
             Work::Decide(id) => put_id(6, id, &mut code),
             Work::Create { table, owner } => {

@@ -1,53 +1,76 @@
 //! How fast writes and reads are.
 
-use crate::client::{Client, Missing, Target, connect};
+use crate::client::{Answer, Client, Connection, Error, Missing, Refusal, Target};
 use crate::etcd::Etcd;
 use crate::options::Options;
-use crate::protocol::{DONE, NO_VALUE, Op, Reply, Request};
-use crate::reasons::{NOT_OWNER, reason};
-use sevunthi::message::u32_at;
-use std::collections::{BTreeMap, VecDeque};
+use crate::protocol::{DONE, MISMATCH, Op, UNKNOWN};
+use crate::reasons::NOT_OWNER;
+use std::collections::{BTreeMap, HashMap, VecDeque};
 use std::fs;
-use std::io::{ErrorKind, Read, Write};
-use std::net::TcpStream;
+use std::io::{self, ErrorKind};
 use std::time::{Duration, Instant};
 
 /// How a client speaks on its connection.
 pub trait Talk {
-    /// What is said first.
-    fn hello(&mut self, out: &mut Vec<u8>);
-    /// Asks for one thing, under this number.
-    fn ask(&mut self, number: u64, key: u64, out: &mut Vec<u8>);
-    /// Takes what has come, and says how many bytes of it: adds the numbers of what was answered, with the codes of the
-    /// answers, and what has to be sent for it.
-    fn take(&mut self, bytes: &[u8], answers: &mut Vec<(u64, u8)>, out: &mut Vec<u8>) -> Result<usize, String>;
+    /// Asks for one thing, under this number: they are 0, 1, 2 and so on.
+    fn ask(&mut self, number: u64, key: u64);
+    /// Sends what was asked, and waits for answers: adds the numbers of what was answered, with the codes of the
+    /// answers.
+    fn wait(&mut self, answers: &mut Vec<(u64, u8)>) -> io::Result<()>;
 }
 
 /// A connection to a host.
 struct Host {
+    connection: Connection,
     op: Op,
     table: u32,
     value: Vec<u8>,
+    said: Vec<Answer>,
+    /// Of conditional puts: the version of each key, as it was answered, and the key of each request under way.
+    versions: HashMap<u64, u64>,
+    keys: HashMap<u64, u64>,
+}
+
+impl Host {
+    fn new(connection: Connection, op: Op, table: u32, value: Vec<u8>) -> Host {
+        let (versions, keys) = (HashMap::new(), HashMap::new());
+        Host { connection, op, table, value, said: Vec::new(), versions, keys }
+    }
 }
 
 impl Talk for Host {
-    fn hello(&mut self, _: &mut Vec<u8>) {}
-
-    fn ask(&mut self, number: u64, key: u64, out: &mut Vec<u8>) {
-        Request { op: self.op, number, table: self.table, key, value: (&self.value).into() }.put(out);
+    fn ask(&mut self, number: u64, key: u64) {
+        let asked = match (self.op, self.versions.get(&key)) {
+            (Op::Get, _) => self.connection.get(self.table, key),
+            (Op::PutIf, Some(version)) => self.connection.put_if(self.table, key, *version, &self.value),
+            _ => self.connection.put(self.table, key, &self.value),
+        };
+        if self.op == Op::PutIf {
+            self.keys.insert(number, key);
+        }
+        debug_assert_eq!(asked, number);
     }
 
-    fn take(&mut self, bytes: &[u8], answers: &mut Vec<(u64, u8)>, _: &mut Vec<u8>) -> Result<usize, String> {
-        let mut used = 0;
-        while let Some(length) = u32_at(bytes, used) {
-            let Some(piece) = bytes.get(used + 4..used + 4 + length as usize) else { break };
-            let reply = Reply::read(piece).ok_or("no answer")?;
-            used += 4 + length as usize;
-            answers.push((reply.number, reply.code));
-        }
-        Ok(used)
+    fn wait(&mut self, answers: &mut Vec<(u64, u8)>) -> io::Result<()> {
+        self.connection.wait(&mut self.said)?;
+        answers.extend(self.said.drain(..).map(|Answer { number, said }| {
+            if let (Some(key), Ok(found) | Err(Error::Mismatch(found))) = (self.keys.remove(&number), &said) {
+                self.versions.insert(key, found.version);
+            }
+            let code = match said {
+                Ok(_) => DONE,
+                Err(Error::Refused(refusal)) => refusal.code(),
+                Err(Error::Mismatch(_)) => MISMATCH,
+                Err(_) => UNKNOWN,
+            };
+            (number, code)
+        }));
+        Ok(())
     }
 }
+
+/// So long an answer is waited for.
+pub const WAIT: Duration = Duration::from_secs(20);
 
 /// What was measured.
 #[derive(Default)]
@@ -85,29 +108,38 @@ pub fn run(options: &Options, target: &Target) -> Result<bool, String> {
     let op = match options.given("--op").unwrap_or("put") {
         "put" => Op::Put,
         "get" => Op::Get,
-        other => return Err(format!("--op is put or get, and not {other}")),
+        "put-if" => Op::PutIf,
+        other => return Err(format!("--op is put, get or put-if, and not {other}")),
     };
-    let value = vec![b'v'; if op == Op::Put { size } else { 0 }];
-    let told = |error: std::io::Error| error.to_string();
-    let (stream, mut talk): (TcpStream, Box<dyn Talk>) = if let Some(etcd) = etcd {
-        (TcpStream::connect(etcd).map_err(|error| format!("{etcd}: {error}"))?, Box::new(Etcd::new(value)))
+    let value = vec![b'v'; if op == Op::Get { 0 } else { size }];
+    let mut talk: Box<dyn Talk> = if let Some(etcd) = etcd {
+        Box::new(Etcd::connect(etcd, value).map_err(|error| format!("{etcd}: {error}"))?)
     } else {
-        let owner = Client::new(target.clone()).await_owner(table, 0);
-        match owner.and_then(|owner| connect(target, owner).map_err(|_| Missing::Host(owner))) {
-            Ok(stream) => (stream, Box::new(Host { op, table, value })),
+        match connect(target, table) {
+            Ok(connection) => Box::new(Host::new(connection, op, table, value)),
             Err(missing) => return crate::not_done(&target.told(missing, table)),
         }
     };
-    stream.set_nodelay(true).map_err(told)?;
     let pids = options.given("--processes");
     let spent = || pids.and_then(|pids| pids.split(',').map(processor_seconds).sum::<Option<f64>>());
     let before = spent();
     if let Some(pids) = pids.filter(|_| before.is_none()) {
         return Err(format!("--processes has numbers of processes, with commas between them, and not {pids}"));
     }
-    let measured = ask_all(stream, talk.as_mut(), &load)?;
+    let measured = ask_all(talk.as_mut(), &load);
     let used = spent().zip(before).map(|(now, before)| now - before);
     Ok(tell(measured, load.clients, used))
+}
+
+/// A connection to who owns key 0.
+fn connect(target: &Target, table: u32) -> Result<Connection, Missing> {
+    let mut client = Client::new(target.clone());
+    let owner = client.await_owner(table, 0)?;
+    let connection = Connection::open(target, owner).and_then(|mut connection| {
+        connection.set_wait(WAIT)?;
+        Ok(connection)
+    });
+    connection.map_err(|_| Missing::Host(owner))
 }
 
 /// Tells what was measured, with the processor time that was used, and says whether it went to its end.
@@ -126,7 +158,11 @@ fn tell(mut measured: Measured, clients: usize, used: Option<f64>) -> bool {
     );
     for (code, count) in &measured.refused {
         let hint = if *code == NOT_OWNER { "; only who owns key 0 is asked" } else { "" };
-        say!("{count} refused: {}{hint}", reason(*code));
+        match *code {
+            UNKNOWN => say!("{count} refused: unknown: the host was replaced meanwhile"),
+            MISMATCH => say!("{count} refused: another version was there"),
+            code => say!("{count} refused: {}{hint}", Refusal::of(code)),
+        }
     }
     if let Some(why) = &measured.ended {
         eprintln!("sevunthi: after {:.1} s: {why}", measured.seconds);
@@ -160,89 +196,43 @@ impl Asked {
     }
 }
 
-/// What has come on a connection and was not taken yet, with room behind it.
-struct Came {
-    room: Vec<u8>,
-    filled: usize,
-}
-
-/// There is room for so many bytes at once, at least.
-const ROOM: usize = 1 << 16;
-
-impl Came {
-    fn new() -> Came {
-        Came { room: vec![0; 2 * ROOM], filled: 0 }
-    }
-
-    /// Sends what waits, and adds what comes.
-    fn exchange(&mut self, stream: &mut TcpStream, out: &mut Vec<u8>) -> Result<(), String> {
-        let told = |error: std::io::Error| match error.kind() {
-            ErrorKind::WouldBlock | ErrorKind::TimedOut => "the server does not answer".to_string(),
-            _ => format!("the server has gone: {error}"),
-        };
-        stream.write_all(out).map_err(told)?;
-        out.clear();
-        if self.room.len() < self.filled + ROOM {
-            self.room.resize(2 * self.room.len(), 0);
-        }
-        match stream.read(&mut self.room[self.filled..]).map_err(told)? {
-            0 => Err("the server has gone".into()),
-            count => {
-                self.filled += count;
-                Ok(())
-            }
-        }
-    }
-
-    fn bytes(&self) -> &[u8] {
-        &self.room[..self.filled]
-    }
-
-    /// So many bytes at the front were taken.
-    fn drop_front(&mut self, count: usize) {
-        self.room.copy_within(count..self.filled, 0);
-        self.filled -= count;
-    }
-}
-
-fn ask_all(mut stream: TcpStream, talk: &mut dyn Talk, load: &Load) -> Result<Measured, String> {
-    stream.set_read_timeout(Some(Duration::from_secs(20))).map_err(|error| error.to_string())?;
-    let (mut out, mut asked) = (Vec::new(), Asked::default());
-    talk.hello(&mut out);
-    let ask = |talk: &mut dyn Talk, out: &mut Vec<u8>, asked: &mut Asked, now: Instant| {
-        talk.ask(asked.count(), asked.count() % load.keys, out);
+fn ask_all(talk: &mut dyn Talk, load: &Load) -> Measured {
+    let mut asked = Asked::default();
+    let ask = |talk: &mut dyn Talk, asked: &mut Asked, now: Instant| {
+        talk.ask(asked.count(), asked.count() % load.keys);
         asked.at.push_back(Some(now));
         asked.count() < load.most
     };
     let began = Instant::now();
     let mut goes_on = true;
     for _ in 0..load.clients {
-        goes_on = goes_on && ask(talk, &mut out, &mut asked, began);
+        goes_on = goes_on && ask(talk, &mut asked, began);
     }
-    let mut measured = Measured::default();
-    let (mut came, mut answers) = (Came::new(), Vec::new());
+    let (mut measured, mut answers) = (Measured::default(), Vec::new());
     while !asked.at.is_empty() {
-        let exchanged = came.exchange(&mut stream, &mut out);
-        match exchanged.and_then(|()| talk.take(came.bytes(), &mut answers, &mut out)) {
-            Ok(used) => came.drop_front(used),
-            Err(why) => {
-                measured.ended = Some(why);
-                break;
-            }
-        }
+        let waited = talk.wait(&mut answers);
         let now = Instant::now();
         goes_on = goes_on && (now - began).as_secs_f64() < load.seconds;
         for (number, code) in answers.drain(..) {
             let Some(since) = asked.take(number) else { continue };
             match code {
-                DONE | NO_VALUE => measured.latencies.push((now - since).as_micros() as u32),
+                DONE => measured.latencies.push((now - since).as_micros() as u32),
                 code => *measured.refused.entry(code).or_default() += 1,
             }
-            goes_on = goes_on && ask(talk, &mut out, &mut asked, now);
+            goes_on = goes_on && ask(talk, &mut asked, now);
+        }
+        if let Err(error) = waited {
+            measured.ended = Some(match error.kind() {
+                ErrorKind::WouldBlock | ErrorKind::TimedOut => "the server does not answer".to_string(),
+                ErrorKind::UnexpectedEof => "the server has gone".to_string(),
+                ErrorKind::InvalidData => error.to_string(),
+                _ => format!("the server has gone: {error}"),
+            });
+            break;
         }
     }
     measured.seconds = began.elapsed().as_secs_f64();
-    Ok(measured)
+    measured
 }
 
 /// The processor time that a process has used so far, if it is there.
@@ -256,13 +246,15 @@ fn processor_seconds(process: &str) -> Option<f64> {
 #[cfg(test)]
 mod tests {
     use super::*;
-    use std::net::TcpListener;
+    use crate::protocol::Reply;
+    use std::io::Write;
+    use std::net::{TcpListener, TcpStream};
 
     /// A server that does one request, refuses the next, and goes.
     #[test]
-    fn what_was_measured_is_kept_where_the_server_goes() -> std::io::Result<()> {
+    fn what_was_measured_is_kept_where_the_server_goes() -> io::Result<()> {
         let listener = TcpListener::bind("127.0.0.1:0")?;
-        let stream = TcpStream::connect(listener.local_addr()?)?;
+        let connection = Connection::of(TcpStream::connect(listener.local_addr()?)?)?;
         let (mut server, _) = listener.accept()?;
         let mut out = Vec::new();
         Reply::bare(DONE, 0).put(&mut out);
@@ -270,8 +262,8 @@ mod tests {
         server.write_all(&out)?;
         server.shutdown(std::net::Shutdown::Write)?;
         let load = Load { clients: 2, seconds: 60.0, most: u64::MAX, keys: 10 };
-        let mut talk = Host { op: Op::Get, table: 1, value: Vec::new() };
-        let measured = ask_all(stream, &mut talk, &load).expect("it begins");
+        let mut talk = Host::new(connection, Op::Get, 1, Vec::new());
+        let measured = ask_all(&mut talk, &load);
         assert_eq!((measured.latencies.len(), measured.refused), (1, BTreeMap::from([(NOT_OWNER, 1)])));
         assert_eq!(measured.ended.as_deref(), Some("the server has gone"));
         Ok(())

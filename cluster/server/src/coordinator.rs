@@ -1,14 +1,20 @@
-//! The process of the coordinator.
+//! The process of the coordinator: of the only one, or, where several have their journal in etcd, of the one that leads.
 
-use crate::core::{BEAT, Config, Core, Frame, tell};
+use crate::core::{BEAT, Config, Core, Frame, failed, must_not_start, tell};
 use crate::cut_off::{CutOff, Sight};
 use crate::events::{Event, EventReceiver, TURN};
-use crate::protocol::{ANY_HOST, DONE, Op, Reply, Request, WRONG};
+use crate::guard::Standing;
+use crate::hearing::{Hearing, Verdict};
+use crate::listening::Listening;
+use crate::metrics::Kind;
+use crate::protocol::{ANY_HOST, DONE, NO_HINT, NO_ROOM, NOT_ALLOWED, NOT_LEADING, Op, Reply, Request, WRONG};
 use crate::reasons::{NO_TABLE, NOT_READY, RECOVERING};
+use crate::standby::{self, Heard};
+use crate::status::{LAST_LINE, Server, State, Tablet};
 use crate::wire::NOT_UP;
 use sevunthi::message::{framed, kind};
 use sevunthi::{Address, Answer, Due, Envelope, Fault, Id, Work};
-use std::collections::{HashMap, HashSet};
+use std::collections::{HashMap, VecDeque};
 use std::fmt::Write as _;
 use std::io;
 use std::time::{Duration, Instant};
@@ -16,12 +22,10 @@ use std::time::{Duration, Instant};
 /// The coordinator.
 struct Coordinator {
     core: Core,
-    /// Of each host the server that was heard last, and when, in time in which this process was awake.
-    heard: HashMap<u8, (Id, Duration)>,
-    /// Who was heard on the connection of this number.
-    connections: HashMap<u64, Id>,
-    /// Those whose connection has ended since they were heard last.
-    gone: HashSet<Id>,
+    listening: Listening,
+    /// Of each host the server that was up when it said that it is ready. What it says again costs no record.
+    ready: HashMap<u8, Id>,
+    hearing: Hearing,
     cut_off: CutOff,
     /// The hosts whose servers can't enlist for now.
     left_out: Vec<u8>,
@@ -30,25 +34,77 @@ struct Coordinator {
     /// What was said of the last request.
     refused: Option<u8>,
     is_due: bool,
+    orders: Orders,
 }
 
-/// Runs the coordinator for ever.
+/// What was asked by who operates the cluster, where the journal is in etcd: each is answered once a transaction tells
+/// what came of it. The node says of a refusal by its number alone: so one is given at a time, and nothing else beside
+/// it that the node may refuse.
+#[derive(Default)]
+struct Orders {
+    /// Clients with what they asked, and the numbers of their requests.
+    waiting: VecDeque<(u64, Order, u64)>,
+    /// The one that was given, with its client.
+    given: Option<(u64, u64)>,
+    /// Something else was given that the node may refuse, since a transaction was last asked for.
+    has_dues: bool,
+}
+
+/// What only who operates the cluster may ask for.
+#[derive(Clone, Copy, Debug, PartialEq, Eq)]
+enum Order {
+    /// A table at the host of this index, or at any.
+    Create(u32, u64),
+    /// A table is split before a key.
+    Split(u32, u64),
+}
+
+/// Runs the coordinator for ever: where its journal is in etcd, once it leads.
 pub fn run(config: Config) -> io::Result<()> {
-    let (core, events) = Core::open(config)?;
-    let mut coordinator = Coordinator {
-        core,
-        heard: HashMap::new(),
-        connections: HashMap::new(),
-        gone: HashSet::new(),
-        cut_off: CutOff::default(),
-        left_out: Vec::new(),
-        last: None,
-        refused: None,
-        is_due: false,
+    let (core, events, heard) = if config.store.is_empty() {
+        let (core, events) = Core::open(config)?;
+        (core, events, Heard::default())
+    } else {
+        standby::run(config)?
     };
+    let mut coordinator = Coordinator::new(core);
+    coordinator.take_over(heard);
     coordinator.settle();
+    coordinator.show();
     coordinator.serve(&events);
     Ok(())
+}
+
+impl Coordinator {
+    fn new(core: Core) -> Coordinator {
+        let hosts = usize::from(core.config.hosts);
+        let needed = core.config.hear.map_or(hosts.saturating_sub(usize::from(core.config.factor)), usize::from);
+        Coordinator {
+            core,
+            listening: Listening::default(),
+            ready: HashMap::new(),
+            hearing: Hearing::new(hosts, needed),
+            cut_off: CutOff::default(),
+            left_out: Vec::new(),
+            last: None,
+            refused: None,
+            is_due: false,
+            orders: Orders::default(),
+        }
+    }
+
+    /// What it has heard while it stood by counts as if it had led.
+    fn take_over(&mut self, heard: Heard) {
+        let now = self.core.awake.now();
+        let silence = Duration::from_millis(self.core.config.silence);
+        let fresh = |at: Duration| now < at + silence;
+        self.hearing.has_listened(heard.since);
+        heard.words.into_values().filter(|(_, at)| fresh(*at)).for_each(|(word, _)| self.core.take_word(&word));
+        let waits = heard.waits.into_values().filter(|(_, _, at)| fresh(*at));
+        waits.for_each(|(id, waits, _)| self.cut_off.hear(id, waits));
+        self.listening = heard.listening;
+        self.is_due = heard.since.is_some();
+    }
 }
 
 impl Coordinator {
@@ -59,20 +115,99 @@ impl Coordinator {
                 self.take(event);
                 true
             });
-            self.core.awake.turn();
+            self.core.turn();
             if self.is_due || BEAT <= beat.elapsed() {
                 beat = Instant::now();
                 self.is_due = false;
-                self.do_dues();
+                let leads = self.core.leads();
+                if self.acts() && leads {
+                    self.do_dues();
+                }
+                self.core.look_for_room();
+                self.look_for_scarceness();
+                if leads {
+                    self.core.greet();
+                }
                 self.show();
             }
-            if Duration::from_millis(self.core.config.tick) <= tick.elapsed() {
+            self.end_transaction();
+            let is_due = self.hearing.acts() && Duration::from_millis(self.core.config.tick) <= tick.elapsed();
+            if is_due && self.core.may_tick() {
                 tick = Instant::now();
                 self.step(Work::Tick);
             }
             self.settle();
             self.core.shorten();
         }
+    }
+
+    /// Where a transaction has ended, what may leave does, and who has asked for something is told what came of it.
+    fn end_transaction(&mut self) {
+        let mut refused = None;
+        let has_ended = self.core.end_transaction(|answer| {
+            if let Answer::Refused(code) = answer {
+                refused = Some(code);
+            }
+        });
+        if !has_ended {
+            return;
+        }
+        if let Some((client, number)) = self.orders.given.take() {
+            self.core.answer(client, &Reply::bare(refused.unwrap_or(DONE), number));
+            // who asks for the state next sees what came of it
+            self.show();
+        }
+        self.core.flush();
+    }
+
+    /// Gives the node what was asked first of all that waits, where a transaction can be asked for at once that has it
+    /// alone.
+    fn give_order(&mut self) {
+        if self.orders.has_dues || self.orders.given.is_some() || self.core.is_transacting() {
+            return;
+        }
+        while let Some((client, order, number)) = self.orders.waiting.pop_front() {
+            let code = match self.work_of(order) {
+                _ if !self.core.leads() => NOT_LEADING,
+                Ok(work) if self.step(work) => {
+                    self.orders.given = Some((client, number));
+                    return;
+                }
+                Ok(_) => WRONG,
+                Err(code) => code,
+            };
+            self.core.answer(client, &Reply::bare(code, number));
+        }
+    }
+
+    /// Whether enough hosts were heard. Before that nothing is done.
+    fn acts(&mut self) -> bool {
+        let guard = &self.core.guard;
+        let (good, foreign) = (guard.count_remembering(), guard.count(Standing::Foreign));
+        let verdict = self.hearing.hear(good, foreign, self.core.awake.now());
+        match verdict {
+            Verdict::Begins => tell(format_args!("has heard {good} hosts, and goes on")),
+            Verdict::WaitsLong => tell(self.waits_for()),
+            Verdict::IsAnothers => must_not_start(format_args!(
+                "{foreign} hosts were told by another coordinator: this folder is new, or another cluster's. Nothing \
+                 was done by it. Put back the coordinator's folder that was in use last"
+            )),
+            Verdict::Waits | Verdict::Acts => {}
+        }
+        self.hearing.acts()
+    }
+
+    /// Which hosts are waited for, in words. One whose folder was emptied can't say what it was told.
+    fn waits_for(&self) -> String {
+        let unheard = (0..self.core.config.hosts).filter(|host| !self.core.guard.remembers(*host));
+        let unheard: Vec<String> = unheard.map(|host| host.to_string()).collect();
+        format!(
+            "waits until {} of {} hosts were heard, and has not heard {}. Start them; or, where they are gone for \
+             good, give --hear the number of those that are left",
+            self.hearing.needed(),
+            self.core.config.hosts,
+            unheard.join(", ")
+        )
     }
 
     fn step(&mut self, work: Work) -> bool {
@@ -88,9 +223,27 @@ impl Coordinator {
         }
     }
 
+    /// Whether too few hosts have room, so that no writes are to be taken.
+    fn look_for_scarceness(&mut self) {
+        let servers = self.core.node.servers().unwrap_or_default();
+        let up = servers.iter().filter(|(_, is_up)| *is_up).map(|(id, _)| id.index);
+        let is_scarce = self.core.room.is_scarce(up, usize::from(self.core.config.factor) + 1);
+        if is_scarce != self.core.is_scarce {
+            self.core.is_scarce = is_scarce;
+            tell(if is_scarce {
+                "too few hosts have room: no writes are taken"
+            } else {
+                "enough hosts have room again"
+            });
+        }
+    }
+
     /// What is due, for who was heard and who was not.
     fn do_dues(&mut self) {
         let sight = self.sight();
+        if sight.heard.is_empty() {
+            self.hearing.hears_nobody(self.core.awake.now());
+        }
         let mut silent: Vec<Id> = sight.up.iter().filter(|id| self.is_silent(id)).copied().collect();
         silent.extend(self.cut_off.suspects(&sight, &silent));
         let heard: Vec<Id> = sight.heard.iter().map(|(id, _)| *id).collect();
@@ -105,12 +258,12 @@ impl Coordinator {
     }
 
     /// A server is silent when nothing has come from it for the time that one waits, or for a quarter of that where its
-    /// connection has ended too: a host that lives connects again with its next heartbeat.
+    /// connection has ended too: a host that lives connects again with its next heartbeat. Where nobody at all is
+    /// heard, nobody is silent.
     fn is_silent(&self, id: &Id) -> bool {
         let silence = Duration::from_millis(self.core.config.silence);
-        let last = self.heard.get(&id.index).filter(|(other, _)| other == id).map_or(Duration::ZERO, |(_, at)| *at);
-        let most = if self.gone.contains(id) { silence / 4 } else { silence };
-        most <= self.core.awake.now() - last
+        let most = if self.listening.is_gone(id) { silence / 4 } else { silence };
+        most <= self.hearing.silence(self.listening.last(id), self.core.awake.now())
     }
 
     /// What is seen of the servers now.
@@ -120,7 +273,7 @@ impl Coordinator {
         let tablets = self.core.node.tablets().unwrap_or_default();
         Sight {
             up: servers.into_iter().filter(|(_, is_up)| *is_up).map(|(id, _)| id).collect(),
-            heard: self.heard.values().map(|(id, at)| (*id, now - *at)).filter(|(_, ago)| *ago < silence).collect(),
+            heard: self.listening.all().map(|(id, at)| (id, now - at)).filter(|(_, ago)| *ago < silence).collect(),
             owners: tablets.iter().map(|tablet| tablet.owner).collect(),
             is_recovering: tablets.iter().any(|tablet| tablet.crashed),
             factor: usize::from(self.core.config.factor),
@@ -140,16 +293,14 @@ impl Coordinator {
         }
         match due {
             Due::Suspect(id) => {
+                self.orders.has_dues = true;
                 self.step(Work::Suspect(id));
             }
             Due::Decide(id) => {
+                self.orders.has_dues = true;
                 self.step(Work::Decide(id));
             }
-            Due::Restart(id) => {
-                let mut said = vec![NOT_UP];
-                said.extend_from_slice(&id.code());
-                self.core.post(usize::from(id.index), &said);
-            }
+            Due::Restart(id) => self.say_not_up(id),
         }
     }
 
@@ -161,7 +312,7 @@ impl Coordinator {
             | Event::Roll(connection, batch) => self.take_batch(connection, &batch),
             Event::Synced | Event::RollSynced => self.core.end_sync(),
             Event::Hurry => {}
-            Event::PeerDown(connection) => self.gone.extend(self.connections.remove(&connection)),
+            Event::PeerDown(connection) => self.listening.end(connection),
             Event::Client(client, bytes) => {
                 for bytes in framed(&bytes) {
                     match Request::read(bytes) {
@@ -177,61 +328,108 @@ impl Coordinator {
 
     /// The frames of a batch that came on the peer's connection of this number.
     fn take_batch(&mut self, connection: u64, batch: &[u8]) {
-        let (mut heard, mut waiting, mut is_due) = (Vec::new(), Vec::new(), false);
-        let left_out = &self.left_out;
+        let (mut heard, mut waiting, mut newcomers, mut is_due) = (Vec::new(), Vec::new(), Vec::new(), false);
+        let (left_out, ready, acts) = (&self.left_out, &mut self.ready, self.hearing.acts());
         self.core.each_frame(batch, |core, frame| match frame {
             Frame::Message(message) => {
-                if let Some(Envelope { from: Address::Server(id), kind, .. }) = Envelope::read(message) {
-                    heard.push(id);
-                    is_due |= matches!(kind, kind::REPLICAS | kind::READY);
-                    if kind == kind::ENLIST && left_out.contains(&id.index) {
+                let Some(Envelope { from, kind, .. }) = Envelope::read(message) else { return };
+                if let Address::Server(id) = from {
+                    heard.extend(core.guard.hears(from).then_some(id));
+                    let is_left_out = kind == kind::ENLIST && left_out.contains(&id.index);
+                    let is_up = kind == kind::READY && is_up(core, id);
+                    if !acts || is_left_out || is_up && ready.get(&id.index) == Some(&id) {
                         return;
                     }
+                    is_due |= matches!(kind, kind::REPLICAS | kind::READY);
+                    if core.deliver(message).is_some() && is_up {
+                        ready.insert(id.index, id);
+                    }
                 }
-                core.deliver(message);
             }
+            Frame::Heartbeat(id, _) if core.guard.standing(id.index) == Standing::New => newcomers.push(id),
             Frame::Heartbeat(id, waits) => {
-                heard.push(id);
-                waiting.push((id, waits));
+                if core.guard.hears(Address::Server(id)) {
+                    heard.push(id);
+                    waiting.push((id, waits));
+                }
             }
             Frame::NotUp(_) => {}
         });
+        if self.core.leads() {
+            newcomers.into_iter().for_each(|id| self.let_in(id));
+        }
         waiting.into_iter().for_each(|(id, waits)| self.cut_off.hear(id, waits));
         self.is_due |= is_due;
-        for id in heard {
-            self.connections.insert(connection, id);
-            self.hear(id);
+        let now = self.core.awake.now();
+        heard.into_iter().for_each(|id| self.listening.hear(connection, id, now));
+    }
+
+    /// A host with a new folder begins anew until its server is a new one too: an id is never used again.
+    fn let_in(&mut self, id: Id) {
+        let servers = self.core.node.servers().unwrap_or_default();
+        if servers.iter().any(|(other, _)| other.index == id.index && id.generation <= other.generation) {
+            return self.say_not_up(id);
+        }
+        let let_in = self.core.guard.let_in(id.index);
+        if let_in.unwrap_or_else(|error| failed("what was told can't be kept", error)) {
+            tell(format_args!("host {} has a new folder: what it kept before counts as lost", id.index));
         }
     }
 
-    /// Something has come from this server. What comes late from an older one of its host says nothing.
-    fn hear(&mut self, id: Id) {
-        let newest = self.heard.get(&id.index).map_or(0, |(other, _)| other.generation);
-        if newest <= id.generation {
-            self.heard.insert(id.index, (id, self.core.awake.now()));
-            self.gone.retain(|other| other.index != id.index);
-        }
+    /// Has a server's host begin anew.
+    fn say_not_up(&mut self, id: Id) {
+        let mut said = vec![NOT_UP];
+        said.extend_from_slice(&id.code());
+        self.core.post(usize::from(id.index), &said);
     }
 
     fn ask(&mut self, client: u64, request: &Request) {
         let (number, key) = (request.number, request.key);
         let mut reply = Reply::bare(DONE, number);
         match request.op {
-            Op::Create => reply.code = self.create(request.table, key),
-            Op::Split if key >> 63 == 0 => reply.code = self.work(Work::Split { table: request.table, at: 2 * key }),
+            Op::Create | Op::Split if !self.core.may_operate(client) => reply.code = NOT_ALLOWED,
+            Op::Create | Op::Split if !self.core.leads() => reply.code = NOT_LEADING,
+            Op::Create | Op::Split if !self.hearing.acts() => reply.code = NOT_READY,
+            Op::Create | Op::Split if self.core.is_scarce || self.core.room.lacks() => reply.code = NO_ROOM,
+            // what it knows is a hint then: a host refuses what it does not own
+            Op::Owner if !self.core.leads() && key >> 63 == 0 => {
+                reply.code = NOT_LEADING;
+                reply.version = self.owner(request.table, 2 * key).map_or(NO_HINT, |id| u64::from(id.index));
+            }
+            Op::Owner if !self.hearing.acts() => reply.code = RECOVERING,
+            Op::Create => return self.order(client, Order::Create(request.table, key), number),
+            Op::Split if key >> 63 == 0 => {
+                return self.order(client, Order::Split(request.table, key), number);
+            }
             Op::Owner if key >> 63 == 0 => match self.owner(request.table, 2 * key) {
                 Ok(id) => reply.version = u64::from(id.index),
                 Err(code) => reply.code = code,
             },
-            Op::Status => reply.value = self.text().into_bytes(),
             Op::Fail if self.core.config.faults => self.core.fail(request.table, key),
             _ => reply.code = WRONG,
         }
         self.core.answer(client, &reply);
     }
 
-    /// Creates a table at the host of this index, or, for `ANY_HOST`, at the one that owns least.
-    fn create(&mut self, table: u32, index: u64) -> u8 {
+    /// Does what was asked, and answers: at once, or when a transaction tells what came of it.
+    fn order(&mut self, client: u64, order: Order, number: u64) {
+        if self.core.remote().is_some() {
+            return self.orders.waiting.push_back((client, order, number));
+        }
+        let code = match self.work_of(order) {
+            Ok(work) => self.work(work),
+            Err(code) => code,
+        };
+        self.core.answer(client, &Reply::bare(code, number));
+    }
+
+    /// What the node is given for an order: a table is created at the host of its index, or, for `ANY_HOST`, at the one
+    /// that owns least.
+    fn work_of(&mut self, order: Order) -> Result<Work, u8> {
+        let (table, index) = match order {
+            Order::Split(table, key) => return Ok(Work::Split { table, at: 2 * key }),
+            Order::Create(table, index) => (table, index),
+        };
         let servers = self.core.node.servers().unwrap_or_default();
         let tablets = self.core.node.tablets().unwrap_or_default();
         let mut up = servers.iter().filter(|(_, is_up)| *is_up).map(|(id, _)| *id);
@@ -240,7 +438,7 @@ impl Coordinator {
             ANY_HOST => up.min_by_key(owns),
             index => up.find(|id| u64::from(id.index) == index),
         };
-        owner.map_or(NOT_READY, |owner| self.work(Work::Create { table, owner }))
+        owner.map(|owner| Work::Create { table, owner }).ok_or(NOT_READY)
     }
 
     /// Gives the node a work, and says by which code it was refused.
@@ -250,6 +448,8 @@ impl Coordinator {
             return WRONG;
         }
         self.settle();
+        // who asks for the state next sees what came of it
+        self.show();
         self.refused.take().unwrap_or(DONE)
     }
 
@@ -266,6 +466,12 @@ impl Coordinator {
 
     /// All that is there is written, made safe and sent, until nothing waits: who asks is told what came of it.
     fn settle(&mut self) {
+        if self.core.remote().is_some() {
+            // nothing leaves but behind a transaction
+            self.give_order();
+            self.orders.has_dues &= !self.core.begin_transaction();
+            return self.core.flush();
+        }
         for _ in 0..64 {
             self.route();
             if !self.core.make_safe_now() {
@@ -288,36 +494,73 @@ impl Coordinator {
 
     /// The state, as text.
     fn text(&mut self) -> String {
-        let mut text = String::new();
+        let mut text = self.core.lead_text();
+        if !self.hearing.acts() && self.core.guard.count_remembering() < self.hearing.needed() {
+            let _ = writeln!(text, "{}", self.waits_for());
+        }
+        if self.core.is_scarce {
+            let _ = writeln!(text, "no writes are taken: too few hosts have room on their disks");
+        }
         let now = self.core.awake.now();
         for (id, is_up) in self.core.node.servers().unwrap_or_default() {
-            let last = self.heard.get(&id.index).filter(|(other, _)| *other == id);
-            let heard = last.map_or("not heard".into(), |(_, at)| format!("heard {} ms ago", (now - *at).as_millis()));
+            let heard = self.listening.last(&id).map(|at| (now - at).as_millis());
             let state = match is_up {
-                true => "up",
-                false if self.left_out.contains(&id.index) => "left out",
-                false => "crashed",
+                true => State::Up,
+                false if self.left_out.contains(&id.index) => State::LeftOut,
+                false => State::Crashed,
             };
-            if is_up || last.is_some() {
-                let _ = writeln!(text, "server {id} {state} {heard}");
+            if is_up || heard.is_some() {
+                let _ = writeln!(text, "{}", Server { id, state, heard });
             }
         }
         for tablet in self.core.node.tablets().unwrap_or_default() {
-            let (lo, hi) = (tablet.lo / 2, tablet.hi / 2);
-            let state = if tablet.crashed { "is being recovered from" } else { "is owned by" };
-            let _ = writeln!(
-                text,
-                "table {} keys {lo} to {hi} {state} {} term {}",
-                tablet.table, tablet.owner, tablet.term
-            );
+            let sevunthi::Tablet { table, lo, hi, crashed: is_recovering, owner, term } = tablet;
+            let _ = writeln!(text, "{}", Tablet { table, keys: (lo / 2, hi / 2), is_recovering, owner, term });
         }
-        let info = self.core.node.info();
-        let _ = writeln!(text, "journal {} bytes, {} safe, {} syncs", info.written, info.safe, self.core.journal.syncs);
+        let (info, syncs) = (self.core.node.info(), self.core.journal.syncs());
+        let _ = writeln!(text, "{LAST_LINE}{} bytes, {} safe, {syncs} syncs", info.written, info.safe);
         text
     }
 
-    fn show(&mut self) {
-        let now = self.text();
-        self.core.show(now);
+    /// What it has to tell who watches it.
+    fn metrics(&mut self) -> String {
+        let mut metrics = self.core.metrics();
+        let (sight, servers) = (self.sight(), self.core.node.servers().unwrap_or_default());
+        let tablets = self.core.node.tablets().unwrap_or_default();
+        let crashed = tablets.iter().filter(|tablet| tablet.crashed).count();
+        let wanted = usize::from(self.core.config.factor) + 1;
+        for (name, help, value) in [
+            ("hosts", "Hosts that the cluster has.", usize::from(self.core.config.hosts)),
+            ("hosts_up", "Hosts whose server is up.", sight.up.len()),
+            ("hosts_heard", "Hosts that were heard within the time of silence.", sight.heard.len()),
+            ("hosts_left_out", "Hosts whose servers are left out for now.", self.left_out.len()),
+            ("hosts_needed", "Hosts that a segment and its replicas need.", wanted),
+            ("tablets", "Tablets that stand, of 1,024.", tablets.len()),
+            ("tablets_recovering", "Tablets whose owner has crashed, and nobody has them since.", crashed),
+        ] {
+            metrics.add(Kind::Gauge, &format!("sevunthi_{name}"), help, value);
+        }
+        let newest: HashMap<u8, bool> = servers.iter().map(|(id, is_up)| (id.index, *is_up)).collect();
+        let hosts = 0..self.core.config.hosts;
+        let rows =
+            hosts.map(|host| (format!("peer=\"{host}\""), u8::from(newest.get(&host).copied().unwrap_or(false))));
+        metrics.add_rows(Kind::Gauge, "sevunthi_host_up", "1 where the host's newest server is up.", rows);
+        let now = self.core.awake.now();
+        let heard = self.listening.all();
+        let rows = heard.map(|(id, at)| (format!("peer=\"{}\"", id.index), (now - at).as_secs_f64()));
+        let help = "Seconds since the host was heard last.";
+        metrics.add_rows(Kind::Gauge, "sevunthi_host_silence_seconds", help, rows);
+        self.core.add_store_metrics(&mut metrics);
+        metrics.text()
     }
+
+    fn show(&mut self) {
+        let (status, metrics) = (self.text(), self.metrics());
+        self.core.show(status, metrics);
+    }
+}
+
+/// Whether the coordinator's list shows this server up.
+fn is_up(core: &mut Core, id: Id) -> bool {
+    core.node.servers().is_ok_and(|servers| servers.contains(&(id, true)))
 }

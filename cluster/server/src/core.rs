@@ -1,25 +1,41 @@
 //! What hosts and the coordinator have in common: a node with its journal, its peers and its clients.
 
+mod opening;
+mod transacting;
+
+use crate::addresses;
 use crate::awake::Awake;
-use crate::events::{self, Event, EventReceiver};
+use crate::dialer::Dialer;
+use crate::door::{self, Door, Opening};
+use crate::events::{self, Event, EventReceiver, EventSender};
 use crate::faults::{Failing, Mangle, Wrong};
-use crate::journal::{self, Journal, Synced};
-use crate::net::{PeerWriter, Writer, listen};
+use crate::guard::{COORDINATOR, Guard, Position, Shown, Standing, WORD, Word};
+use crate::handshake::{Hello, Role};
+use crate::journal::Synced;
+pub use crate::log::{failed, must_not_start, tell};
+use crate::metrics::{self, Kind, Metrics};
+use crate::net::{PeerWriter, Writer};
+use crate::pace::Pace;
 use crate::protocol::Reply;
+use crate::reasons::name;
 use crate::record::Record;
-use crate::sectors::Content;
+use crate::room::Room;
+use crate::secret::Secret;
+use crate::segments::Segments;
+use crate::store::Store;
 use crate::superseded::without_superseded;
 use crate::waits::Waits;
 use crate::wire::{HEARTBEAT, NOT_UP, frames};
-use sevunthi::message::kind;
-use sevunthi::{Address, Answer, Envelope, Fault, Id, Node, Ready, Shape};
+pub use opening::{Opened, coordinator_of};
+use sevunthi::message::{Stored, framed, kind, u16_at, u64_at};
+use sevunthi::{Address, Answer, Envelope, Fault, Id, Node, Ready};
 use std::collections::{BTreeMap, VecDeque};
-use std::fmt::Display;
-use std::fs::File;
-use std::io::{self, Read};
+use std::io;
+use std::ops::Range;
 use std::path::PathBuf;
-use std::sync::{Arc, Mutex};
-use std::time::{Duration, Instant, SystemTime, UNIX_EPOCH};
+use std::sync::Arc;
+use std::time::{Duration, Instant};
+pub use transacting::{add_counts, add_fenced};
 
 /// How a process of the cluster is to run.
 #[derive(Clone, Debug)]
@@ -30,12 +46,23 @@ pub struct Config {
     pub hosts: u8,
     /// The address that all listen on.
     pub address: String,
-    /// The port of host 0; the others follow, and then the coordinator.
+    /// The port of host 0; the others follow, and then the coordinators.
     pub port: u16,
+    /// How many coordinators there are, of which one leads; and which of them this is.
+    pub coordinators: u8,
+    pub coordinator: u8,
+    /// Where etcd listens, if the coordinators' journal is there.
+    pub store: Vec<String>,
+    /// Where each listens, by its place, where a file says that.
+    pub listed: Vec<String>,
+    /// Where this process listens, where that is not where others reach it.
+    pub listen: Option<String>,
     /// The node's folder.
     pub folder: PathBuf,
     /// What the peers share.
-    pub secret: Vec<u8>,
+    pub secret: Secret,
+    /// What who operates the cluster has; where it is not there nobody operates it at this process.
+    pub operator: Option<Secret>,
     /// How many replicas each segment has.
     pub factor: u8,
     /// How many entries a segment takes.
@@ -44,11 +71,17 @@ pub struct Config {
     pub tick: u64,
     /// Milliseconds of silence before a server is suspected.
     pub silence: u64,
+    /// Milliseconds for which a backup may be slow before it is given up; 0 where it never is.
+    pub slow: u64,
     /// How many bytes a journal grows before it is made short.
     pub long: usize,
     /// When a host has taken so much since the last sync, or has writes of its own under way, the next one is left to a
     /// thread, and the host goes on.
     pub beside: u64,
+    /// So many bytes are to be left on the disk.
+    pub reserve: u64,
+    /// How many hosts a coordinator that begins has to hear before it acts; all but `factor` where it is not said.
+    pub hear: Option<u8>,
     /// Whether each message is recorded.
     pub record: bool,
     /// Whether faults can be asked for.
@@ -58,13 +91,51 @@ pub struct Config {
 impl Config {
     /// This process's place among all: the hosts have the first ones.
     pub fn place(&self) -> usize {
-        self.index.map_or(usize::from(self.hosts), usize::from)
+        self.index.map_or(usize::from(self.hosts) + usize::from(self.coordinator), usize::from)
     }
 
-    fn at(&self, place: usize) -> String {
-        format!("{}:{}", self.address, usize::from(self.port) + place)
+    /// The places of the coordinators.
+    fn coordinator_places(&self) -> Range<usize> {
+        usize::from(self.hosts)..usize::from(self.hosts) + usize::from(self.coordinators)
+    }
+
+    /// Whether a coordinator has this place.
+    fn is_coordinator(&self, place: usize) -> bool {
+        self.coordinator_places().contains(&place)
+    }
+
+    /// The name that metrics have for who has this place.
+    pub fn label(&self, place: usize) -> String {
+        metrics::label(place, self.hosts)
+    }
+
+    /// Where whoever has this place listens.
+    pub fn at(&self, place: usize) -> String {
+        let listed = self.listed.get(place).cloned();
+        listed.unwrap_or_else(|| addresses::with_port(&self.address, self.port + place as u16))
+    }
+
+    /// Opens this process's port.
+    pub fn open_door(&self, events: EventSender) -> io::Result<Arc<Door>> {
+        let opening = Opening {
+            place: self.place() as u8,
+            places: self.coordinator_places().end,
+            name: self.label(self.place()),
+            secret: self.secret.clone(),
+            operator: self.operator.clone(),
+            folder: self.folder.clone(),
+        };
+        door::open(&self.listen.clone().unwrap_or_else(|| self.at(self.place())), opening, events)
+    }
+
+    fn dialer(&self, place: usize) -> Dialer {
+        let hello = Hello { role: Role::Peer, from: self.place() as u8, to: place as u8 };
+        Dialer::new(hello, self.hosts, self.at(place), self.secret.clone())
     }
 }
+
+/// Where the segment stands in the subject of a Stored, behind its sender and its addressee.
+const STORED_SEGMENT: usize = 14;
 
 /// For so many bytes of answers to a client there is room at once. The thread that sends them frees this; it is more
 /// than the C library would keep at hand for that thread.
@@ -74,22 +145,32 @@ const ANSWERS: usize = 2048;
 pub struct Core {
     pub config: Config,
     pub node: Node,
-    pub journal: Journal,
+    pub journal: Store,
+    pub guard: Guard,
+    pub room: Room,
     pub counts: Counts,
+    /// How many answers had each code.
+    codes: BTreeMap<u8, u64>,
     clock: u64,
     began: Instant,
     base: u64,
     ready: Ready,
     peers: Vec<PeerWriter>,
     outs: Vec<Vec<u8>>,
+    /// How far this node had come, as each peer was told last.
+    said: Vec<Position>,
     clients: BTreeMap<u64, Writer>,
     answers: BTreeMap<u64, Vec<u8>>,
     pub local: VecDeque<Vec<u8>>,
     record: Option<Record>,
-    text: Arc<Mutex<String>>,
+    door: Arc<Door>,
     pub mangle: Mangle,
     pub awake: Awake,
     pub waits: Waits,
+    /// At the coordinator: too few hosts have room.
+    pub is_scarce: bool,
+    pub pace: Pace,
+    pub segments: Segments,
     /// How much was taken when the last sync began.
     synced_at: u64,
     /// When an Append of another came last, in the time of `awake`.
@@ -109,6 +190,8 @@ pub struct Counts {
     pub saves: u64,
     /// Writes acknowledged, and reads answered.
     pub answered: u64,
+    /// Answers for clients that had gone.
+    pub lost_answers: u64,
     /// Nanoseconds in syncs.
     pub syncing: u64,
 }
@@ -119,55 +202,56 @@ const LATELY: Duration = Duration::from_millis(50);
 /// How often a server says that it lives, and what a node shows is made anew.
 pub const BEAT: Duration = Duration::from_millis(100);
 
-/// Writes a line to the node's log, behind the time of day (UTC).
-pub fn tell(what: impl Display) {
-    let since = SystemTime::now().duration_since(UNIX_EPOCH).unwrap_or_default();
-    let (day, thousandths) = (since.as_secs() % 86_400, since.subsec_millis());
-    eprintln!("{:02}:{:02}:{:02}.{thousandths:03} {what}", day / 3600, day / 60 % 60, day % 60);
-}
-
-/// Why a process ends.
-pub fn failed(what: &str, error: impl Display) -> ! {
-    tell(format_args!("{what}: {error}"));
-    std::process::exit(3)
-}
-
 impl Core {
     /// Opens the folder, makes the node or has it come back, and listens.
     pub fn open(config: Config) -> io::Result<(Core, EventReceiver)> {
-        let (node, mut journal, ready) = open_node(&config)?;
+        let mut opened = opening::open_in_folder(&config)?;
         let (events, from) = events::channel();
-        let text = Arc::new(Mutex::new(String::new()));
         let done = events.clone();
         let ended = |is_of_roll| if is_of_roll { Event::RollSynced } else { Event::Synced };
-        journal.sync_beside(move |is_of_roll| _ = done.send(ended(is_of_roll)));
-        listen(&config.at(config.place()), config.secret.clone(), events, Arc::clone(&text))?;
-        let places = 0..=usize::from(config.hosts);
+        if let Store::File(journal) = &mut opened.journal {
+            journal.sync_beside(move |is_of_roll| _ = done.send(ended(is_of_roll)));
+        }
+        let door = config.open_door(events)?;
+        Ok((Core::new(config, opened, door)?, from))
+    }
+
+    /// A node that was opened, whose port is open.
+    pub fn new(config: Config, opened: Opened, door: Arc<Door>) -> io::Result<Core> {
+        let Opened { node, journal, ready, guard, clock } = opened;
+        let places = 0..config.coordinator_places().end;
         let record = config.record.then(|| Record::open(&config.folder)).transpose()?;
         let mut core = Core {
             node,
             journal,
+            guard,
+            room: Room::new(&config.folder, config.reserve),
             counts: Counts::default(),
-            clock: record.as_ref().map_or(0, Record::noted),
+            codes: BTreeMap::new(),
+            clock: record.as_ref().map_or(0, Record::noted).max(clock),
             began: Instant::now(),
-            base: since_boot(),
+            base: opening::since_boot(),
             ready,
-            peers: places.clone().map(|place| PeerWriter::new(config.at(place), config.secret.clone())).collect(),
+            peers: places.clone().map(|place| PeerWriter::new(config.dialer(place))).collect(),
+            said: places.clone().map(|_| Position::default()).collect(),
             outs: places.map(|_| Vec::new()).collect(),
             clients: BTreeMap::new(),
             answers: BTreeMap::new(),
             local: VecDeque::new(),
             record,
-            text,
+            door,
             mangle: Mangle::default(),
             awake: Awake::new(),
             waits: Waits::default(),
+            is_scarce: false,
+            pace: Pace::default(),
+            segments: Segments::default(),
             synced_at: 0,
             appended_at: None,
             config,
         };
         core.tick_clock();
-        Ok((core, from))
+        Ok(core)
     }
 
     /// The clock rises with each use, and with time where that is ahead.
@@ -181,6 +265,7 @@ impl Core {
             self.counts.frames += 1;
             self.clock = self.clock.max(clock.saturating_add(1));
             match message.split_first() {
+                Some((&WORD, _)) => self.take_word(message),
                 Some((&HEARTBEAT, ids)) => {
                     let mut ids = ids.chunks_exact(5).filter_map(Id::read);
                     if let Some(id) = ids.next() {
@@ -197,19 +282,87 @@ impl Core {
         }
     }
 
-    /// Delivers a message, if it is for this node. Gives back its front where the node has taken it.
+    /// What the coordinator and a host have of each other's folders. Where this one's is an older copy, it ends.
+    pub fn take_word(&mut self, bytes: &[u8]) {
+        let Some(word) = Word::read(bytes) else { return };
+        let before = self.guard.standing(word.from);
+        let shown = self.guard.take(&word);
+        let shown = shown.unwrap_or_else(|error| failed("what was told can't be kept", error));
+        let who = if word.from == COORDINATOR { "the coordinator".to_string() } else { format!("host {}", word.from) };
+        match shown {
+            Shown::IsOlder => opening::is_older(&who, &mut self.journal),
+            Shown::WasReplaced => opening::was_replaced(),
+            Shown::Nothing => {}
+        }
+        let standing = self.guard.standing(word.from);
+        if standing == Standing::Good {
+            self.room.hear(word.from, word.lacks_room);
+        }
+        if standing != before {
+            match standing {
+                Standing::Older => tell(format_args!("{who} speaks of less than before: nothing of it is taken")),
+                Standing::Foreign => tell(format_args!("{who} is of another cluster: nothing of it is taken")),
+                Standing::Unheard | Standing::New | Standing::Good => {}
+            }
+        }
+    }
+
+    /// Says to whoever has this place how far this node has come, and what it was told.
+    pub fn say_word(&mut self, place: usize) {
+        if self.mangle.is_deaf(place) {
+            return;
+        }
+        let to = if self.config.is_coordinator(place) { COORDINATOR } else { place as u8 };
+        let lacks_room = if self.config.index.is_some() { self.room.lacks() } else { self.is_scarce };
+        let position = self.journal.position();
+        let word = self.guard.word(to, position, lacks_room).code();
+        if let (Some(out), Some(said)) = (self.outs.get_mut(place), self.said.get_mut(place)) {
+            self.mangle.put(self.clock, &word, out);
+            *said = position;
+        }
+    }
+
+    /// Whether a word is said to whoever has this place: between the coordinator and hosts.
+    fn is_between(&self, place: usize) -> bool {
+        self.config.index.is_none() || self.config.is_coordinator(place)
+    }
+
+    /// A batch that has what became safe behind its first word ends with another: nobody is sent more than it is told.
+    fn say_last_words(&mut self) {
+        for place in 0..self.outs.len() {
+            if !self.outs[place].is_empty() && self.is_between(place) && self.said[place] < self.journal.position() {
+                self.say_word(place);
+            }
+        }
+    }
+
+    /// Says it to each host that has spoken, where nothing else is said to it just now.
+    pub fn greet(&mut self) {
+        for host in 0..usize::from(self.config.hosts) {
+            if self.guard.standing(host as u8) != Standing::Unheard && self.outs[host].is_empty() {
+                self.say_word(host);
+            }
+        }
+    }
+
+    /// Delivers a message, if it is for this node, and of one that is listened to. Gives back its front where the node
+    /// has taken it.
     pub fn deliver<'a>(&mut self, message: &'a [u8]) -> Option<Envelope<'a>> {
         let envelope = Envelope::read(message)?;
-        let place = match envelope.to {
-            Address::Coordinator => usize::from(self.config.hosts),
-            Address::Server(id) => usize::from(id.index),
+        if !self.guard.hears(envelope.from) {
+            return None;
+        }
+        let index = match envelope.to {
+            Address::Coordinator => None,
+            Address::Server(id) => Some(id.index),
             Address::Outside => return None,
         };
-        if place != self.config.place() {
+        if index != self.config.index {
             return None;
         }
         match (envelope.kind, envelope.from) {
-            (kind::STORED | kind::DATA, Address::Server(from)) => self.waits.answered(from),
+            (kind::STORED, Address::Server(from)) => self.note_stored(from, message),
+            (kind::DATA, Address::Server(from)) => self.waits.answered(from),
             (kind::APPEND, _) => self.appended_at = Some(self.awake.now()),
             _ => {}
         }
@@ -243,20 +396,62 @@ impl Core {
         }
         match envelope.to {
             Address::Outside => envelope.answer().into_iter().for_each(answer),
-            Address::Coordinator => self.post(usize::from(self.config.hosts), message),
+            Address::Coordinator => self.post_to_coordinators(message),
             Address::Server(id) => {
                 if matches!(envelope.kind, kind::PLACE | kind::APPEND | kind::CLOSE | kind::FETCH) {
                     self.waits.asked(id, self.awake.now());
                 }
+                self.note_segment(id, &envelope);
                 self.post(usize::from(id.index), message);
             }
         }
     }
 
-    /// Who has answered nothing for as long as one waits, with for how long.
+    /// What a message that leaves tells of a segment of the server's log.
+    fn note_segment(&mut self, to: Id, envelope: &Envelope<'_>) {
+        let Some(segment) = u16_at(envelope.body, 0) else { return };
+        match envelope.kind {
+            kind::PLACE => self.segments.placed(to, segment),
+            kind::FREE => self.segments.freed(segment),
+            kind::APPEND => {
+                if let Some(offset) = u64_at(envelope.body, 2) {
+                    self.pace.asked(to, segment, offset, self.awake.now());
+                }
+            }
+            _ => {}
+        }
+    }
+
+    /// A backup has told what it has of a segment.
+    fn note_stored(&mut self, from: Id, message: &[u8]) {
+        self.waits.answered(from);
+        let Some(stored) = Stored::read(message) else { return };
+        let Some(segment) = u16_at(stored.subject, STORED_SEGMENT) else { return };
+        self.segments.stored(from, segment);
+        if let Some(took) = self.pace.stored(from, segment, stored.length, self.awake.now()) {
+            tell(format_args!("backup {from} is slow: its answer took {} ms", took.as_millis()));
+        }
+    }
+
+    /// Who has answered nothing for as long as one waits, with for how long; and who has been slow for long.
     pub fn waited_for(&mut self) -> Vec<(Id, Duration)> {
-        let [silence, tick] = [self.config.silence, self.config.tick].map(Duration::from_millis);
-        self.waits.longer_than(silence, (silence / 2).max(2 * tick), self.awake.now())
+        let [silence, tick, slow] =
+            [self.config.silence, self.config.tick, self.config.slow].map(Duration::from_millis);
+        let now = self.awake.now();
+        let mut waits = self.waits.longer_than(silence, (silence / 2).max(2 * tick), now);
+        if !slow.is_zero() {
+            let slow = self.pace.slow_for(slow, now).into_iter().map(|id| (id, slow));
+            waits.extend(slow.filter(|(id, _)| !waits.iter().any(|(other, _)| other == id)).collect::<Vec<_>>());
+        }
+        waits
+    }
+
+    /// Queues a frame for whoever is the coordinator: one of them leads, and the others only listen.
+    pub fn post_to_coordinators(&mut self, message: &[u8]) {
+        match self.config.index {
+            None => self.local.push_back(message.to_vec()),
+            Some(_) => self.config.coordinator_places().for_each(|place| self.post(place, message)),
+        }
     }
 
     /// Queues a frame for a peer, or for this node itself.
@@ -265,23 +460,64 @@ impl Core {
             self.local.push_back(message.to_vec());
             return;
         }
-        if self.mangle.is_deaf(place) || place == usize::from(self.config.hosts) && self.is_stuck() {
+        if self.mangle.is_deaf(place) || self.config.is_coordinator(place) && self.is_stuck() {
             return;
+        }
+        if self.is_between(place) && self.outs.get(place).is_some_and(Vec::is_empty) {
+            self.say_word(place);
         }
         let Some(out) = self.outs.get_mut(place) else { return };
         self.mangle.put(self.clock, message, out);
     }
 
-    /// Shows this text from now on.
-    pub fn show(&self, now: String) {
-        if let Ok(mut text) = self.text.lock() {
-            *text = now;
+    /// Shows these texts from now on: the state, and the metrics.
+    pub fn show(&self, status: String, metrics: String) {
+        self.door.show(status, metrics);
+    }
+
+    /// What either kind of process has to tell.
+    pub fn metrics(&mut self) -> Metrics {
+        let mut metrics = Metrics::of(&self.config.label(self.config.place()));
+        let (info, counts) = (self.node.info(), self.counts);
+        for (name, help, value) in [
+            ("journal_bytes", "Bytes of the journal.", info.written as u64),
+            ("journal_safe_bytes", "Bytes of the journal that are known to be safe.", info.safe as u64),
+        ] {
+            metrics.add(Kind::Gauge, &format!("sevunthi_{name}"), help, value);
         }
+        for (name, help, value) in [
+            ("journal_syncs_total", "Syncs of the journal.", self.journal.syncs()),
+            ("saves_total", "Saves that have replaced a long journal.", counts.saves),
+            ("works_total", "Works and messages that the node has taken.", counts.works),
+            ("messages_sent_total", "Messages that have left.", counts.messages),
+            ("frames_taken_total", "Frames that have come of peers.", counts.frames),
+            ("answers_lost_total", "Answers for clients that had gone.", counts.lost_answers),
+        ] {
+            metrics.add(Kind::Counter, &format!("sevunthi_{name}"), help, value);
+        }
+        let help = "Seconds in syncs of the journal.";
+        metrics.add(Kind::Counter, "sevunthi_journal_sync_seconds_total", help, counts.syncing as f64 / 1e9);
+        let codes = self.codes.iter().map(|(code, count)| (format!("code=\"{}\"", name(*code)), *count));
+        let help = "Answers to clients, by what became of the request: done, or why it was refused.";
+        metrics.add_rows(Kind::Counter, "sevunthi_answers_total", help, codes);
+        let place = self.config.place();
+        let others = self.peers.iter().enumerate().filter(|(peer, _)| *peer != place);
+        let rows =
+            others.map(|(peer, writer)| (format!("peer=\"{}\"", self.config.label(peer)), u8::from(writer.is_open())));
+        let help = "1 where there was a connection to this peer when something was last sent to it.";
+        metrics.add_rows(Kind::Gauge, "sevunthi_peer_connected", help, rows);
+        metrics
+    }
+
+    /// Whether a client has proved that it operates the cluster.
+    pub fn may_operate(&self, client: u64) -> bool {
+        self.clients.get(&client).is_some_and(|writer| writer.may_operate)
     }
 
     /// Answers a client.
     pub fn answer(&mut self, client: u64, reply: &Reply) {
         self.counts.answered += 1;
+        *self.codes.entry(reply.code).or_default() += 1;
         reply.put(self.answers.entry(client).or_insert_with(|| Vec::with_capacity(ANSWERS)));
     }
 
@@ -392,6 +628,7 @@ impl Core {
 
     /// What was queued leaves.
     pub fn flush(&mut self) {
+        self.say_last_words();
         if let Some(record) = &mut self.record {
             let written = record.note(self.clock).and_then(|()| record.write());
             written.unwrap_or_else(|error| failed("the record can't be written", error));
@@ -400,20 +637,32 @@ impl Core {
             peer.send(out);
         }
         for (client, bytes) in std::mem::take(&mut self.answers) {
-            if let Some(writer) = self.clients.get(&client) {
-                writer.send(bytes);
+            match self.clients.get(&client) {
+                Some(writer) => writer.send(bytes),
+                None => self.counts.lost_answers += framed(&bytes).count() as u64,
             }
         }
     }
 
-    /// Whether the journal is to be made short.
+    /// Whether the journal is to be made short. A save takes room of its own, and so does its file: where the disk
+    /// lacks that, none is made, and nothing waits for it.
     pub fn is_long(&self) -> bool {
-        self.config.long <= self.journal.length - self.journal.saved
+        !self.room.lacks() && self.config.long <= self.journal.grown()
+    }
+
+    /// Looks how much room the disk has.
+    pub fn look_for_room(&mut self) {
+        if let Some(found) = self.room.look() {
+            tell(found);
+        }
     }
 
     /// Makes a long journal short. One that is on its way there gets its next file before that.
     pub fn shorten(&mut self) {
-        if self.config.long / 16 <= self.journal.length - self.journal.saved {
+        if self.room.lacks() || self.remote().is_some() {
+            return;
+        }
+        if self.config.long / 16 <= self.journal.grown() {
             self.journal.make_spare(self.config.long);
         }
         if !self.is_long() || 0 < self.journal.under_way() || !self.ready.journal.is_empty() {
@@ -432,22 +681,22 @@ impl Core {
     /// Has something go wrong, as a test asks for it.
     pub fn fail(&mut self, what: u32, how: u64) {
         match Wrong::read(what, how) {
-            Some(Wrong::Sync) => self.journal.failing.sync = true,
+            Some(Wrong::Sync) => self.journal.failing().sync = true,
             Some(Wrong::EndInSave(step)) => {
-                self.journal.failing.end_in_save = Some(step);
+                self.journal.failing().end_in_save = Some(step);
                 self.config.long = 0;
             }
             Some(Wrong::FullInSave) => {
-                self.journal.failing.full_in_save = true;
+                self.journal.failing().full_in_save = true;
                 self.config.long = 0;
             }
             Some(Wrong::Deaf(mask)) => self.mangle.deaf = mask,
             Some(Wrong::Mangle(often)) => self.mangle.often = often,
             Some(Wrong::Jump(nanoseconds)) => self.base = self.base.saturating_add_signed(nanoseconds),
             Some(Wrong::DiskStands(milliseconds)) => {
-                self.journal.failing.stands_until = Instant::now().checked_add(Duration::from_millis(milliseconds));
+                self.journal.failing().stands_until = Instant::now().checked_add(Duration::from_millis(milliseconds));
             }
-            Some(Wrong::Nothing) => self.journal.failing = Failing::in_folder(&self.config.folder),
+            Some(Wrong::Nothing) => *self.journal.failing() = Failing::in_folder(&self.config.folder),
             None => {}
         }
     }
@@ -461,47 +710,4 @@ pub enum Frame<'a> {
     Heartbeat(Id, Vec<Id>),
     /// The coordinator's list shows this server crashed.
     NotUp(Id),
-}
-
-/// The node that comes back from the folder, or a new one, and its journal, of which all is safe.
-fn open_node(config: &Config) -> io::Result<(Node, Journal, Ready)> {
-    let found = journal::find(&config.folder)?;
-    let mut ready = Ready::default();
-    let failing = if config.faults { Failing::in_folder(&config.folder) } else { Failing::default() };
-    let (mut node, journal) = match &found.journal {
-        Some(Content { bytes, .. }) => {
-            let mut node =
-                Node::come_back(bytes, found.known).unwrap_or_else(|fault| failed("this node must not start", fault));
-            let good = node.good();
-            node.ready(&mut ready).map_err(io::Error::other)?;
-            let mut journal = Journal::open(&config.folder, found, good, failing)?;
-            journal.add(&ready.journal)?;
-            journal.sync()?;
-            (node, journal)
-        }
-        None => {
-            let mut node = new_node(config).map_err(io::Error::other)?;
-            node.ready(&mut ready).map_err(io::Error::other)?;
-            (node, Journal::create(&config.folder, found, &ready.journal, failing)?)
-        }
-    };
-    node.synced(journal.length).map_err(io::Error::other)?;
-    ready.journal.clear();
-    Ok((node, journal, ready))
-}
-
-fn new_node(config: &Config) -> Result<Node, Fault> {
-    match config.index {
-        None => Node::coordinator(),
-        Some(index) => Node::host(Shape { index, factor: config.factor, segment: config.segment, free: true }),
-    }
-}
-
-/// Nanoseconds since the machine was started, and some more, so that a process that comes back is ahead of where it
-/// was.
-fn since_boot() -> u64 {
-    let mut text = String::new();
-    let read = File::open("/proc/uptime").and_then(|mut file| file.read_to_string(&mut text));
-    let seconds = text.split(' ').next().and_then(|word| word.parse::<f64>().ok()).unwrap_or(0.0);
-    if read.is_err() { 0 } else { ((seconds + 0.02) * 1e9) as u64 }
 }

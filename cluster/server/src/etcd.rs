@@ -1,7 +1,9 @@
 //! Puts to an etcd server, for a comparison: as much of HTTP/2 and of gRPC as a put takes, and no more.
 
-use crate::bench::Talk;
+use crate::bench::{Talk, WAIT};
 use crate::protocol::{DONE, UNKNOWN};
+use std::io::{self, ErrorKind, Read, Write};
+use std::net::TcpStream;
 
 /// What a client says first: the preface, settings with the largest window for each stream, and the same for the
 /// connection.
@@ -29,6 +31,10 @@ const ENDS_HEADERS: u8 = 4;
 
 /// One connection to an etcd server. The stream of a request is twice its number, and one.
 pub struct Etcd {
+    stream: TcpStream,
+    /// What was not sent yet, and what has come and was not taken yet.
+    out: Vec<u8>,
+    came: Vec<u8>,
     value: Vec<u8>,
     /// How many bytes of requests the server takes before it says so again.
     window: i64,
@@ -39,9 +45,26 @@ pub struct Etcd {
 }
 
 impl Etcd {
-    /// Puts of this value.
-    pub fn new(value: Vec<u8>) -> Etcd {
-        Etcd { value, window: 65_535, taken: 0, answered: std::collections::HashSet::new() }
+    /// Puts of this value, to the server at this address.
+    ///
+    /// # Errors
+    ///
+    /// Why it is not reached.
+    pub fn connect(address: &str, value: Vec<u8>) -> io::Result<Etcd> {
+        let stream = TcpStream::connect(address)?;
+        stream.set_nodelay(true)?;
+        stream.set_read_timeout(Some(WAIT))?;
+        let (out, came, answered) = (HELLO.to_vec(), Vec::new(), std::collections::HashSet::new());
+        Ok(Etcd { stream, out, came, value, window: 65_535, taken: 0, answered })
+    }
+
+    /// Takes what has come: adds the numbers of what was answered, with the codes of the answers.
+    fn take(&mut self, answers: &mut Vec<(u64, u8)>) -> io::Result<()> {
+        let (came, mut out) = (std::mem::take(&mut self.came), std::mem::take(&mut self.out));
+        let used = self.take_frames(&came, answers, &mut out)?;
+        (self.came, self.out) = (came, out);
+        self.came.drain(..used);
+        Ok(())
     }
 }
 
@@ -69,23 +92,35 @@ fn number_at(bytes: &[u8], at: usize) -> Option<u32> {
 }
 
 impl Talk for Etcd {
-    fn hello(&mut self, out: &mut Vec<u8>) {
-        out.extend_from_slice(HELLO);
-    }
-
-    fn ask(&mut self, number: u64, key: u64, out: &mut Vec<u8>) {
+    fn ask(&mut self, number: u64, key: u64) {
         let stream = 2 * number as u32 + 1;
-        put_frame(WITH_HEADERS, ENDS_HEADERS, stream, HEADERS, out);
+        put_frame(WITH_HEADERS, ENDS_HEADERS, stream, HEADERS, &mut self.out);
         let mut message = vec![0; 5];
         put_field(1, format!("{key:016}").as_bytes(), &mut message);
         put_field(2, &self.value, &mut message);
         let length = message.len() as u32 - 5;
         message[1..5].copy_from_slice(&length.to_be_bytes());
         self.window -= message.len() as i64;
-        put_frame(DATA, ENDS_STREAM, stream, &message, out);
+        put_frame(DATA, ENDS_STREAM, stream, &message, &mut self.out);
     }
 
-    fn take(&mut self, bytes: &[u8], answers: &mut Vec<(u64, u8)>, out: &mut Vec<u8>) -> Result<usize, String> {
+    fn wait(&mut self, answers: &mut Vec<(u64, u8)>) -> io::Result<()> {
+        self.stream.write_all(&self.out)?;
+        self.out.clear();
+        let mut room = [0; 1 << 16];
+        match self.stream.read(&mut room)? {
+            0 => Err(ErrorKind::UnexpectedEof.into()),
+            count => {
+                self.came.extend_from_slice(&room[..count]);
+                self.take(answers)
+            }
+        }
+    }
+}
+
+impl Etcd {
+    /// Takes frames, and says how many bytes they had; what has to be sent for it is added to `out`.
+    fn take_frames(&mut self, bytes: &[u8], answers: &mut Vec<(u64, u8)>, out: &mut Vec<u8>) -> io::Result<usize> {
         let mut used = 0;
         while let Some(head) = bytes.get(used..used + 9) {
             let length = usize::from(head[0]) << 16 | usize::from(head[1]) << 8 | usize::from(head[2]);
@@ -101,7 +136,7 @@ impl Talk for Etcd {
                 SETTINGS if flags & IS_ACK == 0 => put_frame(SETTINGS, IS_ACK, 0, &[], out),
                 PING if flags & IS_ACK == 0 => put_frame(PING, IS_ACK, 0, body, out),
                 WINDOW if stream == 0 => self.window += i64::from(number_at(body, 0).unwrap_or(0)),
-                GO_AWAY => return Err("etcd ends the connection".into()),
+                GO_AWAY => return Err(io::Error::new(ErrorKind::InvalidData, "etcd ends the connection")),
                 _ => {}
             }
             if ends {
@@ -115,7 +150,7 @@ impl Talk for Etcd {
             self.taken = 0;
         }
         if self.window < 0 {
-            return Err("more is on its way than etcd takes at once".into());
+            return Err(io::Error::new(ErrorKind::InvalidData, "more is on its way than etcd takes at once"));
         }
         Ok(used)
     }

@@ -2,13 +2,16 @@
 
 use crate::core::{BEAT, Config, Core, Frame, failed, tell};
 use crate::events::{Event, EventReceiver, LEAST_PART, TURN, part_of};
-use crate::protocol::{DONE, NO_VALUE, Op, Reply, Request, UNKNOWN, WRONG};
+use crate::metrics::{Kind, brief};
+use crate::protocol::{
+    Condition, DONE, MISMATCH, MISMATCH_NO_VALUE, NO_ROOM, NO_VALUE, Op, Reply, Request, UNKNOWN, WRONG,
+};
+use crate::turns::Turns;
 use crate::wire::{HEARTBEAT, is_place};
 use sevunthi::message::{self, framed, kind, u32_at, u64_at};
 use sevunthi::{Address, Answer, Envelope, Fault, Id, Work};
 use std::borrow::Cow;
 use std::collections::VecDeque;
-use std::fmt::Write as _;
 use std::io;
 use std::time::{Duration, Instant};
 
@@ -42,6 +45,8 @@ const DEPOSED: u8 = 5;
 struct Asked<'a> {
     client: Option<u64>,
     request: Request<'a>,
+    /// The version that the write has to have: that of a conditional write is the next one.
+    version: Option<u64>,
 }
 
 /// A host.
@@ -51,8 +56,12 @@ struct Host {
     /// Writes that were taken, without their values, in order of their places; none are those that were answered before
     /// an earlier one.
     pending: VecDeque<(Place, Option<Asked<'static>>)>,
-    /// Requests that came while the head was being rolled.
+    /// Requests that came while the head was being rolled, or that have waited for their turn.
     waiting: VecDeque<Asked<'static>>,
+    /// Whose turn it is to write a key, and who waits for that.
+    turns: Turns<Asked<'static>>,
+    /// Somebody's turn has come.
+    is_turn: bool,
     /// Reads that were answered, with the place that the next write got, which confirms them.
     reads: VecDeque<(Place, u64, Reply, (u32, u64))>,
     /// The end of what confirms: a write was taken at the place before.
@@ -80,6 +89,8 @@ pub fn run(config: Config) -> io::Result<()> {
         server: Id { index: 0, generation: 0 },
         pending: VecDeque::new(),
         waiting: VecDeque::new(),
+        turns: Turns::new(),
+        is_turn: false,
         reads: VecDeque::new(),
         next: (0, 0),
         grants: Vec::new(),
@@ -93,6 +104,7 @@ pub fn run(config: Config) -> io::Result<()> {
         code: Vec::new(),
     };
     host.begin();
+    host.show();
     host.serve(&events);
     Ok(())
 }
@@ -100,7 +112,7 @@ pub fn run(config: Config) -> io::Result<()> {
 impl Asked<'_> {
     /// The same with a value of its own.
     fn into_owned(self) -> Asked<'static> {
-        Asked { client: self.client, request: self.request.into_owned() }
+        Asked { client: self.client, request: self.request.into_owned(), version: self.version }
     }
 }
 
@@ -114,10 +126,16 @@ impl Host {
         self.is_replaced = false;
         self.grants.clear();
         self.core.waits.clear();
+        self.core.pace.clear();
+        self.core.segments.clear();
         self.next = (0, 0);
         self.rolling = None;
+        // these were not given to the node
+        for Asked { client, request, .. } in self.turns.clear() {
+            self.reply(client, &Reply::bare(DEPOSED, request.number));
+        }
         let taken = std::mem::take(&mut self.pending).into_iter().filter_map(|(_, asked)| asked);
-        for Asked { client, request } in taken.chain(std::mem::take(&mut self.waiting)) {
+        for Asked { client, request, .. } in taken.chain(std::mem::take(&mut self.waiting)) {
             self.reply(client, &Reply::bare(UNKNOWN, request.number));
         }
         self.refuse_reads();
@@ -131,7 +149,7 @@ impl Host {
     fn serve(&mut self, events: &EventReceiver) {
         let mut tick = Instant::now();
         loop {
-            let wait = if self.core.local.is_empty() { TURN } else { Duration::ZERO };
+            let wait = if self.core.local.is_empty() && !self.is_turn { TURN } else { Duration::ZERO };
             let mut passed_on = self.core.counts.works;
             events.take_turn(wait, |event| {
                 let many = most_before(&event);
@@ -155,6 +173,7 @@ impl Host {
             // what takes long tells the coordinator in its middle, and shows nothing
             if BEAT <= self.shown.elapsed() {
                 self.shown = Instant::now();
+                self.core.look_for_room();
                 self.show();
             }
             if Duration::from_millis(self.core.config.tick) <= tick.elapsed() {
@@ -224,12 +243,15 @@ impl Host {
                     }
                     match Request::read(request) {
                         Some(request) => self.ask(client, request),
-                        None => self.core.answer(client, &Reply::bare(WRONG, 0)),
+                        None => self.core.answer(client, &Reply::wrong(request)),
                     }
                 }
             }
             Event::ClientUp(client, writer) => self.core.set_client(client, Some(writer)),
-            Event::ClientDown(client) => self.core.set_client(client, None),
+            Event::ClientDown(client) => {
+                self.core.set_client(client, None);
+                self.turns.forget(|asked| asked.client == Some(client));
+            }
             Event::PeerDown(_) => {}
             Event::Synced | Event::RollSynced => self.core.end_sync(),
         }
@@ -261,7 +283,10 @@ impl Host {
                     beat_if_due(beat, server, core);
                 }
             }
-            Frame::NotUp(id) => is_replaced |= id == server,
+            Frame::NotUp(id) => {
+                let counts = core.guard.hears(Address::Coordinator) || core.guard.is_new();
+                is_replaced |= id == server && counts;
+            }
             Frame::Heartbeat(..) => {}
         });
         self.is_replaced |= is_replaced;
@@ -271,17 +296,19 @@ impl Host {
     /// A client's request.
     fn ask(&mut self, client: u64, request: Request<'_>) {
         match request.op {
-            Op::Put | Op::Delete | Op::Get | Op::GetFast if request.key >> 63 == 0 => {
-                let asked = Asked { client: Some(client), request };
+            op if op.is_write() && self.core.room.is_refusing() => {
+                self.core.answer(client, &Reply::bare(NO_ROOM, request.number));
+            }
+            Op::PutIf | Op::DeleteIf if request.condition().is_none() => {
+                self.core.answer(client, &Reply::bare(WRONG, request.number));
+            }
+            op if (op.is_write() || matches!(op, Op::Get | Op::GetFast)) && request.key >> 63 == 0 => {
+                let asked = Asked { client: Some(client), request, version: None };
                 if self.waiting.is_empty() {
                     self.give(asked);
                 } else {
                     self.waiting.push_back(asked.into_owned());
                 }
-            }
-            Op::Status => {
-                let value = self.text().into_bytes();
-                self.core.answer(client, &Reply { code: DONE, number: request.number, version: 0, value });
             }
             Op::Fail if self.core.config.faults => {
                 self.core.fail(request.table, request.key);
@@ -291,33 +318,65 @@ impl Host {
         }
     }
 
-    /// Gives the node a request, and takes at once what that sends. Says whether it is done with.
+    /// Gives the node a request, if it has not to wait for its turn. Says whether it is done with.
     fn give(&mut self, asked: Asked<'_>) -> bool {
-        // a client's keys are even, and those between them are the server's own
-        let key = if asked.client.is_some() { 2 * asked.request.key } else { asked.request.key };
-        let Request { op, table, ref value, .. } = asked.request;
-        let mut code = std::mem::take(&mut self.code);
-        match op {
-            Op::Get | Op::GetFast => message::read(self.server, table, key, &mut code),
-            Op::Delete => message::write(self.server, table, key, None, &mut code),
-            _ => message::write(self.server, table, key, Some(value), &mut code),
+        let key = (asked.request.table, asked.request.key);
+        let condition = asked.request.condition().map(|(condition, _)| condition);
+        let is_behind = asked.client.is_some() && asked.request.op.is_write() && self.turns.has_waiting(key);
+        if is_behind || condition.is_some() && self.is_under_way(key) {
+            self.turns.wait(key, asked.into_owned());
+            return true;
         }
-        let before = self.core.node.info();
+        match condition {
+            Some(condition) => self.give_if(asked, condition),
+            None => self.give_now(asked),
+        }
+    }
+
+    /// Whether a client's write of this key is under way.
+    fn is_under_way(&mut self, key: (u32, u64)) -> bool {
+        let is_it = |asked: &Asked| asked.client.is_some() && (asked.request.table, asked.request.key) == key;
+        self.turns.may_be_under_way(key) && self.pending.iter().any(|(_, asked)| asked.as_ref().is_some_and(is_it))
+    }
+
+    /// A conditional write. A read of the node's own says what is there: no write of the key is under way, and none comes
+    /// between the read and the write, so that this has the next version. Where the condition does not hold, that is
+    /// answered as a read is: it shows a version and a value, and is confirmed as they are.
+    fn give_if(&mut self, asked: Asked<'_>, condition: Condition) -> bool {
+        let (table, key, number) = (asked.request.table, 2 * asked.request.key, asked.request.number);
+        let info = self.core.node.info();
+        let place = (info.head, info.entries);
+        self.ask_node(|server, code| message::read(server, table, key, code));
+        match self.said_at_once() {
+            Some(Answer::Read { version, value, .. }) if condition.holds(version, value.as_deref()) => {
+                self.give_now(Asked { version: version.checked_add(1), ..asked })
+            }
+            Some(Answer::Read { version, value, .. }) => {
+                let code = if value.is_some() { MISMATCH } else { MISMATCH_NO_VALUE };
+                let reply = Reply { code, number, version, value: value.unwrap_or_default() };
+                self.reads.extend(asked.client.map(|client| (place, client, reply, (table, key))));
+                true
+            }
+            said => self.conclude(asked, said, place),
+        }
+    }
+
+    /// Has the node take a client's message. Says whether it has.
+    fn ask_node(&mut self, put: impl FnOnce(Id, &mut Vec<u8>)) -> bool {
+        let mut code = std::mem::take(&mut self.code);
+        put(self.server, &mut code);
         let taken = self.core.node.deliver(&code);
         self.code = code;
         if taken == Err(Fault::UsedUp) {
             failed("the node's numbers are used up", Fault::UsedUp);
         }
         self.core.counts.works += 1;
-        let place = (before.head, before.entries);
-        let is_put = matches!(op, Op::Put | Op::Delete);
-        // where the head has one entry more, that is the write, and what it sends leaves with all else
-        let now = self.core.node.info();
-        if taken.is_ok() && is_put && (now.head, now.entries) == (place.0, place.1 + 1) {
-            return self.await_durable(place, &asked);
-        }
-        let mut said = None;
-        let mut answers = Vec::new();
+        taken.is_ok()
+    }
+
+    /// Takes what the node has to say. Gives what it has answered to the last message, if it has.
+    fn said_at_once(&mut self) -> Option<Answer> {
+        let (mut said, mut answers) = (None, Vec::new());
         self.core.route(|answer| answers.push(answer));
         for answer in answers {
             match answer {
@@ -325,8 +384,33 @@ impl Host {
                 other => said = Some(other),
             }
         }
+        said
+    }
+
+    /// Gives the node a request, and takes at once what that sends. Says whether it is done with.
+    fn give_now(&mut self, asked: Asked<'_>) -> bool {
+        let request = &asked.request;
+        // a client's keys are even, and those between them are the server's own
+        let key = if asked.client.is_some() { 2 * request.key } else { request.key };
+        let value = match request.condition() {
+            Some((_, value)) => value,
+            None => Some(&*request.value).filter(|_| request.op != Op::Delete),
+        };
+        let before = self.core.node.info();
+        let is_taken = self.ask_node(|server, code| match request.op {
+            Op::Get | Op::GetFast => message::read(server, request.table, key, code),
+            _ => message::write(server, request.table, key, value, code),
+        });
+        let place = (before.head, before.entries);
+        let is_write = request.op.is_write();
+        // where the head has one entry more, that is the write, and what it sends leaves with all else
+        let now = self.core.node.info();
+        if is_taken && is_write && (now.head, now.entries) == (place.0, place.1 + 1) {
+            return self.await_durable(place, &asked);
+        }
+        let said = self.said_at_once();
         let after = self.core.node.info();
-        if taken.is_ok() && is_put && said.is_none() && place != (after.head, after.entries) {
+        if is_taken && is_write && said.is_none() && place != (after.head, after.entries) {
             return self.await_durable(place, &asked);
         }
         self.conclude(asked, said, place)
@@ -339,7 +423,11 @@ impl Host {
             self.in_rolls += since.elapsed();
         }
         self.next = (place.0, place.1 + 1);
-        self.pending.push_back((place, Some(Asked { client: asked.client, request: asked.request.bare() })));
+        let Asked { client, ref request, version } = *asked;
+        if client.is_some() {
+            self.turns.enter((request.table, request.key));
+        }
+        self.pending.push_back((place, Some(Asked { client, request: request.bare(), version })));
         true
     }
 
@@ -389,9 +477,20 @@ impl Host {
                 self.core.answer(client, &reply);
             }
         }
-        let Some(Asked { client: Some(client), request }) = self.take_pending(place) else { return };
-        let code = if (request.table, 2 * request.key) == (table, key) { DONE } else { UNKNOWN };
+        let Some(Asked { client: Some(client), request, version: wanted }) = self.take_pending(place) else { return };
+        let is_it = (request.table, 2 * request.key) == (table, key) && wanted.is_none_or(|wanted| wanted == version);
+        let code = if is_it { DONE } else { UNKNOWN };
         self.core.answer(client, &Reply { code, number: request.number, version, value: Vec::new() });
+        self.end_turn((request.table, request.key));
+    }
+
+    /// A write of this key is durable. Where it was the last one under way, those that waited for that are asked next.
+    fn end_turn(&mut self, key: (u32, u64)) {
+        self.turns.leave(key);
+        if self.turns.has_waiting(key) && !self.is_under_way(key) {
+            self.is_turn = true;
+            self.turns.release(key).into_iter().rev().for_each(|asked| self.waiting.push_front(asked));
+        }
     }
 
     /// The request of the write at this place.
@@ -404,8 +503,9 @@ impl Host {
         asked
     }
 
-    /// What had to wait for a roll is asked again.
+    /// What had to wait for a roll, or for its turn, is asked again.
     fn retry(&mut self, events: &EventReceiver) {
+        self.is_turn = false;
         let part = part_of(self.waiting.len(), self.core.keeps_others());
         for number in 1.. {
             let Some(asked) = self.waiting.pop_front() else { return };
@@ -434,7 +534,7 @@ impl Host {
             return self.refuse_reads();
         };
         let request = Request { op: Op::Put, number: 0, table, key, value: Cow::default() };
-        self.give(Asked { client: None, request });
+        self.give(Asked { client: None, request, version: None });
     }
 
     /// Reads that can't be confirmed here are refused: their clients ask elsewhere.
@@ -488,44 +588,50 @@ impl Host {
         }
     }
 
-    /// The state, as text.
-    fn text(&mut self) -> String {
+    /// What it has to tell who watches it.
+    fn metrics(&mut self) -> String {
         let info = self.core.node.info();
-        let counts = self.core.counts;
-        let mut text = String::new();
-        let rows = [
-            ("server_generation", u64::from(info.server.generation)),
-            ("runs", u64::from(info.runs)),
-            ("head_segment", u64::from(info.head)),
-            ("head_entries", info.entries),
-            ("rolls", self.rolls),
-            ("roll_nanoseconds", self.in_rolls.as_nanos() as u64),
-            ("journal_bytes", info.written as u64),
-            ("journal_safe_bytes", info.safe as u64),
-            ("journal_syncs", self.core.journal.syncs),
-            ("journal_sync_nanoseconds", counts.syncing),
-            ("saves", counts.saves),
-            ("works", counts.works),
-            ("messages_sent", counts.messages),
-            ("frames_taken", counts.frames),
-            ("answers", counts.answered),
-            ("writes_pending", self.pending.len() as u64),
-            ("requests_waiting", self.waiting.len() as u64),
-            ("reads_waiting", self.reads.len() as u64),
-        ];
-        for (name, value) in rows {
-            let _ = writeln!(text, "sevunthi_{name}{{host=\"{}\"}} {value}", info.server.index);
+        let mut metrics = self.core.metrics();
+        for (name, help, value) in [
+            ("server_generation", "How often the host has started a server.", u64::from(info.server.generation)),
+            ("server_runs", "1 where the host's server runs.", u64::from(info.runs)),
+            ("head_segment", "The newest segment of the server's log.", u64::from(info.head)),
+            ("head_entries", "Entries of that segment.", info.entries),
+            ("writes_pending", "Writes that are not durable yet.", self.pending.len() as u64),
+            ("requests_waiting", "Requests that wait for a roll.", self.waiting.len() as u64),
+            ("writes_in_turn", "Writes that wait for another one of their key.", self.turns.count_waiting() as u64),
+            ("disk_lacks_room", "1 where the disk has less room than the reserve.", u64::from(self.core.room.lacks())),
+            ("reads_waiting", "Reads that wait to be confirmed.", self.reads.len() as u64),
+        ] {
+            metrics.add(Kind::Gauge, &format!("sevunthi_{name}"), help, value);
         }
-        for (id, wait) in self.core.waited_for() {
-            let (index, wait) = (info.server.index, wait.as_millis());
-            let _ = writeln!(text, "sevunthi_waits_milliseconds{{host=\"{index}\",for=\"{id}\"}} {wait}");
-        }
-        text
+        metrics.add(Kind::Counter, "sevunthi_rolls_total", "Rolls that writes have waited for.", self.rolls);
+        let help = "Seconds for which writes have waited for rolls.";
+        metrics.add(Kind::Counter, "sevunthi_roll_wait_seconds_total", help, self.in_rolls.as_secs_f64());
+        let (freed, missing) = (self.core.segments.freed_count() as u64, self.core.segments.missing());
+        let live = u64::from(info.head).saturating_sub(freed);
+        metrics.add(Kind::Gauge, "sevunthi_segments_live", "Segments of the server's log that are not freed.", live);
+        metrics.add(Kind::Gauge, "sevunthi_segments_freed", "Segments of the server's log that are freed.", freed);
+        let help = "Replicas of the server's segments that were asked for, and are not there yet.";
+        metrics.add(Kind::Gauge, "sevunthi_replicas_missing", help, missing);
+        let backups: Vec<_> = self.core.pace.lately(self.core.awake.now()).collect();
+        let label = |id: &Id| format!("peer=\"{}\"", id.index);
+        let took = backups.iter().map(|(id, took, _)| (label(id), took.as_secs_f64()));
+        let help = "How long a backup took last to answer.";
+        metrics.add_rows(Kind::Gauge, "sevunthi_backup_answer_seconds", help, took);
+        let slow = backups.iter().map(|(id, _, slow)| (label(id), slow.as_secs_f64()));
+        let help = "For how long a backup has been slow: each answer took 0.2 seconds or more.";
+        metrics.add_rows(Kind::Gauge, "sevunthi_backup_slow_seconds", help, slow);
+        let waits = self.core.waited_for();
+        let rows = waits.into_iter().map(|(id, wait)| (format!("peer=\"{}\"", id.index), wait.as_secs_f64()));
+        let help = "For how long a server has answered nothing that it has to answer, where that is long.";
+        metrics.add_rows(Kind::Gauge, "sevunthi_waits_seconds", help, rows);
+        metrics.text()
     }
 
     fn show(&mut self) {
-        let now = self.text();
-        self.core.show(now);
+        let metrics = self.metrics();
+        self.core.show(brief(&metrics), metrics);
     }
 }
 
@@ -554,7 +660,7 @@ fn send_heartbeat(server: Id, core: &mut Core) {
     for (id, _) in core.waited_for() {
         beat.extend_from_slice(&id.code());
     }
-    core.post(usize::from(core.config.hosts), &beat);
+    core.post_to_coordinators(&beat);
 }
 
 /// The range that a message grants to this server.

@@ -1,9 +1,12 @@
 //! A node's folder: its lock, its journal, and how many bytes of that were safe.
 
 use crate::ahead::Ahead;
+use crate::disk::{self, sync_folder};
 use crate::faults::Failing;
+use crate::guard::{Position, TOLD};
 use crate::sectors::{self, BLOCK, Content, Sectors, end_of};
-use std::fs::{self, File, OpenOptions};
+use crate::version;
+use std::fs::{self, File};
 use std::io::{self, ErrorKind};
 use std::os::unix::fs::{FileExt, MetadataExt};
 use std::path::{Path, PathBuf};
@@ -22,6 +25,10 @@ pub struct Journal {
     /// What fills a new spare file, after it was looked whether there is one.
     spare: Option<Ahead>,
     _lock: File,
+    /// Its number: each save begins a journal with the next one.
+    number: u64,
+    /// How far it had come when it was opened.
+    pub found: Position,
     /// How many bytes it has.
     pub length: usize,
     /// How many it had when it was last shortened.
@@ -79,13 +86,21 @@ pub struct Found {
     lock: File,
 }
 
-/// Locks the folder, and reads what stands there. A second file that was left is removed unread; the spare file stays,
-/// if there is one beside the journal. A journal that is gone, though bytes of it were safe, is an error: its node has
-/// forgotten what others know.
-pub fn find(folder: &Path) -> io::Result<Found> {
-    fs::create_dir_all(folder)?;
-    let lock = OpenOptions::new().create(true).append(true).open(folder.join("lock"))?;
+/// Makes the folder, if it is not there, and locks it. A folder of another version is an error of the kind `Unsupported`.
+pub fn lock_folder(folder: &Path) -> io::Result<File> {
+    disk::make_folder(folder)?;
+    disk::close_folder(folder)?;
+    let lock = disk::own_file().create(true).append(true).open(folder.join("lock"))?;
     lock.try_lock().map_err(|_| io::Error::new(ErrorKind::WouldBlock, "another process has this folder"))?;
+    version::check(folder)?;
+    Ok(lock)
+}
+
+/// Locks the folder, and reads what stands there. A second file that was left is removed unread; the spare file stays,
+/// if there is one beside the journal. A journal that is gone, though bytes of it were safe, is an error of the kind
+/// `NotFound`: its node has forgotten what others know. A folder of another version is one of the kind `Unsupported`.
+pub fn find(folder: &Path) -> io::Result<Found> {
+    let lock = lock_folder(folder)?;
     sync_folder(folder)?;
     let [next, spare, path] = ["next", SPARE, "journal"].map(|name| folder.join(name));
     // in the middle of a save the spare file still is the journal, and loses its second name
@@ -107,14 +122,17 @@ pub fn find(folder: &Path) -> io::Result<Found> {
         Err(error) if error.kind() == ErrorKind::NotFound => None,
         Err(error) => return Err(error),
     };
-    if journal.is_none() && noted.is_some() {
-        return Err(io::Error::new(ErrorKind::NotFound, "the journal is gone: this node must not start"));
+    if journal.is_none() && (noted.is_some() || folder.join(TOLD).try_exists()?) {
+        return Err(io::Error::new(ErrorKind::NotFound, "the journal is gone"));
     }
     Ok(Found { journal, known: noted.unwrap_or(0), lock })
 }
 
-fn sync_folder(folder: &Path) -> io::Result<()> {
-    File::open(folder)?.sync_all()
+impl Found {
+    /// Nothing stands in a folder that was locked.
+    pub fn none(lock: File) -> Found {
+        Found { journal: None, known: 0, lock }
+    }
 }
 
 impl Files {
@@ -151,8 +169,12 @@ fn lock(files: &Mutex<Files>) -> io::Result<MutexGuard<'_, Files>> {
 impl Journal {
     /// The first journal of a node, which is these bytes. It stands there whole and safe, or not at all.
     pub fn create(folder: &Path, found: Found, first: &[u8], failing: Failing) -> io::Result<Journal> {
+        Journal::create_as(1, folder, found, first, failing)
+    }
+
+    /// The same, under another number: what comes from elsewhere goes on with the numbers that it had there.
+    pub fn create_as(number: u64, folder: &Path, found: Found, first: &[u8], failing: Failing) -> io::Result<Journal> {
         let next = folder.join("next");
-        let number = 1;
         let mut sectors = Sectors::open(&next, number, &[])?;
         failing.write(&mut sectors, first, false)?;
         sectors.file().sync_all()?;
@@ -171,10 +193,12 @@ impl Journal {
         let mut sectors = Sectors::open(&folder.join("journal"), content.number, bytes)?;
         sectors.cut()?;
         sectors.file().sync_all()?;
-        let known = OpenOptions::new().create(true).truncate(false).write(true).open(folder.join("known"))?;
+        let known = disk::own_file().create(true).truncate(false).write(true).open(folder.join("known"))?;
         sync_folder(folder)?;
         let ahead = Ahead::new(end_of(good).next_multiple_of(BLOCK));
         Ok(Journal {
+            number: content.number,
+            found: Position { number: content.number, length: good as u64 },
             folder: folder.into(),
             files: Arc::new(Mutex::new(Files { sectors, known, length: good, ahead })),
             spare: None,
@@ -246,6 +270,11 @@ impl Journal {
         }
         self.under_way += 1;
         Ok(())
+    }
+
+    /// How far it has come, of what is safe: whatever was sent is in what the journal has up to here.
+    pub fn position(&self) -> Position {
+        Position { number: self.number, length: self.safe as u64 }
     }
 
     /// How many syncs were begun and are not ended.
@@ -336,6 +365,7 @@ impl Journal {
         sync_folder(&self.folder)?;
         self.failing.after(5);
         files.ahead = Ahead::new(sectors.file().metadata()?.len() as usize / BLOCK * BLOCK);
+        self.number = sectors.number();
         files.sectors = sectors;
         files.length = save.len();
         self.length = save.len();

@@ -2,11 +2,12 @@
 
 #![forbid(unsafe_code)]
 
-/// Prints a line. Where nobody reads any more the program ends.
+/// Prints a line. Where nobody reads any more the program ends. A line for which a disk has no room is lost.
 macro_rules! say {
     ($($words:tt)*) => {
-        if std::io::Write::write_fmt(&mut std::io::stdout(), format_args!("{}\n", format_args!($($words)*))).is_err() {
-            std::process::exit(0);
+        match std::io::Write::write_fmt(&mut std::io::stdout(), format_args!("{}\n", format_args!($($words)*))) {
+            Err(error) if error.kind() == std::io::ErrorKind::BrokenPipe => std::process::exit(0),
+            _ => {}
         }
     };
 }
@@ -14,34 +15,60 @@ macro_rules! say {
 mod ahead;
 mod awake;
 mod bench;
-mod client;
+mod budget;
 mod coordinator;
 mod core;
 mod cut_off;
+mod dialer;
 mod dice;
+mod disk;
+mod door;
 mod etcd;
 mod events;
 mod faults;
+mod guard;
+mod handshake;
+mod hearing;
+mod histogram;
 mod host;
+mod http;
 mod journal;
+mod listening;
+mod log;
+mod metrics;
+mod moving;
 mod net;
 mod options;
-mod poly1305;
-mod protocol;
-mod reasons;
+mod pace;
+mod places;
 mod record;
+mod restarts;
+mod rolling;
+mod room;
+mod secret;
 mod sectors;
+mod segments;
+mod seldom;
+mod standby;
+mod status;
+mod store;
 mod storm;
 mod superseded;
 mod supervisor;
 mod trace;
+mod turns;
+mod up;
+mod version;
 mod waits;
 mod wire;
 
-use client::{Client, Lost, Missing, Outcome, Target};
+use handshake::NotLetIn;
 use options::{Command, Options};
-use protocol::{ANY_HOST, DONE, Op, WRONG};
-use reasons::{NOT_READY, reason};
+use secret::Secret;
+use sevunthi_client::addresses::MOST_COORDINATORS;
+use sevunthi_client::{self as client, addresses, protocol, refusal as reasons};
+use sevunthi_client::{Client, Error, Found, Missing, Refusal, STANDS_BY, Target};
+use std::path::Path;
 use std::process::ExitCode;
 use std::time::Duration;
 
@@ -49,23 +76,39 @@ const USAGE: &str = "usage: sevunthi COMMAND ..
   up                      runs a cluster; Ctrl-C ends it
       --folder cluster-data, and what `serve` takes, but not --secret and --index; --hosts, --factor and --segment
       are those that the folder has, unless given
+  restart                 has each process of `up` begin anew, one after another, while the cluster goes on
+      --folder cluster-data
+  move etcd, move file    moves the coordinator's journal into etcd, or back into its folder, while nothing runs
+      --store etcd=URL,.., --folder cluster-data/coordinator, --secret cluster-data/secret
   create TABLE [HOST]     makes a table, at this host or at the one that owns least
+  split TABLE KEY         splits a table before a key
+      --operator cluster-data/operator: the file with the secret of who operates the cluster, in the folder of `up`
   put TABLE KEY VALUE, get TABLE KEY, delete TABLE KEY
       --patience 10000 (milliseconds for which it is tried). `--` ends the options: put 1 5 -- --value
-  split TABLE KEY         splits a table before a key
+      put and delete: --if-version N, done only where the newest version is N; put: --if-absent, where there is no value
   status                  the state of all
   bench                   how fast writes are; it overwrites keys 0 to 9,999 of the table
-      --clients 64, --seconds 5, --size 100 (bytes of a value, at most 1,024), --table 1, --op put (or get),
+      --clients 64, --seconds 5, --size 100 (bytes of a value, at most 1,024), --table 1, --op put (or get, or put-if),
       --keys 10000, --most N (requests), --processes PID,PID (whose time is told), --etcd ADDRESS (asks that)
   trace FILE..            records, as a trace that `ramseg audit` reads
   storm                   drawn faults on a cluster of its own, of four hosts
-      --folder F, --seed 1, --seconds 60, --gap 3000 (milliseconds), --only kill,pair, --port 7600
+      --folder F, --seed 1, --seconds 60, --gap 3000 (milliseconds), --only kill,pair, --port 7600, --coordinators 1
+      (more have an etcd of three members, which has faults too; the program `etcd` has to be there)
   serve                   one node; `up` starts these
-      --folder F, --secret FILE, --index I (none is the coordinator), --factor 2 (replicas, 1 to 5), --segment 1024
+      --folder F, --secret FILE, --operator FILE (none: no table is made or split), --index I (none is the
+      coordinator), --factor 2 (replicas, 1 to 5), --segment 1024
       (entries, 1 to 1,024), --tick 200 and --silence 1000 (milliseconds), --long 268435456 (bytes of journal until a
-      save), --beside 24 (works since the last sync for which a thread does the next), --record, --faults
-All but trace and storm take --address 127.0.0.1, --port 7300, the port of host 0, and --hosts 4: clients those of `up`.
-An option's value may also stand behind a sign, as in --port=7300.";
+      save), --beside 24 (works since the last sync for which a thread does the next), --record, --faults,
+      --hear (hosts that a coordinator that begins has to hear before it acts; all but as many as --factor),
+      --reserve 268435456 (bytes that are to be left on a disk: where too few hosts have them no writes are taken),
+      --listen ADDRESS:PORT (where it listens, if that is not where others reach it), --supervised (it ends with its
+      input), --slow 30000 (milliseconds after which a slow backup is given up, 0 for never), --store file (or
+      etcd=URL,..: where the coordinators' journal is), --coordinator 0 (which of several it is)
+  help, version           this text, and which program it is
+All but trace, storm, restart and move take --address 127.0.0.1, --port 7300, the port of host 0, --hosts 4, and
+--coordinators 1, of which one leads: clients those of `up`. All but these and up take --cluster FILE in their place: its
+lines have a host's index, or `coordinator`, and where it listens, as in `0 10.0.0.1:7300`. An option's value may also
+stand behind a sign, as in --port=7300.";
 
 fn main() -> ExitCode {
     let words: Result<Vec<String>, _> = std::env::args_os().skip(1).map(std::ffi::OsString::into_string).collect();
@@ -79,6 +122,10 @@ fn main() -> ExitCode {
     }
     let command = words.remove(0);
     let asks_for_help = words.iter().take_while(|word| *word != "--").any(|word| word == "--help");
+    if ["version", "--version", "-V"].contains(&command.as_str()) {
+        say!("sevunthi {}, of which peers speak version {}", env!("CARGO_PKG_VERSION"), handshake::VERSION);
+        return ExitCode::SUCCESS;
+    }
     if ["help", "--help", "-h"].contains(&command.as_str()) || asks_for_help {
         say!("{USAGE}");
         return ExitCode::SUCCESS;
@@ -94,20 +141,31 @@ fn main() -> ExitCode {
 }
 
 fn target(options: &Options) -> Result<Target, String> {
+    if let Some(file) = options.given("--cluster") {
+        if let Some(other) =
+            ["--address", "--port", "--hosts", "--coordinators"].iter().find(|name| options.given(name).is_some())
+        {
+            return Err(format!("--cluster says where all are: {other} has no place beside it"));
+        }
+        return Target::of_file(Path::new(file));
+    }
     let hosts = options.between("--hosts", 4, 1, 64)?;
-    let port = options.between("--port", 7300, 1, u16::MAX - u16::from(hosts))?;
+    let coordinators = options.between("--coordinators", 1, 1, MOST_COORDINATORS)?;
+    let port = options.between("--port", 7300, 1, u16::MAX - u16::from(hosts + coordinators - 1))?;
     let address = options.get("--address", "127.0.0.1".to_string())?;
-    if format!("{address}:{port}").parse::<std::net::SocketAddr>().is_err() {
+    if address.parse::<std::net::IpAddr>().is_err() {
         return Err(format!("--address is one such as 127.0.0.1, and not {address}"));
     }
-    Ok(Target { address, port, hosts })
+    Ok(Target::on(&address, port, hosts).with_coordinators(coordinators))
 }
 
 fn run(command: &str, words: Vec<String>) -> Result<bool, String> {
     let options = &Options::read(Command::named(command)?, words)?;
     match command {
         "serve" => supervisor::serve(options).map(|()| true),
-        "up" => supervisor::up(options).map(|()| true),
+        "restart" => rolling::ask(options),
+        "move" => moving::run(options),
+        "up" => up::up(options).map(|()| true),
         "put" | "get" | "delete" => ask(command, options),
         "create" | "split" => change(command, options),
         "status" => status(&target(options)?),
@@ -143,34 +201,82 @@ fn ask(command: &str, options: &Options) -> Result<bool, String> {
     client.patience = Duration::from_millis(options.between("--patience", 10_000, 1, 3_600_000)?);
     client.wait = client.wait.min(client.patience);
     let (table, key) = (table_of(options)?, key_of(options)?);
-    let outcome = match command {
-        "get" => client.get(table, key),
-        "delete" => client.delete(table, key),
-        _ => client.put(table, key, options.word(2).unwrap_or_default().as_bytes()),
+    let done = match command {
+        "get" => {
+            return match client.get(table, key) {
+                Ok(Found { version, value: Some(value) }) => {
+                    say!("{} (version {version})", String::from_utf8_lossy(&value));
+                    Ok(true)
+                }
+                Ok(Found { version, value: None }) => {
+                    say!("no value (version {version})");
+                    Ok(true)
+                }
+                Err(Error::Unknown) => not_done("no answer"),
+                Err(error) => tell_error(&target, table, &error),
+            };
+        }
+        _ => write(&mut client, command, (table, key), options)?,
     };
-    match outcome {
-        Outcome::Written(version) => say!("version {version}"),
-        Outcome::Read(version, Some(value)) => say!("{} (version {version})", String::from_utf8_lossy(&value)),
-        Outcome::Read(version, None) => say!("no value (version {version})"),
-        Outcome::Unknown if command == "get" => return not_done("no answer"),
-        Outcome::Unknown => return not_done("unknown: it may have been done, or may still be done"),
-        Outcome::Refused(code) => return not_done(&format!("refused: {}", reason(code))),
-        Outcome::Unasked(missing) => return not_done(&target.told(missing, table)),
+    match done {
+        Ok(version) => {
+            say!("version {version}");
+            Ok(true)
+        }
+        Err(error) => tell_error(&target, table, &error),
     }
-    Ok(true)
+}
+
+/// Puts or deletes, on the condition that is given.
+fn write(
+    client: &mut Client,
+    command: &str,
+    (table, key): (u32, u64),
+    options: &Options,
+) -> Result<Result<u64, Error>, String> {
+    let value = options.word(2).unwrap_or_default().as_bytes();
+    let version = match options.given("--if-version") {
+        Some(_) => Some(options.between("--if-version", 0, 0, u64::MAX)?),
+        None => None,
+    };
+    Ok(match (command, version, options.has("--if-absent")) {
+        (_, Some(_), true) => return Err("--if-version and --if-absent exclude one another".to_string()),
+        ("delete", Some(version), false) => client.delete_if(table, key, version),
+        ("delete", None, _) => client.delete(table, key),
+        (_, Some(version), false) => client.put_if(table, key, version, value),
+        (_, None, true) => client.put_if_absent(table, key, value),
+        (_, None, false) => client.put(table, key, value),
+    })
+}
+
+/// Tells why something of this table was not done.
+fn tell_error(target: &Target, table: u32, error: &Error) -> Result<bool, String> {
+    not_done(&match error {
+        Error::Unasked(missing) => target.told(*missing, table),
+        Error::NotLetIn(NotLetIn::Secret) => "refused: the secret of --operator is another one".to_string(),
+        Error::NotLetIn(why) => format!("refused: the coordinator says: {why}"),
+        other => other.to_string(),
+    })
+}
+
+/// What who operates the cluster has: `up` draws it.
+fn operator_secret(options: &Options) -> Result<Secret, String> {
+    let file = options.get("--operator", format!("cluster-data/{}", supervisor::OPERATOR))?;
+    let hint = "; --operator names the file `operator` in the folder of `up`";
+    Secret::read(Path::new(&file)).map_err(|why| format!("{why}{hint}"))
 }
 
 fn change(command: &str, options: &Options) -> Result<bool, String> {
     let target = target(options)?;
     let mut client = Client::new(target.clone());
     let table = table_of(options)?;
-    let (op, key) = match (command, options.word(1)) {
-        ("split", _) => (Op::Split, key_of(options)?),
-        (_, None) => (Op::Create, ANY_HOST),
-        _ => (Op::Create, u64::from(number::<u8>(options, 1, "a host is a number below 64")?)),
+    let host = match options.word(1).filter(|_| command == "create") {
+        Some(_) => Some(number::<u8>(options, 1, "a host is a number below 64")?),
+        None => None,
     };
-    if op == Op::Create && key != ANY_HOST && u64::from(target.hosts) <= key {
-        return Err(format!("there is no host {key}: they are 0 to {}", target.hosts - 1));
+    let key = if command == "split" { key_of(options)? } else { 0 };
+    if let Some(host) = host.filter(|host| target.hosts <= *host) {
+        return Err(format!("there is no host {host}: they are 0 to {}", target.hosts - 1));
     }
     // a host would say of either that it is no request
     if let Err(missing) = client.owner(table, 0)
@@ -179,35 +285,48 @@ fn change(command: &str, options: &Options) -> Result<bool, String> {
     {
         return not_done(&target.told(missing, table));
     }
-    match client.call(target.hosts, op, table, key, &[]).map(|reply| reply.code) {
-        Ok(DONE) => Ok(true),
-        Ok(NOT_READY) if key != ANY_HOST => not_done(&format!("refused: F{NOT_READY}: host {key} is not up and ready")),
-        Ok(WRONG) => not_done(&format!("refused: there is nothing to {command} by the number {key}")),
-        Ok(code) => not_done(&format!("refused: {}", reason(code))),
-        Err(lost @ Lost::Before) => not_done(&target.told(client.silent(lost), table)),
-        Err(Lost::After) => not_done("unknown: the coordinator has not answered, and it may have been done"),
+    client.operate_with(operator_secret(options)?.bytes());
+    let done = if command == "create" { client.create(table, host) } else { client.split(table, key) };
+    match (done, host) {
+        (Ok(()), _) => Ok(true),
+        (Err(Error::Refused(Refusal::NotReady)), Some(host)) => {
+            not_done(&format!("refused: F11: host {host} is not up and ready"))
+        }
+        (Err(Error::Refused(Refusal::Wrong)), _) => {
+            not_done(&format!("refused: there is nothing to {command} by the number {}", host.map_or(key, u64::from)))
+        }
+        (Err(Error::Unknown), _) => not_done("unknown: the coordinator has not answered, and it may have been done"),
+        (Err(error), _) => tell_error(&target, table, &error),
     }
 }
 
-/// Shows the state of the coordinator, and of each host.
+/// Shows the state of each coordinator, and of each host.
 fn status(target: &Target) -> Result<bool, String> {
     let mut client = Client::new(target.clone());
     client.wait = Duration::from_secs(1);
     let mut all = true;
-    for place in (0..=target.hosts).rev() {
-        let name = if place == target.hosts { "coordinator".to_string() } else { format!("host {place}") };
-        let text =
-            client.call(place, Op::Status, 0, 0, &[]).map(|reply| String::from_utf8_lossy(&reply.value).into_owned());
+    let mut leads = false;
+    for place in (0..target.places()).rev() {
+        let is_coordinator = target.hosts <= place;
+        let label = metrics::label(usize::from(place), target.hosts);
+        let name = if is_coordinator { label } else { format!("host {label}") };
+        let text = client.status(place);
         let is_host = |text: &String| text.starts_with("sevunthi_");
         let text = match text {
-            Ok(text) if is_host(&text) != (place == target.hosts) => indented(&text),
+            Ok(text) if is_host(&text) != is_coordinator => {
+                leads |= is_coordinator && !text.starts_with(STANDS_BY);
+                indented(&text)
+            }
             Ok(_) => {
-                format!("  who is at {} is another; --port and --hosts have to be those of `up`", target.at(place))
+                format!("  who is at {} is another; {}", target.at(place), target.hint())
             }
             Err(_) => "  does not answer".to_string(),
         };
         all &= !text.starts_with("  who ") && text != "  does not answer";
         say!("{name}\n{text}");
+    }
+    if !leads && 1 < target.coordinators {
+        return not_done("no coordinator leads");
     }
     Ok(all)
 }

@@ -1,17 +1,16 @@
-//! Connections: each is read by a thread that hands whole pieces over, and written by another. What a peer takes at
-//! once the node's thread writes.
+//! Bytes that leave: each connection is written by a thread of its own. What a peer takes at once the node's thread
+//! writes. And pieces that come.
 
-use crate::events::{Event, EventSender, part_of};
-use crate::wire::{HEAD, MOST, Parted, Seal, parted, sound};
+use crate::budget::Account;
+use crate::dialer::Dialer;
+use crate::wire::{HEAD, MOST, Seal};
 use sevunthi::message::{framed, u32_at};
-use std::fs::File;
 use std::io::{self, ErrorKind, Read, Write};
-use std::net::{TcpListener, TcpStream};
-use std::sync::atomic::{AtomicUsize, Ordering};
+use std::net::{Shutdown, TcpStream};
+use std::sync::atomic::{AtomicBool, AtomicUsize, Ordering};
 use std::sync::mpsc::{Receiver, Sender, channel};
 use std::sync::{Arc, Mutex};
 use std::thread;
-use std::time::Duration;
 
 /// A batch that has so many bytes is sent before more is added, so that who takes it is soon done with it.
 const LONG: usize = 1 << 18;
@@ -20,9 +19,12 @@ const LONG: usize = 1 << 18;
 const SHORT: usize = 1 << 16;
 
 /// What is written to a connection by a thread of its own.
+#[derive(Clone)]
 pub struct Writer {
     to: Sender<Vec<u8>>,
     queued: Arc<AtomicUsize>,
+    /// Whether who reads there has proved that it operates the cluster.
+    pub may_operate: bool,
 }
 
 impl Writer {
@@ -43,23 +45,33 @@ impl Writer {
     fn new() -> (Writer, Receiver<Vec<u8>>, Arc<AtomicUsize>) {
         let (to, from) = channel();
         let queued = Arc::new(AtomicUsize::new(0));
-        (Writer { to, queued: Arc::clone(&queued) }, from, queued)
+        (Writer { to, queued: Arc::clone(&queued), may_operate: false }, from, queued)
     }
 
-    /// A writer to a client.
-    fn to_client(mut stream: TcpStream) -> Writer {
+    /// A writer to a client, which has these requests under way. Where it does not read for as long as the connection
+    /// waits it is let go.
+    ///
+    /// # Errors
+    ///
+    /// That no thread can be made.
+    pub fn to_client(stream: Arc<TcpStream>, account: Arc<Account>, may_operate: bool) -> io::Result<Writer> {
         let (writer, from, queued) = Writer::new();
-        thread::spawn(move || {
-            while let Some((bytes, weight)) = all_queued(&from, MOST) {
+        thread::Builder::new().stack_size(STACK).spawn(move || {
+            while let Some((answers, weight)) = all_queued(&from, LONG) {
                 queued.fetch_sub(weight, Ordering::Relaxed);
-                if stream.write_all(&bytes).is_err() {
-                    return;
+                if (&*stream).write_all(&answers).is_err() {
+                    let _ = stream.shutdown(Shutdown::Both);
+                    return account.close();
                 }
+                account.give_back(framed(&answers).count());
             }
-        });
-        writer
+        })?;
+        Ok(Writer { may_operate, ..writer })
     }
 }
+
+/// The thread of a writer has little on its stack.
+const STACK: usize = 256 << 10;
 
 /// How much bytes in a queue count that take so much room: what is empty counts too.
 fn weight(room: usize) -> usize {
@@ -83,6 +95,7 @@ fn all_queued(from: &Receiver<Vec<u8>>, most: usize) -> Option<(Vec<u8>, usize)>
 pub struct PeerWriter {
     writer: Writer,
     link: Arc<Mutex<Link>>,
+    is_open: Arc<AtomicBool>,
 }
 
 /// A connection to a peer, if there is one; its last batch, and how many bytes of that are written. The connection does
@@ -96,20 +109,30 @@ struct Link {
 
 impl PeerWriter {
     /// A writer to this peer, who is connected to when there is something to write. What a broken connection had is
-    /// lost.
-    pub fn new(address: String, secret: Vec<u8>) -> PeerWriter {
+    /// lost, and so is all that waits while none comes about.
+    pub fn new(mut dialer: Dialer) -> PeerWriter {
         let (writer, from, queued) = Writer::new();
         let link = Arc::new(Mutex::new(Link::default()));
-        let shared = Arc::clone(&link);
+        let is_open = Arc::new(AtomicBool::new(false));
+        let (shared, opened) = (Arc::clone(&link), Arc::clone(&is_open));
         thread::spawn(move || {
-            while let Some((frames, weight)) = all_queued(&from, LONG) {
+            while let Some((frames, mut weight)) = all_queued(&from, LONG) {
                 let Ok(mut link) = shared.lock() else { return };
-                link.write_all(&frames, &address, &secret);
+                link.write_all(&frames, &mut dialer);
+                if link.open.is_none() {
+                    weight += from.try_iter().map(|bytes| self::weight(bytes.capacity())).sum::<usize>();
+                }
+                opened.store(link.open.is_some(), Ordering::Relaxed);
                 drop(link);
                 queued.fetch_sub(weight, Ordering::Release);
             }
         });
-        PeerWriter { writer, link }
+        PeerWriter { writer, link, is_open }
+    }
+
+    /// Whether there was a connection when something was last queued.
+    pub fn is_open(&self) -> bool {
+        self.is_open.load(Ordering::Relaxed)
     }
 
     /// Writes these frames, or queues them. Room for the next ones is left in their place.
@@ -123,6 +146,9 @@ impl PeerWriter {
             if !link.write_some(frames) {
                 // what is left of the batch is the thread's
                 self.writer.push(Vec::new());
+            }
+            if link.open.is_none() {
+                self.is_open.store(false, Ordering::Relaxed);
             }
             frames.clear();
         } else {
@@ -157,13 +183,13 @@ impl Link {
     }
 
     /// Writes what is left of the batch, and then these frames, to a new connection where there is none.
-    fn write_all(&mut self, frames: &[u8], address: &str, secret: &[u8]) {
+    fn write_all(&mut self, frames: &[u8], dialer: &mut Dialer) {
         self.finish();
         if frames.is_empty() {
             return;
         }
         if self.open.is_none() {
-            self.open = connect(address, secret).ok();
+            self.open = dialer.connect();
         }
         self.begin(frames);
         self.finish();
@@ -183,20 +209,6 @@ impl Link {
         self.batch.shrink_to(LONG);
         self.written = 0;
     }
-}
-
-/// Connects to a peer, and reads its challenge.
-fn connect(address: &str, secret: &[u8]) -> io::Result<(TcpStream, Seal)> {
-    let address = address.parse().map_err(|_| io::ErrorKind::InvalidInput)?;
-    let mut stream = TcpStream::connect_timeout(&address, Duration::from_millis(200))?;
-    stream.set_nodelay(true)?;
-    stream.write_all(b"P")?;
-    stream.set_read_timeout(Some(Duration::from_millis(500)))?;
-    let mut challenge = [0; 16];
-    stream.read_exact(&mut challenge)?;
-    stream.set_write_timeout(Some(Duration::from_secs(2)))?;
-    stream.set_nonblocking(true)?;
-    Ok((stream, Seal::new(secret, challenge)))
 }
 
 /// Reads pieces that begin with their length in four bytes, and hands over as many whole ones as there are, until one
@@ -238,117 +250,30 @@ fn whole(bytes: &[u8], most: usize) -> Option<usize> {
     Some(at)
 }
 
-/// Listens, and hands over what comes. Who asks by HTTP is shown the text.
-pub fn listen(address: &str, secret: Vec<u8>, events: EventSender, text: Arc<Mutex<String>>) -> io::Result<()> {
-    let listener =
-        TcpListener::bind(address).map_err(|error| io::Error::new(error.kind(), format!("{address}: {error}")))?;
-    thread::spawn(move || {
-        for (number, stream) in listener.incoming().enumerate() {
-            let Ok(stream) = stream else { continue };
-            let (secret, events, text) = (secret.clone(), events.clone(), Arc::clone(&text));
-            thread::spawn(move || {
-                let _ = serve(stream, number as u64, &secret, &events, &text);
-            });
-        }
-    });
-    Ok(())
-}
-
-fn serve(
-    mut stream: TcpStream,
-    number: u64,
-    secret: &[u8],
-    events: &EventSender,
-    text: &Mutex<String>,
-) -> io::Result<()> {
-    stream.set_nodelay(true)?;
-    let mut kind = [0];
-    stream.read_exact(&mut kind)?;
-    match kind[0] {
-        b'P' => serve_peer(stream, number, secret, events),
-        b'C' => {
-            let up = Event::ClientUp(number, Writer::to_client(stream.try_clone()?));
-            if events.send(up) {
-                read_pieces(stream, 1 << 20, |requests| give_parts(events, number, requests));
-                events.send(Event::ClientDown(number));
-            }
-            Ok(())
-        }
-        b'G' => {
-            let _ = stream.read(&mut [0; 4096])?;
-            let text = text.lock().map(|text| text.clone()).unwrap_or_default();
-            let length = text.len();
-            let head = "HTTP/1.0 200 OK\r\nContent-Type: text/plain; charset=utf-8";
-            write!(stream, "{head}\r\nContent-Length: {length}\r\n\r\n{text}")
-        }
-        _ => Ok(()),
-    }
-}
-
-/// Hands the frames of a batch over, of each part up to the first whose sum is wrong. Says whether somebody is there to
-/// take them.
-fn give(events: &EventSender, number: u64, frames: &[u8]) -> bool {
-    let Parted { roll, urgent, others, is_closing } = parted(frames);
-    let of_others = if is_closing { Event::Closing } else { Event::Peer };
-    let parts = [(roll, Event::Roll as fn(u64, Vec<u8>) -> Event), (urgent, Event::Urgent), (others, of_others)];
-    parts.into_iter().all(|(mut part, event)| {
-        part.truncate(sound(&part).len());
-        part.is_empty() || events.send(event(number, part))
-    })
-}
-
-/// Hands a client's requests over, in parts. Says whether somebody is there to take them.
-fn give_parts(events: &EventSender, number: u64, requests: &[u8]) -> bool {
-    let part = part_of(framed(requests).count(), events.keeps_others());
-    let mut rest = requests;
-    while !rest.is_empty() {
-        let length: usize = framed(rest).take(part).map(|request| 4 + request.len()).sum();
-        if !events.send(Event::Client(number, rest[..length].to_vec())) {
-            return false;
-        }
-        rest = &rest[length..];
-    }
-    true
-}
-
-/// Takes batches of a peer until one is not the next that who has the secret has made.
-fn serve_peer(mut stream: TcpStream, number: u64, secret: &[u8], events: &EventSender) -> io::Result<()> {
-    let mut challenge = [0; 16];
-    File::open("/dev/urandom")?.read_exact(&mut challenge)?;
-    stream.write_all(&challenge)?;
-    let mut seal = Seal::new(secret, challenge);
-    read_pieces(stream, MOST + 40, |batches| {
-        let mut rest = batches;
-        while let Some(length) = u32_at(rest, 0) {
-            let (batch, others) = rest.split_at(4 + length as usize);
-            match seal.open(batch) {
-                Some(frames) if give(events, number, frames) => rest = others,
-                _ => return false,
-            }
-        }
-        true
-    });
-    events.send(Event::PeerDown(number));
-    Ok(())
-}
-
 #[cfg(test)]
 mod tests {
     use super::*;
+    use crate::handshake::{self, Hello, Role};
+    use crate::secret::Secret;
     use crate::wire::{frames, put_frame};
+    use std::net::TcpListener;
+    use std::time::Duration;
 
     /// More than a connection holds, to one who reads nothing at first.
     #[test]
     fn frames_come_whole_and_in_order_from_either_thread() -> io::Result<()> {
         let listener = TcpListener::bind("127.0.0.1:0")?;
-        let writer = PeerWriter::new(listener.local_addr()?.to_string(), b"secret".to_vec());
+        let hello = Hello { role: Role::Peer, from: 0, to: 1 };
+        let writer = PeerWriter::new(Dialer::new(hello, 2, listener.local_addr()?.to_string(), Secret::default()));
         let count = 4000;
         let reader = thread::spawn(move || -> io::Result<Vec<u64>> {
             let (mut stream, _) = listener.accept()?;
-            stream.read_exact(&mut [0])?;
-            stream.write_all(&[7; 16])?;
+            let mut front = [0; 2];
+            stream.read_exact(&mut front)?;
+            let checked = handshake::check(&mut stream, Role::Peer, front[1], 1, Some(b""));
+            let (_, mut seal) = checked.map_err(|refused| io::Error::other(refused.to_string()))?;
             thread::sleep(Duration::from_millis(300));
-            let (mut seal, mut clocks) = (Seal::new(b"secret", [7; 16]), Vec::new());
+            let mut clocks = Vec::new();
             read_pieces(stream, MOST, |pieces| {
                 let mut rest = pieces;
                 while let Some(length) = u32_at(rest, 0) {

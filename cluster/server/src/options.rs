@@ -16,10 +16,12 @@ pub struct Command {
 }
 
 /// Where a cluster is.
-const WHERE: &[&str] = &["address", "port", "hosts"];
+const ON_ONE_MACHINE: &[&str] = &["address", "port", "hosts", "coordinators"];
+const WHERE: &[&str] = &["address", "port", "hosts", "coordinators", "cluster"];
 /// How its nodes run.
-const NODE: &[&str] = &["factor", "segment", "tick", "silence", "long", "beside"];
+const NODE: &[&str] = &["factor", "segment", "tick", "silence", "slow", "long", "beside", "hear", "reserve", "store"];
 const NODE_FLAGS: &[&str] = &["record", "faults"];
+const SERVE_FLAGS: &[&str] = &["record", "faults", "supervised"];
 const BENCH: &[&str] = &["clients", "seconds", "size", "table", "op", "keys", "most", "etcd", "processes"];
 
 const fn command(
@@ -32,18 +34,25 @@ const fn command(
 }
 
 /// All commands.
-const COMMANDS: [Command; 11] = [
-    command("up", &[], &[WHERE, &["folder"], NODE], NODE_FLAGS),
-    command("serve", &[], &[WHERE, &["folder", "secret", "index"], NODE], NODE_FLAGS),
-    command("create", &["TABLE", "[HOST]"], &[WHERE], &[]),
-    command("split", &["TABLE", "KEY"], &[WHERE], &[]),
-    command("put", &["TABLE", "KEY", "VALUE"], &[WHERE, &["patience"]], &[]),
+const COMMANDS: [Command; 13] = [
+    command("up", &[], &[ON_ONE_MACHINE, &["folder"], NODE], NODE_FLAGS),
+    command(
+        "serve",
+        &[],
+        &[WHERE, &["folder", "secret", "operator", "index", "coordinator", "listen"], NODE],
+        SERVE_FLAGS,
+    ),
+    command("restart", &[], &[&["folder"]], &[]),
+    command("move", &["TO"], &[&["folder", "secret", "store"]], &[]),
+    command("create", &["TABLE", "[HOST]"], &[WHERE, &["operator"]], &[]),
+    command("split", &["TABLE", "KEY"], &[WHERE, &["operator"]], &[]),
+    command("put", &["TABLE", "KEY", "VALUE"], &[WHERE, &["patience", "if-version"]], &["if-absent"]),
     command("get", &["TABLE", "KEY"], &[WHERE, &["patience"]], &[]),
-    command("delete", &["TABLE", "KEY"], &[WHERE, &["patience"]], &[]),
+    command("delete", &["TABLE", "KEY"], &[WHERE, &["patience", "if-version"]], &[]),
     command("status", &[], &[WHERE], &[]),
     command("bench", &[], &[WHERE, BENCH], &[]),
     command("trace", &["FILE.."], &[], &[]),
-    command("storm", &[], &[&["port", "folder", "seed", "seconds", "gap", "only"]], &[]),
+    command("storm", &[], &[&["port", "folder", "seed", "seconds", "gap", "only", "coordinators"]], &[]),
 ];
 
 impl Command {

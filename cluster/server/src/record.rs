@@ -1,8 +1,9 @@
 //! A record of each message that leaves, with the clock at which it left: the clock in eight bytes, the length in four,
 //! the coded message.
 
+use crate::disk;
 use sevunthi::message::{u32_at, u64_at};
-use std::fs::{self, File, OpenOptions};
+use std::fs::{self, File};
 use std::io::{self, Write};
 use std::os::unix::fs::FileExt;
 use std::path::Path;
@@ -19,12 +20,12 @@ impl Record {
     /// Opens the record in this folder. What an end of the process has cut in the middle is taken away: it never left.
     pub fn open(folder: &Path) -> io::Result<Record> {
         let path = folder.join("record");
-        let file = OpenOptions::new().create(true).append(true).open(&path)?;
+        let file = disk::own_file().create(true).append(true).open(&path)?;
         let bytes = fs::read(&path)?;
         let whole = messages(&bytes).map(|(_, message)| 12 + message.len()).sum::<usize>();
         file.set_len(whole as u64)?;
         let noted = fs::read(folder.join("clock")).ok().and_then(|bytes| u64_at(&bytes, 0)).unwrap_or(0);
-        let clock = OpenOptions::new().create(true).truncate(false).write(true).open(folder.join("clock"))?;
+        let clock = disk::own_file().create(true).truncate(false).write(true).open(folder.join("clock"))?;
         Ok(Record { file, clock, noted, pending: Vec::new() })
     }
 

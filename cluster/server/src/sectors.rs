@@ -1,7 +1,8 @@
 //! A journal's file. It is written in sectors, each of which a disk writes whole or not at all, and each says of which
 //! journal it is. So a save is written over an older journal as that stands: nothing of it is taken for the new one.
 
-use std::fs::{File, OpenOptions};
+use crate::disk;
+use std::fs::File;
 use std::io::{self, BufReader, Read, Write};
 use std::os::unix::fs::{FileExt, OpenOptionsExt};
 use std::path::Path;
@@ -88,7 +89,7 @@ pub struct Sectors {
 impl Sectors {
     /// The end of the file of a journal that has this number and these bytes. It is made where it is not there.
     pub fn open(path: &Path, number: u64, bytes: &[u8]) -> io::Result<Sectors> {
-        let mut options = OpenOptions::new();
+        let mut options = disk::own_file();
         options.create(true).truncate(false).write(true);
         let direct = options.clone().custom_flags(O_DIRECT).open(path);
         let is_direct = direct.is_ok();

@@ -4,16 +4,23 @@ mod clients;
 mod disk;
 mod machine;
 mod noise;
+mod older;
+mod orders;
+mod stores;
 
-use crate::client::{Client, Target};
+use crate::client::{Client, Error, Refusal, Target};
 use crate::dice::Dice;
 use crate::faults::{FULL, NEARLY_FULL, Wrong};
 use crate::options::Options;
-use crate::protocol::{DONE, Op};
-use crate::supervisor::Cluster;
+use crate::protocol::Op;
+use crate::secret::Secret;
+use crate::status::Status;
+use crate::store::head::SEEN;
+use crate::supervisor::{Cluster, OPERATOR};
 use clients::{CLIENTS, Lived, TABLE, live};
 use disk::Spoilt;
 use machine::Machine;
+use orders::{Ordered, Orders};
 use std::collections::{BTreeMap, HashSet};
 use std::fs;
 use std::path::PathBuf;
@@ -21,9 +28,10 @@ use std::sync::atomic::{AtomicBool, Ordering};
 use std::sync::{Arc, Mutex};
 use std::thread;
 use std::time::{Duration, Instant};
+use stores::Stores;
 
 /// What may happen. A pack of these is shuffled, and dealt to its end, again and again.
-const PACK: [Fault; 26] = [
+const PACK: [Fault; 28] = [
     Fault::Kill,
     Fault::Kill,
     Fault::KillCoordinator,
@@ -50,6 +58,40 @@ const PACK: [Fault; 26] = [
     Fault::FailingSync,
     Fault::DiskStands,
     Fault::Clock,
+    Fault::Older,
+    Fault::OlderCoordinator,
+];
+
+/// The same, where several coordinators have their journal in etcd.
+const PACK_OF_SEVERAL: [Fault; 28] = [
+    Fault::Kill,
+    Fault::Stop,
+    Fault::Power,
+    Fault::Save,
+    Fault::Pair,
+    Fault::OneWay,
+    Fault::Mangle,
+    Fault::Noise,
+    Fault::FailingSync,
+    Fault::Clock,
+    Fault::KillCoordinator,
+    Fault::KillCoordinator,
+    Fault::KillCoordinator,
+    Fault::StopCoordinator,
+    Fault::StopCoordinator,
+    Fault::StopCoordinator,
+    Fault::CutCoordinator,
+    Fault::CutCoordinator,
+    Fault::CutCoordinator,
+    Fault::SaveOfCoordinator,
+    Fault::SaveOfCoordinator,
+    Fault::FromCoordinator,
+    Fault::KillMember,
+    Fault::KillMember,
+    Fault::StopMember,
+    Fault::StopMember,
+    Fault::StopMembers,
+    Fault::OlderStore,
 ];
 
 #[derive(Clone, Copy, Debug, PartialEq, Eq, PartialOrd, Ord)]
@@ -90,15 +132,30 @@ enum Fault {
     DiskStands,
     /// A clock jumps, ahead or back.
     Clock,
+    /// An older copy of a host's folder is put back.
+    Older,
+    OlderCoordinator,
+    /// The coordinator that leads is cut off from etcd.
+    CutCoordinator,
+    /// It ends in a save.
+    SaveOfCoordinator,
+    /// A member of etcd is killed.
+    KillMember,
+    /// It stands still.
+    StopMember,
+    /// All do.
+    StopMembers,
+    /// A coordinator has seen more than etcd has.
+    OlderStore,
 }
 
 impl Fault {
-    /// Those of these names, with commas between them; all where there is none.
-    fn deck(names: &str) -> Result<Vec<Fault>, String> {
+    /// Those of these names, with commas between them; all of a pack where there is none.
+    fn deck(names: &str, pack: &[Fault]) -> Result<Vec<Fault>, String> {
         if names.is_empty() {
-            return Ok(PACK.to_vec());
+            return Ok(pack.to_vec());
         }
-        let named = |name| PACK.into_iter().find(|fault| fault.name() == name).ok_or(format!("no fault is {name}"));
+        let named = |name| pack.iter().copied().find(|fault| fault.name() == name).ok_or(format!("no fault is {name}"));
         names.split(',').map(named).collect()
     }
 
@@ -124,8 +181,27 @@ impl Fault {
             Fault::FailingSync => "failing-sync",
             Fault::DiskStands => "disk-stands",
             Fault::Clock => "clock",
+            Fault::Older => "older",
+            Fault::OlderCoordinator => "older-coordinator",
+            Fault::CutCoordinator => "cut-coordinator",
+            Fault::SaveOfCoordinator => "save-of-coordinator",
+            Fault::KillMember => "kill-member",
+            Fault::StopMember => "stop-member",
+            Fault::StopMembers => "stop-members",
+            Fault::OlderStore => "older-store",
         }
     }
+}
+
+/// The cluster of a storm.
+fn target(options: &Options) -> Result<Target, String> {
+    Ok(Target {
+        address: "127.0.0.1".into(),
+        port: options.between("--port", 7600, 1, u16::MAX - 30)?,
+        hosts: 4,
+        coordinators: options.between("--coordinators", 1, 1, 3)?,
+        listed: Vec::new(),
+    })
 }
 
 /// Runs a storm: prints each fault, and leaves the records and the clients' history in the folder.
@@ -134,10 +210,12 @@ pub fn run(options: &Options) -> Result<bool, String> {
     let seed: u64 = options.get("--seed", 1)?;
     let seconds: u64 = options.get("--seconds", 60)?;
     let most = Duration::from_millis(options.get("--gap", 3000)?);
-    let deck = Fault::deck(&options.get("--only", String::new())?)?;
-    let target =
-        Target { address: "127.0.0.1".into(), port: options.between("--port", 7600, 1, u16::MAX - 4)?, hosts: 4 };
+    let target = target(options)?;
+    let pack = if target.coordinators == 1 { &PACK } else { &PACK_OF_SEVERAL };
+    let deck = Fault::deck(&options.get("--only", String::new())?, pack)?;
     let mut storm = Storm::begin(seed, target.clone(), folder.clone(), deck)?;
+    let operator = Secret::read(&folder.join(OPERATOR))?;
+    let orders = (1 < target.coordinators).then(|| Orders::begin(target.clone(), operator));
     let (ends, history) = (Arc::new(AtomicBool::new(false)), Arc::new(Mutex::new(String::new())));
     let machine = Machine::new(&folder).map_err(|error| error.to_string())?;
     let clients: Vec<_> = (0..CLIENTS)
@@ -152,6 +230,7 @@ pub fn run(options: &Options) -> Result<bool, String> {
     storm.calm()?;
     thread::sleep(Duration::from_secs(3));
     ends.store(true, Ordering::Relaxed);
+    let ordered = orders.map(Orders::end);
     let mut done = Lived::default();
     for client in clients {
         done.add(client.join().map_err(|_| "a client has failed")?);
@@ -159,11 +238,14 @@ pub fn run(options: &Options) -> Result<bool, String> {
     fs::write(folder.join("history"), history.lock().map_err(|_| "no history")?.as_str())
         .map_err(|error| error.to_string())?;
     let refused = storm.start_spoilt()?;
-    storm.tell(seed, &done, &machine, most, refused)
+    let is_right = storm.tell(seed, &done, &machine, most, refused)?;
+    Ok(is_right & ordered.is_none_or(|ordered| storm.keeps(&ordered)))
 }
 
 struct Storm {
     cluster: Cluster,
+    /// The etcd of several coordinators.
+    stores: Option<Stores>,
     dice: Dice,
     client: Client,
     began: Instant,
@@ -187,19 +269,30 @@ impl Storm {
         let more = ["--record", "--faults", "--factor", "2", "--segment", "64", "--tick", "100"];
         let more = more.into_iter().chain(["--beside", beside, "--long", long]).map(String::from);
         let mut cluster = Cluster::new(target.clone(), &folder, more.collect())?;
+        let stores = (1 < target.coordinators).then(|| Stores::start(&folder, target.port, target.coordinators));
+        let stores = stores.transpose()?;
+        for coordinator in 0..target.coordinators {
+            // a journal there is not long, and is often replaced by a save
+            let own = stores.iter().flat_map(|stores| ["--store".to_string(), stores.option(coordinator)]);
+            let own = own.chain(stores.iter().flat_map(|_| ["--long", "3000"].map(String::from)));
+            cluster.own.insert(usize::from(target.hosts + coordinator), own.collect());
+        }
         cluster.start_all()?;
+        let counts = deck.iter().map(|fault| (fault.name(), 0)).collect();
         let mut storm = Storm {
             cluster,
+            stores,
             dice: Dice::new(seed ^ 0x5eed),
             client: Client::new(target),
             began: Instant::now(),
             deck,
             pack: Vec::new(),
-            counts: PACK.iter().map(|fault| (fault.name(), 0)).collect(),
+            counts,
             losing: HashSet::new(),
             lost: 0,
         };
-        while storm.client.call_coordinator(Op::Create, TABLE, 0).is_none_or(|reply| reply.code != DONE) {
+        storm.client.operate_with(Secret::read(&folder.join(OPERATOR))?.bytes());
+        while !matches!(storm.client.create(TABLE, Some(0)), Ok(()) | Err(Error::Refused(Refusal::TableExists))) {
             if Duration::from_secs(10) < storm.began.elapsed() {
                 return Err("the table was not made".into());
             }
@@ -215,6 +308,15 @@ impl Storm {
 
     fn coordinator(&self) -> usize {
         usize::from(self.cluster.target.hosts)
+    }
+
+    /// The place of the coordinator that leads, or did so last.
+    fn leading(&mut self) -> usize {
+        if self.stores.is_some() {
+            self.client.wait = Duration::from_millis(300);
+            let _ = self.client.leaders_status();
+        }
+        usize::from(self.client.leading())
     }
 
     /// Waits for a drawn time between these, in milliseconds.
@@ -239,32 +341,94 @@ impl Storm {
         let coordinator = self.coordinator();
         let host = self.dice.below(coordinator as u64) as usize;
         let any = self.dice.below(coordinator as u64 + 1) as usize;
+        let leading = self.leading();
+        let or_leading = |place| if place == coordinator { leading } else { place };
+        let any_or_leading = or_leading(any);
         match fault {
             Fault::Kill => self.end(host, false)?,
-            Fault::KillCoordinator => self.end(coordinator, false)?,
+            Fault::KillCoordinator => self.end(leading, false)?,
             Fault::Power => self.end(host, true)?,
             Fault::PowerCoordinator => self.end(coordinator, true)?,
             Fault::Stop => self.stand_still(host),
             Fault::StopCoordinator => {
                 // (one that was cut off may be left out)
                 self.wait_until_served(5, coordinator - 1)?;
-                self.stand_still(coordinator);
+                let leading = self.leading();
+                self.stand_still(leading);
             }
-            Fault::Save => return self.end_in_save(any, false),
+            Fault::Save => return self.end_in_save(any_or_leading, false),
+            Fault::SaveOfCoordinator => return self.end_in_save(leading, false),
             Fault::SavePower => return self.end_in_save(any, true),
             Fault::Pair => self.cut_off(host, (host + 1 + any % (coordinator - 1)) % coordinator, true),
-            Fault::OneWay => self.cut_off(any, (any + 1 + host) % (coordinator + 1), false),
-            Fault::FromCoordinator => self.cut_off(host, coordinator, true),
-            Fault::Mangle => self.mangle(any),
+            Fault::OneWay => self.cut_off(any_or_leading, or_leading((any + 1 + host) % (coordinator + 1)), false),
+            Fault::FromCoordinator => self.cut_off(host, leading, true),
+            Fault::Mangle => self.mangle(any_or_leading),
             Fault::Noise => {
                 self.say(&format!("strangers talk to {any}"));
                 noise::make(&self.cluster.target, any, &mut self.dice);
             }
-            Fault::Clock => self.jump_clock(any),
-            Fault::Full | Fault::FullCoordinator | Fault::FullInSave => return self.happen_to_disk(fault, host, any),
-            Fault::NearlyFull | Fault::FailingSync | Fault::DiskStands => return self.happen_to_disk(fault, host, any),
+            Fault::Clock => self.jump_clock(any_or_leading),
+            Fault::Older => return self.put_back_older(host, any % coordinator),
+            Fault::OlderCoordinator => return self.put_back_older(coordinator, host),
+            Fault::Full
+            | Fault::FullCoordinator
+            | Fault::FullInSave
+            | Fault::NearlyFull
+            | Fault::FailingSync
+            | Fault::DiskStands => return self.happen_to_disk(fault, host, any_or_leading),
+            Fault::CutCoordinator | Fault::KillMember | Fault::StopMember | Fault::StopMembers | Fault::OlderStore => {
+                return self.happen_to_store(fault, leading);
+            }
         }
         Ok(true)
+    }
+
+    /// Has a fault of etcd happen, or one between it and the coordinator that leads, and says whether it has.
+    fn happen_to_store(&mut self, fault: Fault, leading: usize) -> Result<bool, String> {
+        let coordinator = self.coordinator();
+        let Some(stores) = &mut self.stores else { return Ok(false) };
+        let said = match fault {
+            Fault::CutCoordinator => {
+                let pause = self.dice.between(500, 4000);
+                stores.cut(leading - coordinator, true);
+                thread::sleep(Duration::from_millis(pause));
+                stores.cut(leading - coordinator, false);
+                format!("{leading}, which led, was cut off from etcd for {pause} ms")
+            }
+            Fault::KillMember => stores.kill_member(&mut self.dice)?,
+            Fault::StopMember => stores.stop_members(false, &mut self.dice),
+            Fault::StopMembers => stores.stop_members(true, &mut self.dice),
+            _ => return self.see_more(leading),
+        };
+        self.say(&said);
+        Ok(true)
+    }
+
+    /// A coordinator that does not lead begins anew in a folder that has seen more than etcd has: it has to say so, and
+    /// leave the lead alone. Then it gets its own folder's knowledge back.
+    fn see_more(&mut self, leading: usize) -> Result<bool, String> {
+        let coordinators = usize::from(self.cluster.target.coordinators);
+        let place = self.coordinator() + (leading - self.coordinator() + 1) % coordinators;
+        let folder = self.cluster.folder(place);
+        let seen = folder.join(SEEN);
+        let told = |error: std::io::Error| format!("the folder of {place}: {error}");
+        self.cluster.kill(place);
+        self.say(&format!("{place} is killed, and has seen more than etcd has"));
+        let logged = fs::read(folder.join("log")).map_or(0, |log| log.len());
+        fs::write(&seen, "999999 1 1 1\n").map_err(told)?;
+        self.cluster.start(place)?;
+        let began = Instant::now();
+        let mut has_refused = false;
+        while !has_refused && began.elapsed() < Duration::from_secs(5) {
+            thread::sleep(Duration::from_millis(50));
+            self.start_ended()?;
+            let log = fs::read(folder.join("log")).unwrap_or_default();
+            has_refused = String::from_utf8_lossy(&log[logged..]).contains("does not take the lead: etcd has an older");
+        }
+        self.cluster.kill(place);
+        fs::remove_file(&seen).map_err(told)?;
+        self.start(place)?;
+        if has_refused { Ok(true) } else { Err(format!("{place} has not refused an older etcd")) }
     }
 
     /// Has a fault of a disk happen, and says whether it has.
@@ -326,7 +490,7 @@ impl Storm {
     fn end(&mut self, place: usize, power: bool) -> Result<(), String> {
         self.cluster.kill(place);
         self.say(&format!("{place} is killed"));
-        if power {
+        if power && (self.stores.is_none() || place < self.coordinator()) {
             self.cut_power(place)?;
         }
         self.wait(0, 1500);
@@ -362,7 +526,7 @@ impl Storm {
     /// One sends nothing to the other, for a while, nor that to it, where it is for both. Hosts that do not hear each
     /// other go on without one of them; what does not hear the coordinator has to wait.
     fn cut_off(&mut self, one: usize, other: usize, both: bool) {
-        let longest = if one.max(other) == self.coordinator() { 2000 } else { 5000 };
+        let longest = if one.max(other) >= self.coordinator() { 2000 } else { 5000 };
         let pause = self.dice.between(500, longest);
         self.say(&format!(
             "{one} sends nothing to {other}{} for {pause} ms",
@@ -427,7 +591,7 @@ impl Storm {
         let ended = self.cluster.ended();
         for (place, how) in &ended {
             self.say(&format!("{place} has ended: {how}"));
-            if self.losing.remove(place) {
+            if self.losing.remove(place) && (self.stores.is_none() || *place < self.coordinator()) {
                 self.cut_power(*place)?;
             }
             self.start(*place)?;
@@ -441,10 +605,9 @@ impl Storm {
         while began.elapsed() < Duration::from_secs(seconds) {
             self.start_ended()?;
             self.client.wait = Duration::from_millis(300);
-            if let Some(reply) = self.client.call_coordinator(Op::Status, 0, 0) {
-                let text = String::from_utf8_lossy(&reply.value).into_owned();
-                let heard = text.lines().filter(|line| line.contains(" up heard ")).count();
-                if hosts <= heard && !text.contains("is being recovered") {
+            if let Some(text) = self.client.leaders_status() {
+                let is_served = |status: &Status| hosts <= status.heard().count() && !status.is_recovering();
+                if Status::read(&text).is_some_and(|status| is_served(&status)) {
                     return Ok(true);
                 }
             }
@@ -480,7 +643,8 @@ impl Storm {
     fn start_spoilt(&mut self) -> Result<u64, String> {
         let host = self.dice.below(self.coordinator() as u64) as usize;
         let mut refused = 0;
-        for place in [host, self.coordinator()] {
+        let spoilt = if self.stores.is_none() { vec![host, self.coordinator()] } else { vec![host] };
+        for place in spoilt {
             let folder = self.cluster.folder(place);
             self.cluster.kill(place);
             for how in [Spoilt::Damaged, Spoilt::Cut, Spoilt::Gone] {
@@ -520,11 +684,12 @@ impl Storm {
         let counts = self.counts.iter().map(|(name, count)| format!(" {name}={count}")).collect::<String>();
         say!("faults:{counts}");
         say!(
-            "seed {seed}: {} faults, {} writes, {} reads, {} unknown, longest gap {} ms (from {from}), \
+            "seed {seed}: {} faults, {} writes, {} reads, {} mismatches, {} unknown, longest gap {} ms (from {from}), \
              {} bytes lost that were not safe",
             self.counts.values().sum::<u64>(),
             done.writes,
             done.reads,
+            done.mismatches,
             done.unknown,
             gap.whole.as_millis(),
             self.lost
@@ -543,9 +708,27 @@ impl Storm {
         if done.writes < least {
             say!("wrong: fewer than {least} writes were acknowledged, too few to tell anything");
         }
-        if refused != 6 {
-            say!("wrong: {refused} of 6 spoilt journals were refused");
+        let spoilt = if self.stores.is_none() { 6 } else { 3 };
+        if refused != spoilt {
+            say!("wrong: {refused} of {spoilt} spoilt journals were refused");
         }
-        Ok(gap.served <= most && least <= done.writes && refused == 6)
+        Ok(gap.served <= most && least <= done.writes && refused == spoilt)
+    }
+
+    /// Whether each table that was acknowledged is there, and none that was refused.
+    fn keeps(&mut self, ordered: &Ordered) -> bool {
+        self.client.wait = Duration::from_secs(1);
+        let status = (0..50).find_map(|_| {
+            thread::sleep(Duration::from_millis(100));
+            self.client.leaders_status()
+        });
+        let wrong = ordered.wrong(&status.unwrap_or_default());
+        wrong.iter().for_each(|wrong| say!("wrong: {wrong}"));
+        let logs = (self.coordinator()..self.cluster.places()).map(|place| self.cluster.folder(place).join("log"));
+        let logs: String = logs.filter_map(|log| fs::read_to_string(log).ok()).collect();
+        let count = |words: &str| logs.lines().filter(|line| line.contains(words)).count();
+        let (terms, fenced) = (count(", which was silent for "), count("another coordinator leads: "));
+        say!("{} tables were acknowledged, in {terms} terms; {fenced} coordinators were fenced", ordered.done.len());
+        wrong.is_empty() && !ordered.done.is_empty()
     }
 }

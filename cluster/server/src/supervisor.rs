@@ -1,34 +1,28 @@
 //! Starting nodes: one in this process, or a whole cluster of processes.
 
-use crate::client::{Client, Target};
+use crate::addresses::{self, Listed};
+use crate::client::Target;
 use crate::core::{Config, tell};
-use crate::options::{self, Options};
-use crate::protocol::Op;
-use crate::{coordinator, host};
-use std::fs::{self, File, OpenOptions, TryLockError};
-use std::io::{ErrorKind, Read, Seek, SeekFrom, Write};
+use crate::metrics;
+use crate::options::Options;
+use crate::secret::Secret;
+use crate::store::gateway;
+use crate::{coordinator, disk, host, version};
+use std::collections::BTreeMap;
+use std::fs::{File, TryLockError};
+use std::io::{ErrorKind, Read, Seek, SeekFrom};
 use std::net::TcpListener;
-use std::os::unix::fs::OpenOptionsExt;
 use std::path::{Path, PathBuf};
-use std::process::{Child, Command, Stdio};
+use std::process::{Child, Command, ExitStatus, Stdio};
 use std::thread;
 use std::time::{Duration, Instant};
-
-/// How many bytes a secret has.
-const SECRET: usize = 32;
-
-/// What a folder's cluster has again where nothing else is said.
-const KEPT: [&str; 3] = ["--hosts", "--factor", "--segment"];
-
-/// The file of the folder that keeps it.
-const KEPT_IN: &str = "options";
 
 /// A node takes and frees as many pieces of memory of a size as it is given messages at once. Where there is no
 /// mimalloc the C library keeps but seven of them at hand for a thread, unless it is told otherwise. Queues hand pieces
 /// of 1,000 bytes to threads that would only gather them.
 const TUNABLES: (&str, &str) = ("GLIBC_TUNABLES", "glibc.malloc.tcache_count=8000:glibc.malloc.tcache_max=900");
 
-/// Runs one node, until its input ends: whoever started it has then ended.
+/// Runs one node; with `--supervised` until its input ends: whoever started it has then ended.
 pub fn serve(options: &Options) -> Result<(), String> {
     let folder = options.needed("--folder")?.into();
     let secret = Path::new(options.needed("--secret")?);
@@ -37,59 +31,90 @@ pub fn serve(options: &Options) -> Result<(), String> {
         Some(_) => Some(options.between("--index", 0, 0, target.hosts - 1)?),
         None => None,
     };
-    let config = config(options, target, folder, index, read_secret(secret)?)?;
+    if index.is_some() && options.given("--coordinator").is_some() {
+        return Err("--index is a host's, and --coordinator another's".to_string());
+    }
+    let operator = options.given("--operator").map(|file| Secret::read(Path::new(file))).transpose()?;
+    let config = Config { operator, ..config(options, target, folder, index, Secret::read(secret)?)? };
     tell("starts");
-    thread::spawn(|| {
-        let mut input = std::io::stdin();
-        while !matches!(input.read(&mut [0; 64]), Ok(0) | Err(_)) {}
-        std::process::exit(0);
-    });
+    if options.has("--supervised") {
+        thread::spawn(|| {
+            let mut input = std::io::stdin();
+            while !matches!(input.read(&mut [0; 64]), Ok(0) | Err(_)) {}
+            std::process::exit(0);
+        });
+    }
     let run = if config.index.is_some() { host::run } else { coordinator::run };
     run(config).map_err(|error| error.to_string())
 }
 
+/// Where etcd listens, where the coordinators' journal is there.
+fn store(options: &Options) -> Result<Vec<String>, String> {
+    match options.given("--store") {
+        None | Some("file") => Ok(Vec::new()),
+        Some(words) => gateway::endpoints(words),
+    }
+}
+
 /// How a node is to run by these options.
-fn config(
+pub fn config(
     options: &Options,
     target: Target,
     folder: PathBuf,
     index: Option<u8>,
-    secret: Vec<u8>,
+    secret: Secret,
 ) -> Result<Config, String> {
-    let Target { address, port, hosts } = target;
+    let Target { address, port, hosts, coordinators, listed } = target;
+    let store = store(options)?;
+    if store.is_empty() && coordinators != 1 && index.is_none() {
+        return Err("several coordinators have their journal in etcd: --store etcd=URL,.. says where that is".into());
+    }
     Ok(Config {
         index,
         hosts,
         address,
         port,
+        coordinators,
+        coordinator: options.between("--coordinator", 0, 0, coordinators - 1)?,
+        store,
+        listed,
+        listen: options.given("--listen").map(String::from),
         folder,
         secret,
+        operator: None,
         factor: options.between("--factor", 2, 1, 5)?,
         segment: options.between("--segment", 1024, 1, 1024)?,
         tick: options.between("--tick", 200, 1, 60_000)?,
         silence: options.between("--silence", 1000, 1, 3_600_000)?,
+        slow: options.between("--slow", 30_000, 0, 3_600_000)?,
         long: options.between("--long", 256 << 20, 1, usize::MAX)?,
         beside: options.between("--beside", 24, 0, u64::MAX)?,
+        reserve: options.between("--reserve", 256 << 20, 0, u64::MAX)?,
+        hear: match options.given("--hear") {
+            Some(_) => Some(options.between("--hear", 1, 1, hosts)?),
+            None => None,
+        },
         record: options.has("--record"),
         faults: options.has("--faults"),
     })
 }
 
-/// What the peers share, which has to be long enough that nobody guesses it.
-fn read_secret(file: &Path) -> Result<Vec<u8>, String> {
-    let secret = fs::read(file).map_err(|error| format!("{}: {error}", file.display()))?;
-    if secret.len() < SECRET {
-        return Err(format!("{}: a secret has at least {SECRET} bytes", file.display()));
-    }
-    Ok(secret)
-}
+/// The file of a cluster's folder that says who listens where.
+const CLUSTER: &str = "cluster";
+
+/// The file of a cluster's folder that has the secret of who operates it.
+pub const OPERATOR: &str = "operator";
 
 /// A cluster of processes on this machine.
 pub struct Cluster {
     /// Where it is.
     pub target: Target,
     folder: PathBuf,
+    /// The program as it was started. An upgrade puts another file in its place, and the next process is of that.
+    program: PathBuf,
     more: Vec<String>,
+    /// What only one process is given, by its place.
+    pub own: BTreeMap<usize, Vec<String>>,
     children: Vec<Option<Child>>,
     /// Nobody else runs a cluster in the folder.
     _lock: File,
@@ -100,39 +125,43 @@ impl Cluster {
     /// there makes the secret.
     pub fn new(target: Target, folder: &Path, more: Vec<String>) -> Result<Cluster, String> {
         let told = |error: std::io::Error| format!("{}: {error}", folder.display());
-        fs::create_dir_all(folder).map_err(told)?;
+        disk::make_folder(folder).map_err(told)?;
         let folder = folder.canonicalize().map_err(told)?;
-        let lock = OpenOptions::new().create(true).append(true).open(folder.join("lock")).map_err(told)?;
+        let lock = disk::own_file().create(true).append(true).open(folder.join("lock")).map_err(told)?;
         lock.try_lock().map_err(|error| match error {
             TryLockError::WouldBlock => format!("{}: a cluster runs in this folder already", folder.display()),
             TryLockError::Error(error) => told(error),
         })?;
-        let secret = folder.join("secret");
-        if !secret.exists() {
-            let mut bytes = [0; SECRET];
-            File::open("/dev/urandom").and_then(|mut file| file.read_exact(&mut bytes)).map_err(told)?;
-            let mut file = OpenOptions::new().create_new(true).write(true).mode(0o600).open(&secret).map_err(told)?;
-            file.write_all(&bytes).map_err(told)?;
-        }
-        let children = (0..=target.hosts).map(|_| None).collect();
-        Ok(Cluster { target, folder, more, children, _lock: lock })
+        disk::close_folder(&folder).and_then(|()| version::check(&folder)).map_err(told)?;
+        ["secret", OPERATOR].iter().try_for_each(|name| Secret::draw(&folder.join(name))).map_err(told)?;
+        let all: Vec<String> = (0..target.places()).map(|place| target.at(place)).collect();
+        let listed = Listed { all, coordinators: target.coordinators };
+        disk::write_whole(&folder.join(CLUSTER), addresses::file_of(&listed).as_bytes()).map_err(told)?;
+        let program = std::env::current_exe().map_err(told)?;
+        let children = (0..target.places()).map(|_| None).collect();
+        Ok(Cluster { target, folder, program, more, own: BTreeMap::new(), children, _lock: lock })
     }
 
-    /// How many processes it has: the hosts, and the coordinator, which has the last place.
+    /// How many processes it has: the hosts, and the coordinators, which have the last places.
     pub fn places(&self) -> usize {
         self.children.len()
     }
 
+    /// The folder of all.
+    pub fn whole_folder(&self) -> &Path {
+        &self.folder
+    }
+
     /// The folder of a node.
     pub fn folder(&self, place: usize) -> PathBuf {
-        let name = if place + 1 == self.places() { "coordinator".to_string() } else { format!("host{place}") };
-        self.folder.join(name)
+        let name = metrics::label(place, self.target.hosts);
+        self.folder.join(if place < usize::from(self.target.hosts) { format!("host{name}") } else { name })
     }
 
     /// Tries whether all ports are free. Processes that end just now are waited for.
     pub fn try_ports(&self) -> Result<(), String> {
         let end = Instant::now() + Duration::from_secs(2);
-        for place in 0..=self.target.hosts {
+        for place in 0..self.target.places() {
             let at = self.target.at(place);
             while let Err(error) = TcpListener::bind(&at) {
                 let is_used = error.kind() == ErrorKind::AddrInUse;
@@ -160,28 +189,34 @@ impl Cluster {
     /// Starts the process of a node.
     pub fn start(&mut self, place: usize) -> Result<(), String> {
         let folder = self.folder(place);
-        fs::create_dir_all(&folder).map_err(|error| error.to_string())?;
-        let log = OpenOptions::new().create(true).append(true).open(folder.join("log"));
-        let log = log.map_err(|error| error.to_string())?;
-        let is_coordinator = place + 1 == self.places();
-        let index = if is_coordinator { Vec::new() } else { vec!["--index".to_string(), place.to_string()] };
-        let program = std::env::current_exe().map_err(|error| error.to_string())?;
+        let told = |error: std::io::Error| format!("{}: {error}", folder.display());
+        disk::make_folder(&folder).map_err(told)?;
+        // a disk that has no room for a log is no reason to stand still
+        let log = disk::own_file().create(true).append(true).open(folder.join("log"));
+        let log = log.map_or(Stdio::null(), Stdio::from);
+        let index = match place.checked_sub(usize::from(self.target.hosts)) {
+            None => ["--index".to_string(), place.to_string()],
+            Some(number) => ["--coordinator".to_string(), number.to_string()],
+        };
         let tunables = std::env::var(TUNABLES.0).unwrap_or_else(|_| TUNABLES.1.to_string());
-        let child = Command::new(program)
+        let child = Command::new(&self.program)
             .env(TUNABLES.0, tunables)
-            .args(["serve", "--hosts", &self.target.hosts.to_string()])
+            .args(["serve", "--supervised", "--cluster"])
+            .arg(self.folder.join(CLUSTER))
             .args(&index)
-            .args(["--address", &self.target.address, "--port", &self.target.port.to_string()])
             .arg("--folder")
             .arg(&folder)
             .arg("--secret")
             .arg(self.folder.join("secret"))
+            .arg("--operator")
+            .arg(self.folder.join(OPERATOR))
             .args(&self.more)
+            .args(self.own.get(&place).into_iter().flatten())
             .stdin(Stdio::piped())
             .stdout(Stdio::null())
             .stderr(log)
             .spawn()
-            .map_err(|error| error.to_string())?;
+            .map_err(|error| format!("{}: {error}", self.program.display()))?;
         self.children[place] = Some(child);
         Ok(())
     }
@@ -192,11 +227,11 @@ impl Cluster {
     }
 
     /// Those whose process has ended, with how.
-    pub fn ended(&mut self) -> Vec<(usize, String)> {
+    pub fn ended(&mut self) -> Vec<(usize, ExitStatus)> {
         let mut ended = Vec::new();
         for (place, child) in self.children.iter_mut().enumerate() {
             if let Some(Ok(Some(status))) = child.as_mut().map(Child::try_wait) {
-                ended.push((place, status.to_string()));
+                ended.push((place, status));
                 *child = None;
             }
         }
@@ -227,176 +262,5 @@ impl Cluster {
 impl Drop for Cluster {
     fn drop(&mut self) {
         (0..self.places()).for_each(|place| self.kill(place));
-    }
-}
-
-/// What was said of the cluster in this folder. A folder from before that was kept has as many hosts as have a folder
-/// there.
-fn kept_options(folder: &Path) -> Result<Options, String> {
-    let file = folder.join(KEPT_IN);
-    let told = |why: &dyn std::fmt::Display| format!("{}: {why}", file.display());
-    let text = match fs::read_to_string(&file) {
-        Ok(text) => text,
-        Err(error) if error.kind() == ErrorKind::NotFound => {
-            let last = (0..64).rev().find(|host| folder.join(format!("host{host}")).exists());
-            last.map_or(String::new(), |last| format!("--hosts {}", last + 1))
-        }
-        Err(error) => return Err(told(&error)),
-    };
-    let words: Vec<String> = text.split_whitespace().map(String::from).collect();
-    if let Some(other) = words.iter().step_by(2).find(|word| !KEPT.contains(&word.as_str())) {
-        return Err(told(&format!("{other} is nothing that is kept here")));
-    }
-    let read = || {
-        let kept = Options::read(options::Command::named("up")?, words)?;
-        config(&kept, crate::target(&kept)?, PathBuf::new(), None, Vec::new())?;
-        Ok(kept)
-    };
-    read().map_err(|why: String| told(&why))
-}
-
-/// Keeps how many hosts the cluster in this folder has; and of the first time what its hosts are made with.
-fn keep_options(folder: &Path, kept: &Options, config: &Config) -> Result<(), String> {
-    let factor = kept.get("--factor", config.factor)?;
-    let segment = kept.get("--segment", config.segment)?;
-    let text = format!("--hosts {}\n--factor {factor}\n--segment {segment}\n", config.hosts);
-    let [file, next] = [KEPT_IN, "options.next"].map(|name| folder.join(name));
-    if fs::read_to_string(&file).is_ok_and(|kept| kept == text) {
-        return Ok(());
-    }
-    let written =
-        File::create(&next).and_then(|mut next| next.write_all(text.as_bytes()).and_then(|()| next.sync_all()));
-    let kept = written.and_then(|()| fs::rename(&next, &file));
-    kept.map_err(|error| format!("{}: {error}", file.display()))
-}
-
-/// Runs a cluster: starts it, shows what changes, and starts again what ends.
-pub fn up(options: &Options) -> Result<(), String> {
-    let folder: PathBuf = options.get("--folder", "cluster-data".to_string())?.into();
-    let kept = kept_options(&folder)?;
-    let options = &options.with_defaults(&kept);
-    let target = crate::target(options)?;
-    let config = config(options, target.clone(), PathBuf::new(), None, Vec::new())?;
-    let factor = config.factor;
-    if target.hosts <= factor {
-        let (least, hosts) = (factor + 1, target.hosts);
-        return Err(format!(
-            "factor {factor} needs {least} hosts, a master and {factor} backups, and --hosts is {hosts}"
-        ));
-    }
-    let mut more = Vec::new();
-    for name in ["--factor", "--segment", "--tick", "--silence", "--long", "--beside"] {
-        more.extend(options.given(name).iter().flat_map(|value| [name.to_string(), value.to_string()]));
-    }
-    more.extend(["--record", "--faults"].iter().filter(|flag| options.has(flag)).map(|flag| flag.to_string()));
-    let mut cluster = Cluster::new(target, &folder, more)?;
-    cluster.try_ports()?;
-    keep_options(&folder, &kept, &config)?;
-    cluster.start_all()?;
-    (0..cluster.places()).for_each(|place| show_process(&cluster, place));
-    let mut shown = String::new();
-    loop {
-        thread::sleep(Duration::from_millis(250));
-        for (place, how) in cluster.ended() {
-            let (folder, last) = (cluster.folder(place), cluster.last_line(place));
-            say!("{} has ended ({how}), and is started again; its log ends: {last}", folder.display());
-            thread::sleep(Duration::from_millis(100));
-            cluster.start(place)?;
-            show_process(&cluster, place);
-        }
-        let now = glance(&cluster.target);
-        if now != shown {
-            say!("{now}");
-            shown = now;
-        }
-    }
-}
-
-fn show_process(cluster: &Cluster, place: usize) {
-    say!("process {} is {}", cluster.process(place).unwrap_or(0), cluster.folder(place).display());
-}
-
-/// Who is up, and who owns what.
-fn glance(target: &Target) -> String {
-    let mut client = Client::new(target.clone());
-    client.wait = Duration::from_millis(500);
-    let Some(reply) = client.call_coordinator(Op::Status, 0, 0) else {
-        return "the coordinator does not answer".to_string();
-    };
-    let text = String::from_utf8_lossy(&reply.value).into_owned();
-    let up = text.lines().filter(|line| line.contains(" up ")).filter_map(|line| line.split(' ').nth(1));
-    let mut now = format!("up: {}", up.collect::<Vec<_>>().join(" "));
-    for line in text.lines().filter(|line| line.starts_with("table ")) {
-        now = format!("{now}; {line}");
-    }
-    now
-}
-
-#[cfg(test)]
-mod tests {
-    use super::*;
-    use crate::options::Command as Words;
-
-    /// Why `up` does not begin with these words.
-    fn why(line: &str) -> String {
-        let words = line.split(' ').map(String::from);
-        let begun = Words::named("up").and_then(|command| Options::read(command, words)).and_then(|words| up(&words));
-        begun.expect_err("it begins")
-    }
-
-    #[test]
-    fn a_cluster_that_cannot_begin_says_why() -> Result<(), String> {
-        for (words, said) in [
-            ("--hosts 2", "factor 2 needs 3 hosts, a master and 2 backups, and --hosts is 2"),
-            ("--factor 9", "--factor is a number of 1 to 5, and not 9"),
-            ("--segment 0", "--segment is a number of 1 to 1024, and not 0"),
-            ("--tick abc", "--tick is a number of 1 to 60000, and not abc"),
-            ("--address localhost", "--address is one such as 127.0.0.1, and not localhost"),
-            ("--port 65535", "--port is a number of 1 to 65531, and not 65535"),
-        ] {
-            assert_eq!(why(words), said);
-        }
-        let folder = std::env::temp_dir().join(format!("sevunthi-up-{}", std::process::id()));
-        let taken = TcpListener::bind("127.0.0.1:0").and_then(|listener| Ok((listener.local_addr()?.port(), listener)));
-        let (port, _listener) = taken.map_err(|error| error.to_string())?;
-        let line = format!("--folder {} --port {}", folder.display(), port.min(u16::MAX - 4));
-        assert!(why(&line).starts_with("nobody can listen at 127.0.0.1:"));
-        let target = Target { address: "127.0.0.1".to_string(), port, hosts: 4 };
-        let _other = Cluster::new(target, &folder, Vec::new())?;
-        assert!(why(&line).ends_with(": a cluster runs in this folder already"));
-        fs::remove_dir_all(&folder).map_err(|error| error.to_string())
-    }
-
-    #[test]
-    fn what_was_said_of_a_folder_is_kept() -> Result<(), String> {
-        let folder = std::env::temp_dir().join(format!("sevunthi-kept-{}", std::process::id()));
-        let told = |error: std::io::Error| error.to_string();
-        fs::create_dir_all(folder.join("host5")).map_err(told)?;
-        let read = |line: &str| {
-            let words = line.split_whitespace().map(String::from);
-            Options::read(Words::named("up")?, words)
-        };
-        let kept = kept_options(&folder)?;
-        assert_eq!(kept.given("--hosts"), Some("6"));
-        let said = |line: &str| -> Result<String, String> {
-            let kept = kept_options(&folder)?;
-            let options = read(line)?.with_defaults(&kept);
-            let config = config(&options, crate::target(&options)?, PathBuf::new(), None, Vec::new())?;
-            keep_options(&folder, &kept, &config)?;
-            fs::read_to_string(folder.join(KEPT_IN)).map_err(told)
-        };
-        assert_eq!(said("--factor 1")?, "--hosts 6\n--factor 1\n--segment 1024\n");
-        assert_eq!(said("--factor 3 --hosts 7")?, "--hosts 7\n--factor 1\n--segment 1024\n");
-        assert_eq!(said("")?, "--hosts 7\n--factor 1\n--segment 1024\n");
-        for (text, why) in [
-            ("--hots 4", "options: --hots is nothing that is kept here"),
-            ("--hosts 4 --port 7", "options: --port is nothing that is kept here"),
-            ("--hosts 99", "options: --hosts is a number of 1 to 64, and not 99"),
-        ] {
-            fs::write(folder.join(KEPT_IN), text).map_err(told)?;
-            let refused = kept_options(&folder).err().unwrap_or_default();
-            assert!(refused.ends_with(why), "{refused}");
-        }
-        fs::remove_dir_all(&folder).map_err(told)
     }
 }

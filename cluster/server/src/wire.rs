@@ -4,15 +4,12 @@
 //! four. A batch is its length in four bytes, its number on this connection in eight, the sum of 32 bytes that only who
 //! has the secret can make, and frames.
 
-use crate::poly1305;
 use sevunthi::mac;
 use sevunthi::message::{Stored, framed, kind, kind_between, u32_at, u64_at};
+pub use sevunthi_client::seal::{HEAD, Seal};
 
 /// The longest batch.
 pub const MOST: usize = 256 << 20;
-
-/// How many bytes of a batch stand before its frames: length, number and sum.
-pub const HEAD: usize = 44;
 
 /// The first byte of what is no message of the protocol: a heartbeat of a server, with its id, and whom it waits for.
 pub const HEARTBEAT: u8 = 0;
@@ -107,52 +104,9 @@ pub fn is_place(frame: &[u8]) -> bool {
     frame.get(8..).and_then(kind_between) == Some(kind::PLACE)
 }
 
-/// One direction of a connection between peers: who has the secret makes batches, and whoever reads takes no other,
-/// none twice, and none out of order.
-pub struct Seal {
-    secret: Vec<u8>,
-    challenge: [u8; 16],
-    /// What the frames' own sum is made with.
-    key: [u8; 32],
-    number: u64,
-}
-
-impl Seal {
-    /// A connection whose reader has drawn this challenge.
-    pub fn new(secret: &[u8], challenge: [u8; 16]) -> Seal {
-        Seal { secret: secret.to_vec(), challenge, key: mac(secret, &challenge), number: 0 }
-    }
-
-    /// The sum of the next batch, which has these frames: an HMAC over the challenge, the batch's number and the sum of
-    /// the frames, which nobody sees. The key is an HMAC over 16 bytes, a batch's is over 40: neither can be taken for
-    /// the other.
-    fn mac(&self, frames: &[u8]) -> [u8; 32] {
-        let mut said = [0; 40];
-        said[..16].copy_from_slice(&self.challenge);
-        said[16..24].copy_from_slice(&self.number.to_le_bytes());
-        said[24..].copy_from_slice(&poly1305::sum(&self.key, frames));
-        mac(&self.secret, &said)
-    }
-
-    /// Makes the next batch of the frames that stand behind `HEAD` bytes, in place.
-    pub fn close(&mut self, headed: &mut [u8]) {
-        let sum = self.mac(&headed[HEAD..]);
-        let length = headed.len() as u32 - 4;
-        headed[..4].copy_from_slice(&length.to_le_bytes());
-        headed[4..12].copy_from_slice(&self.number.to_le_bytes());
-        headed[12..HEAD].copy_from_slice(&sum);
-        self.number += 1;
-    }
-
-    /// The frames of a batch, with its length, if it is the next one.
-    pub fn open<'a>(&mut self, batch: &'a [u8]) -> Option<&'a [u8]> {
-        let (head, frames) = batch.split_at_checked(HEAD)?;
-        let is_next = u64_at(head, 4)? == self.number;
-        let made = self.mac(frames);
-        let differs = made.iter().zip(&head[12..]).fold(0, |differs, (x, y)| differs | (x ^ y));
-        self.number += 1;
-        (is_next && differs == 0).then_some(frames)
-    }
+/// One direction of a connection between peers, whose reader has drawn this challenge. The sums are the proved ones.
+pub fn seal(secret: &[u8], challenge: [u8; 16]) -> Seal {
+    Seal::by(mac, secret, challenge)
 }
 
 #[cfg(test)]
@@ -165,13 +119,23 @@ mod tests {
     fn a_batch_is_taken_once() {
         let mut out = vec![0; HEAD];
         put_frame(7, b"hello", &mut out);
-        let (mut writer, mut reader) = (Seal::new(b"secret", [1; 16]), Seal::new(b"secret", [1; 16]));
+        let (mut writer, mut reader) = (seal(b"secret", [1; 16]), seal(b"secret", [1; 16]));
         writer.close(&mut out);
         let opened = reader.open(&out).expect("it is the next one");
         assert_eq!(frames(opened).collect::<Vec<_>>(), [(7, &b"hello"[..])]);
         assert_eq!(reader.open(&out), None);
-        assert_eq!(Seal::new(b"another", [1; 16]).open(&out), None);
-        assert_eq!(Seal::new(b"secret", [2; 16]).open(&out), None);
+        assert_eq!(seal(b"another", [1; 16]).open(&out), None);
+        assert_eq!(seal(b"secret", [2; 16]).open(&out), None);
+    }
+
+    #[test]
+    fn a_client_makes_the_batches_that_a_server_opens() {
+        for count in 0..70 {
+            let secret = [7; 70];
+            let mut batch = [vec![0; HEAD], vec![count; usize::from(count)]].concat();
+            Seal::new(&secret[..usize::from(count)], [count; 16]).close(&mut batch);
+            assert_eq!(seal(&secret[..usize::from(count)], [count; 16]).open(&batch), Some(&batch[HEAD..]));
+        }
     }
 
     #[test]
@@ -225,7 +189,7 @@ mod tests {
         let mut whole = Vec::new();
         messages.iter().for_each(|message| put_frame(7, message, &mut whole));
         let mut batch = [vec![0; HEAD], whole.clone()].concat();
-        Seal::new(b"secret", [1; 16]).close(&mut batch);
+        seal(b"secret", [1; 16]).close(&mut batch);
         let mut request = Vec::new();
         let asked = Request { op: Op::Put, number: 3, table: 1, key: 5, value: b"value".into() };
         asked.put(&mut request);
@@ -236,7 +200,7 @@ mod tests {
                 assert!(clock == 7 && messages.contains(&message), "{message:?} was never sent");
             }
             let other = mutated(&batch, &mut dice);
-            let opened = Seal::new(b"secret", [1; 16]).open(&other);
+            let opened = seal(b"secret", [1; 16]).open(&other);
             assert!(opened.is_none_or(|frames| frames == whole));
             for piece in sevunthi::message::framed(&mutated(&request, &mut dice)) {
                 let _ = Request::read(piece);

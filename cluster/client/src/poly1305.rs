@@ -2,7 +2,7 @@
 //! at a secret place is taken modulo 2^130 - 5. Two texts have the same sum under few of all keys. But whoever sees
 //! sums may learn the key, so they are kept secret, or a key serves for one.
 
-use sevunthi::message::u64_at;
+use crate::bytes::u64_at;
 
 /// A number below 2^130 or little more, in words of eight bytes, the least first.
 #[derive(Clone, Copy)]

@@ -1,0 +1,47 @@
+//! A client of a cluster, over the standard library alone: it needs neither the library of nodes nor what builds that.
+//!
+//! A [`Client`] asks one thing after another, finds owners, and waits where that is of use. A [`Connection`] has many
+//! requests under way at once, at one host. Both say the same of each request:
+//!
+//! - `Ok`: it was done, and is durable; what a read shows is confirmed.
+//! - [`Error::Refused`], [`Error::Mismatch`], [`Error::Unasked`], [`Error::NotLetIn`]: it was not done.
+//! - [`Error::Unknown`]: nobody knows. The answer of a write was lost: it may have been done, or may still be done. It
+//!   is not asked again by itself, since that would be another write.
+//!
+//! ```no_run
+//! use sevunthi_client::{Client, Error, Target};
+//!
+//! let mut client = Client::new(Target::on("127.0.0.1", 7300, 4));
+//! let version = client.put(1, 5, b"hello")?;
+//! assert_eq!(client.get(1, 5)?.value.as_deref(), Some(&b"hello"[..]));
+//! # Ok::<(), Error>(())
+//! ```
+//!
+//! Over these stand [`names`], a table whose keys are byte strings, and [`large`], values of up to 1 MiB.
+//!
+//! What goes over the wire stands in [`protocol`], [`handshake`] and [`seal`]; `docs/WIRE.md` has it byte by byte.
+
+pub mod addresses;
+mod bytes;
+mod client;
+mod connection;
+mod error;
+pub mod handshake;
+pub mod large;
+pub mod names;
+mod poly1305;
+pub mod protocol;
+pub mod refusal;
+pub mod seal;
+mod sha256;
+mod store;
+mod target;
+
+pub use bytes::framed;
+pub use client::{Client, Lost, STANDS_BY};
+pub use connection::{Answer, Connection};
+pub use error::{Error, Found, Missing};
+pub use handshake::NotLetIn;
+pub use refusal::Refusal;
+pub use store::Store;
+pub use target::Target;

@@ -1,0 +1,179 @@
+//! Connecting to a peer, again and again, and telling why it is not reached.
+
+use crate::addresses;
+use crate::core::tell;
+use crate::handshake::{self, Hello, Refused};
+use crate::secret::Secret;
+use crate::wire::Seal;
+use std::net::TcpStream;
+use std::time::{Duration, Instant};
+
+/// How long a connection is waited for: mostly it is short, so that a peer that was cut off is soon reached again. Once in
+/// so many times it is long, so that one with a long round trip is reached at all: more often where none was reached yet,
+/// and always where its round trip is long.
+const SHORT: Duration = Duration::from_millis(300);
+const LONG: Duration = Duration::from_secs(2);
+const LONG_OF_UNKNOWN: usize = 3;
+const LONG_OF_NEAR: usize = 20;
+
+/// A peer is near where connecting to it, which takes three round trips, took less than this.
+const NEAR: Duration = Duration::from_millis(600);
+
+/// How long an answer to what proves this process is waited for.
+const ANSWERING: Duration = Duration::from_secs(2);
+
+/// A batch that is not taken for so long ends the connection.
+const WRITING: Duration = Duration::from_secs(2);
+
+/// A connection whose other side is silent for so long is ended.
+const SILENT: Duration = Duration::from_secs(4);
+
+/// Who was not reached is tried again after so long, when there is something to say.
+const PAUSE: Duration = Duration::from_millis(20);
+
+/// That a peer is not reached is told when that has lasted so long, and then again with each minute.
+const LASTS: Duration = Duration::from_secs(1);
+const AGAIN: Duration = Duration::from_secs(60);
+
+/// Connects to one peer.
+pub struct Dialer {
+    hello: Hello,
+    name: String,
+    address: String,
+    secret: Secret,
+    /// How often it was tried in vain since it was reached, and since when.
+    tries: usize,
+    /// Whether it was near when it was reached last.
+    is_near: Option<bool>,
+    since: Option<Instant>,
+    last: Option<Instant>,
+    /// What was told, and when.
+    told: Option<(String, Instant)>,
+}
+
+impl Dialer {
+    /// One for who listens at this address, a name or a number with its port. There are so many hosts, and the places
+    /// behind them are the coordinators'.
+    pub fn new(hello: Hello, hosts: u8, address: String, secret: Secret) -> Dialer {
+        let name = match hello.to.checked_sub(hosts) {
+            None => format!("host {}", hello.to),
+            Some(0) => "the coordinator".to_string(),
+            Some(number) => format!("coordinator {number}"),
+        };
+        Dialer { hello, name, address, secret, tries: 0, is_near: None, since: None, last: None, told: None }
+    }
+
+    /// A connection, which does not block, and what its batches are made with, if the peer is reached now.
+    pub fn connect(&mut self) -> Option<(TcpStream, Seal)> {
+        if self.last.is_some_and(|last| last.elapsed() < PAUSE) {
+            return None;
+        }
+        let began = Instant::now();
+        match self.try_once(self.wait()) {
+            Ok(open) => {
+                self.is_near = Some(began.elapsed() < NEAR);
+                if self.told.take().is_some() {
+                    tell(format_args!("{} at {} is reached", self.name, self.address));
+                }
+                (self.tries, self.since, self.last) = (0, None, None);
+                Some(open)
+            }
+            Err(refused) => {
+                self.tries += 1;
+                self.last = Some(Instant::now());
+                if let Some(line) = self.line(&refused, Instant::now()) {
+                    tell(line);
+                }
+                None
+            }
+        }
+    }
+
+    /// How long a connection is waited for now.
+    fn wait(&self) -> Duration {
+        let every = match self.is_near {
+            Some(true) => LONG_OF_NEAR,
+            Some(false) => 1,
+            None => LONG_OF_UNKNOWN,
+        };
+        if (self.tries + 1).is_multiple_of(every) { LONG } else { SHORT }
+    }
+
+    fn try_once(&self, wait: Duration) -> Result<(TcpStream, Seal), Refused> {
+        let mut stream = addresses::connect(&self.address, wait)?;
+        stream.set_nodelay(true)?;
+        sevunthi_system::end_when_silent(&stream, SILENT)?;
+        stream.set_read_timeout(Some(ANSWERING))?;
+        stream.set_write_timeout(Some(WRITING))?;
+        let seal = handshake::prove(&mut stream, self.hello, self.secret.bytes())?;
+        stream.set_nonblocking(true)?;
+        Ok((stream, seal))
+    }
+
+    /// What is to be told of an attempt in vain: nothing while it may pass, or was told lately.
+    fn line(&mut self, refused: &Refused, now: Instant) -> Option<String> {
+        let since = *self.since.get_or_insert(now);
+        let why = refused.to_string();
+        let was_told = self.told.as_ref().is_some_and(|(told, at)| *told == why && now - *at < AGAIN);
+        if was_told || now - since < LASTS {
+            return None;
+        }
+        self.told = Some((why.clone(), now));
+        Some(format!("{} at {} is not reached: {why}", self.name, self.address))
+    }
+}
+
+#[cfg(test)]
+mod tests {
+    use super::*;
+    use crate::handshake::{NotLetIn, Role};
+    use std::io;
+    use std::net::TcpListener;
+
+    fn dialer(address: String) -> Dialer {
+        Dialer::new(Hello { role: Role::Peer, from: 0, to: 2 }, 2, address, Secret::default())
+    }
+
+    #[test]
+    fn why_a_peer_is_not_reached_is_told_once_it_lasts() {
+        let mut dialer = dialer("127.0.0.1:1".to_string());
+        let began = Instant::now();
+        let mut said = |refused: &Refused, seconds| dialer.line(refused, began + Duration::from_secs(seconds));
+        assert_eq!(said(&NotLetIn::Secret.into(), 0), None);
+        let line = "the coordinator at 127.0.0.1:1 is not reached: it has another secret";
+        assert_eq!(said(&NotLetIn::Secret.into(), 1).as_deref(), Some(line));
+        assert_eq!(said(&NotLetIn::Secret.into(), 2), None);
+        assert!(
+            said(&NotLetIn::Version(9).into(), 3)
+                .is_some_and(|line| line.ends_with("it has version 9, and this is version 1"))
+        );
+        assert!(said(&NotLetIn::Version(9).into(), 63).is_some());
+    }
+
+    #[test]
+    fn a_connection_is_waited_for_as_the_peer_is_far() {
+        let mut dialer = dialer("127.0.0.1:1".to_string());
+        let mut long_of = |is_near, tries: std::ops::Range<usize>| {
+            dialer.is_near = is_near;
+            tries
+                .filter(|tries| {
+                    dialer.tries = *tries;
+                    dialer.wait() == LONG
+                })
+                .count()
+        };
+        assert_eq!([long_of(None, 0..6), long_of(Some(true), 0..40), long_of(Some(false), 0..7)], [2, 2, 7]);
+    }
+
+    #[test]
+    fn who_does_not_answer_is_given_up() -> io::Result<()> {
+        let listener = TcpListener::bind("127.0.0.1:0")?;
+        let mut dialer = dialer(listener.local_addr()?.to_string());
+        let began = Instant::now();
+        assert!(dialer.connect().is_none());
+        assert!(ANSWERING <= began.elapsed() && began.elapsed() < 2 * ANSWERING);
+        // and not tried again at once
+        assert!(dialer.connect().is_none() && began.elapsed() < 2 * ANSWERING);
+        Ok(())
+    }
+}
