@@ -1,4 +1,15 @@
-//! Drawn faults on a cluster of its own, while clients write and read.
+//! Drawn faults on a cluster of its own, of four hosts with factor 2, while six clients write and read, also on
+//! conditions. A conditional write is noted as a write and a read, of which one was done: the read is what a mismatch
+//! showed. Every other seed leaves all syncs of hosts to threads. In two of four seeds each journal that has grown by
+//! 60,000 bytes is replaced by a save, over the file of an older one.
+//!
+//! At the end journals that were damaged where they were safe, cut or taken away have to be refused, six of them, or
+//! three where the coordinators' journal is in etcd; and the cluster has to go on with them as they were. No client may
+//! wait longer than the gap; the time after its last answer counts. Time in which the machine kept a thread or a sync
+//! waiting is left out, and told.
+//!
+//! Three coordinators have an etcd of three members, and a pack of their own. Then tables are made ten times a second:
+//! none that was acknowledged may be gone, and none be there that was refused.
 
 mod clients;
 mod disk;
@@ -96,56 +107,57 @@ const PACK_OF_SEVERAL: [Fault; 28] = [
 
 #[derive(Clone, Copy, Debug, PartialEq, Eq, PartialOrd, Ord)]
 enum Fault {
-    /// A host's process is killed.
+    /// A host's process is killed, and started after up to 1.5 s.
     Kill,
     KillCoordinator,
-    /// A host's process stands still.
+    /// A host's process stands still for 1 to 5 s; a coordinator's only while no recovery waits for it.
     Stop,
     StopCoordinator,
-    /// A host has no power.
+    /// A host's process is killed and has no power: what was not synced is cut off, or damaged, or zeros, and an older
+    /// journal stands behind.
     Power,
     PowerCoordinator,
-    /// A process ends in a save.
+    /// A process ends in a save, after any of its steps: opened, written, synced, number noted, renamed, folder synced.
     Save,
-    /// So does its machine's power.
+    /// So does its machine's power. The rename may be lost then.
     SavePower,
-    /// Two hosts do not hear each other.
+    /// Two hosts do not hear each other for 0.5 to 5 s.
     Pair,
-    /// One process does not hear another, which hears it.
+    /// One process does not hear another, which hears it, for as long; with the coordinator for up to 2 s.
     OneWay,
-    /// A host and the coordinator do not hear each other.
+    /// A host and the coordinator do not hear each other for up to 2 s.
     FromCoordinator,
-    /// Frames are repeated, reordered, cut and damaged, and there are bytes that are none.
+    /// Of the frames of a process a tenth is repeated, reordered, cut and damaged, and there are bytes that are none.
     Mangle,
     /// Strangers connect, and talk nonsense.
     Noise,
-    /// A host's disk is full.
+    /// A host's disk is full: writes fail after a half, for 0.2 to 1.5 s, over restarts too.
     Full,
     FullCoordinator,
     /// A disk is full in a save.
     FullInSave,
-    /// A host begins while its disk has no room for zeros ahead of its journal, and loses its power then.
+    /// A host begins while its disk has no room for zeros ahead of its journal, and loses its power after 1 to 2 s.
     NearlyFull,
-    /// A sync fails, and some of what it should have made safe is lost.
+    /// A sync fails by `EIO`: the process ends, and some of what it should have made safe is cut or damaged.
     FailingSync,
-    /// A host's disk stands still.
+    /// A host's disk stands still: no sync ends for 1 to 5 s.
     DiskStands,
-    /// A clock jumps, ahead or back.
+    /// The clock of what is sent jumps by up to 20 s, ahead or back.
     Clock,
-    /// An older copy of a host's folder is put back.
+    /// A copy of a host's folder is put back when others were told of more: it has to be refused.
     Older,
     OlderCoordinator,
-    /// The coordinator that leads is cut off from etcd.
+    /// The coordinator that leads is cut off from etcd for 0.5 to 4 s.
     CutCoordinator,
-    /// It ends in a save.
+    /// It ends in a save, after any of its steps.
     SaveOfCoordinator,
     /// A member of etcd is killed.
     KillMember,
     /// It stands still.
     StopMember,
-    /// All do.
+    /// All do, for up to 1.5 s.
     StopMembers,
-    /// A coordinator has seen more than etcd has.
+    /// A coordinator has seen more than etcd has, and has to say so.
     OlderStore,
 }
 
