@@ -12,13 +12,15 @@ use std::io::{self, ErrorKind, Read, Write};
 /// The version of what peers say to one another.
 pub const VERSION: u8 = 1;
 
-/// What somebody is who proves that it has a secret.
+/// What somebody is who connects.
 #[derive(Clone, Copy, Debug, PartialEq, Eq)]
 pub enum Role {
     /// A node of the cluster.
     Peer,
     /// Who operates the cluster.
     Operator,
+    /// A client, which proves that it has a secret only where there is security.
+    Client,
 }
 
 impl Role {
@@ -27,6 +29,7 @@ impl Role {
         match self {
             Role::Peer => b'P',
             Role::Operator => b'A',
+            Role::Client => b'C',
         }
     }
 }

@@ -1,4 +1,5 @@
-//! A client of a cluster, over the standard library alone: it needs neither the library of nodes nor what builds that.
+//! A client of a cluster. It needs neither the library of nodes nor what builds that: only the standard library and,
+//! with the feature `security`, the crate `openssl`.
 //!
 //! A [`Client`] asks one thing after another, finds owners, and waits where that is of use. A [`Connection`] has many
 //! requests under way at once, at one host. Both say the same of each request:
@@ -23,6 +24,7 @@
 
 pub mod addresses;
 mod bytes;
+mod channel;
 mod client;
 mod connection;
 mod error;
@@ -33,11 +35,14 @@ mod poly1305;
 pub mod protocol;
 pub mod refusal;
 pub mod seal;
+#[cfg(feature = "security")]
+pub mod security;
 mod sha256;
 mod store;
 mod target;
 
 pub use bytes::framed;
+pub use channel::Channel;
 pub use client::{Client, Lost, STANDS_BY};
 pub use connection::{Answer, Connection};
 pub use error::{Error, Found, Missing};
