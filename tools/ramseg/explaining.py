@@ -1,7 +1,7 @@
 """`ramseg explain`: what a code, a message, an event, a rule or a word of the glossary means.
 
-The texts of the first four stand in `explain.json` beside this file. Words of the glossary, and the rules that
-`explore` counts, are read from the documents that define them.
+The texts stand in `explain.json` beside this file, those of the rules that `explore` counts among them. Words of the
+glossary are read from its document.
 """
 
 import json
@@ -46,6 +46,8 @@ class Words:
         self.groups: dict[str, list[Texts]] = {
             group: [{name: _joined(text) for name, text in texts.items()} for texts in data[group]] for group in KINDS
         }
+        self.counted: dict[str, str] = {texts["name"]: texts["where"] for texts in data["counted"]}
+        """The rules that `explore` counts, each with where it is reached."""
 
     def names(self, group: str) -> list[str]:
         """The names of a group, in order."""
@@ -73,10 +75,11 @@ def explain(word: str | None) -> Meaning:
     if word is None:
         return Meaning(_list(words), True)
     found = words.find(word)
-    parts = [_told(group, texts) for group, texts in found.items()] or _from_documents(word)
+    parts = [_told(group, texts) for group, texts in found.items()]
+    parts = parts or [*_from_glossary(word), *_of_counted(words, word)]
     if parts:
         return Meaning("\n".join(parts), True)
-    known = [name for group in KINDS for name in words.names(group)] + _document_names()
+    known = [name for group in KINDS for name in words.names(group)] + _glossary_names() + list(words.counted)
     asked = question(word, known)
     return Meaning(f"error: '{word}' is no code, message, event, rule or word of the glossary{asked}\n\n"
                    "`ramseg explain` lists them.\n", False)
@@ -155,9 +158,10 @@ def _list(words: Words) -> str:
         told += f"{number:<3}  {texts['name']:<{longest}}  {texts['short']}\n"
     for group, title in (("messages", "Messages"), ("events", "Events"), ("rules", "Rules that can be broken")):
         told += f"\n{title}\n{_wrapped(words.names(group))}\n"
+    told += f"\nRules that `explore` counts\n{_wrapped(list(words.counted))}\n"
     return told + (
-        "\n`ramseg explain WORD` says more of one: of a code, as F18, 18 or BadEvent, of a name above, of a word of\n"
-        "docs/GLOSSARY.md, as zombie, or of a rule that `explore` counts, as roll.\n"
+        "\n`ramseg explain WORD` says more of one: of a code, as F18, 18 or BadEvent, of a name above, or of a\n"
+        "word of docs/GLOSSARY.md, as zombie.\n"
     )
 
 
@@ -180,22 +184,23 @@ def _glossary() -> list[list[str]]:
     return _rows("GLOSSARY.md", "| Word | What it is | Usual terms |")
 
 
-def _counted_rules() -> list[list[str]]:
-    return _rows("FORMATS.md", "| Rule | Reached where |")
-
-
-def _from_documents(word: str) -> list[str]:
-    """What the glossary says of a word, and where a rule of `explore` counts as reached."""
+def _from_glossary(word: str) -> list[str]:
+    """What the glossary says of a word."""
     told = []
     for names, says, usual in _glossary():
         if any(_is_form(word, name) for name in names.split(", ")):
             also = f"\nUsual terms\n{_wrapped(usual.split())}\n" if usual else ""
             told.append(f"{names}, in the glossary\n\nWhat it is\n{_wrapped(says.split())}\n{also}")
-    for name, where in _counted_rules():
-        if name.strip("`") == word.lower():
-            told.append(f"{word.lower()}, a rule that `explore` counts\n\nIt is reached where\n"
-                        f"{_wrapped(where.split())}\n")
     return told
+
+
+def _of_counted(words: Words, word: str) -> list[str]:
+    """Where a rule that `explore` counts is reached."""
+    name = word.lower()
+    if name not in words.counted:
+        return []
+    where = _wrapped(words.counted[name].split())
+    return [f"{name}, a rule that `explore` counts\n\nIt is reached where\n{where}\n"]
 
 
 def _is_form(word: str, name: str) -> bool:
@@ -205,6 +210,5 @@ def _is_form(word: str, name: str) -> bool:
     return name in {stem + ending for stem in stems for ending in ("", "d", "ed", "s", "es")}
 
 
-def _document_names() -> list[str]:
-    names = [name for row in _glossary() for name in row[0].split(", ")]
-    return names + [row[0].strip("`") for row in _counted_rules()]
+def _glossary_names() -> list[str]:
+    return [name for row in _glossary() for name in row[0].split(", ")]

@@ -179,7 +179,7 @@ def _explain(asked: Asked, rule: str | None) -> int:
     meaning = explaining.explain(word)
     if not meaning.is_known or asked.is_json:
         say(meaning.text if not meaning.is_known else
-            f"error: '{word}' is a word of the documents alone; without '--format json' it is explained\n")
+            f"error: '{word}' has no JSON document; without '--format json' it is explained\n")
         return 2
     text = f"without {rule}\n{meaning.text}" if rule else meaning.text
     return 0 if write(text.encode()) else 4

@@ -32,6 +32,12 @@ class Explaining(unittest.TestCase):
         rules = sorted(file.stem for file in (TOP / "wrong/code").glob("*.edit"))
         self.assertEqual(sorted(Words().names("rules")), rules)
 
+    def test_the_counted_rules_are_those_of_explore(self) -> None:
+        source = (TOP / "crates/rc_survey/src/rules.rt").read_text()
+        names = re.findall(r'^    "([a-z-]+)",$', source, re.M)
+        self.assertEqual(list(Words().counted), names)
+        self.assertLessEqual(set(names), set(explain(None).text.split()))
+
     def test_a_code_is_found_by_number_and_name(self) -> None:
         for word in ("F18", "f18", "18", "BadEvent", "badevent"):
             self.assertTrue(explain(word).text.startswith("F18 BadEvent: the event is not possible in this world\n"))
