@@ -2,7 +2,8 @@
 //!
 //! `counter PORT HOSTS SECONDS CLIENTS COUNTERS`: so many clients add 1 to so many counters of table 1, of a cluster on
 //! this machine. Each value has the number, and who made it. Nothing else writes there: so the number is always the
-//! version. An increment whose answer was lost is unknown. At the end the counters are compared with what was
+//! version. An increment whose answer was lost is unknown: it counts once or not at all. Whoever has to know which puts
+//! a token into the value, or into a list of the last ones. At the end the counters are compared with what was
 //! acknowledged: each number at most once, and those that nobody knows of are no more than were unknown.
 
 use sevunthi_client::{Client, Error, Found, Target};

@@ -6,6 +6,13 @@
 //! when. After that time another one takes it: so the clocks of all have to agree. A token is the version of the lock,
 //! which rises. Now and then a client sleeps until its time is over, and writes then: what is guarded keeps the greatest
 //! token that it has seen, and takes nothing with a smaller one. It has a name in the same table.
+//!
+//! 1. A lock is a name. Where another name has the same key, that is an error, and not a lock.
+//! 2. It is taken by `put_if_absent`. Where somebody has it whose time is over, it is taken by `put_if`, with the
+//!    version that the mismatch has shown: of several who try that one succeeds.
+//! 3. It is let go by `delete_if`, with the version that one holds: who comes too late ends nobody else's lock.
+//! 4. A take that is unknown is looked for by a read: it was done where the value is one's own. If it is done later,
+//!    nobody knows, and its time will be over.
 
 use sevunthi_client::names::{self, Names};
 use sevunthi_client::{Client, Error, Target};

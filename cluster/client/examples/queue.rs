@@ -6,6 +6,19 @@
 //! the clocks of all have to agree. The version of that write is its token. It is done by a write under the token, with
 //! the result: so of all who have taken a job one does it, and its result is the effect. Now and then a worker sleeps
 //! until its lease is over. A job is one word of its own, as is a result. A position that was done is not taken away.
+//!
+//! 1. A job is a key, its position. Its value says what the job is, and whether it waits, who has taken it and until
+//!    when, or what came of it.
+//! 2. It is put at the first position that nobody has used, by `put_if` under version 0. A mismatch says that the
+//!    position is in use, also where what stood there was deleted: then the next one is tried.
+//! 3. The first job that waits, or whose lease is over, is taken by `put_if` under its version.
+//! 4. Done is a `put_if` under the token. If another one has taken the job since, it is a mismatch, and does not count.
+//! 5. A write that is unknown is asked for once more under the same version: it is done once at most, and where a
+//!    mismatch shows one's own value, it was done. So each job has a name of its own.
+//! 6. At key 0 stands a position before which all jobs are done. It may be old, and one looks at more positions then.
+//!
+//! Where clocks do not agree, a job is taken too early, and done once all the same. A worker reads each job from the
+//! first one that is not done, but for those that it knows to be done: it gets slower with the jobs that others took.
 
 use sevunthi_client::{Client, Error, Found, Target};
 use std::collections::{BTreeMap, BTreeSet};
