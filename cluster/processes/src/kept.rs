@@ -192,7 +192,7 @@ mod tests {
         let fenced = BTreeSet::from([Id { index: 0, generation: 1 }]);
         let kept = Kept::Host(Host { generation: 1, fenced, ..Host::default() });
         assert_eq!(Kept::read(&bytes(host)), Some(kept));
-        let book = [&bytes("4200000000000000 6a13fb6f 01 0a 00000000")[..], &[0; 56], &[0; 4]].concat();
+        let book = [&bytes("4200000000000000 ef1b72c0 01 0a 00000000")[..], &[0; 56], &[0; 4]].concat();
         assert_eq!(Kept::read(&book), Some(Kept::Coordinator(Book::default())));
         assert!((0..book.len()).all(|length| Kept::read(&book[..length]).is_none()));
     }
