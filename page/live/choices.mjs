@@ -1,5 +1,5 @@
 // What can happen next: to the message or the node that was picked, or to all. Each choice has a name, and the events
-// that it stands for, or that a message is lost.
+// that it stands for, or that a message is lost: then all others are delivered, since a later settle would deliver it.
 import { hostOf } from "./reading.mjs";
 import { idOf } from "./scenario.mjs";
 

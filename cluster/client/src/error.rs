@@ -28,7 +28,8 @@ pub enum Error {
     NotLetIn(NotLetIn),
 }
 
-/// Why nobody was asked.
+/// Why nobody was asked. What can be known is asked for before what is wanted: else a wrong port would look like a
+/// refusal, after ten seconds.
 #[derive(Clone, Copy, Debug, PartialEq, Eq)]
 pub enum Missing {
     /// Nobody listens: neither the coordinator nor a host.

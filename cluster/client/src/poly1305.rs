@@ -1,6 +1,9 @@
 //! Poly1305 (RFC 8439): a sum over bytes under a key of 32 bytes. The bytes are the digits of a polynomial, whose value
 //! at a secret place is taken modulo 2^130 - 5. Two texts have the same sum under few of all keys. But whoever sees
 //! sums may learn the key, so they are kept secret, or a key serves for one.
+//!
+//! It is our own, since a fresh clone has no library for it. SHA-256 over all bytes took a quarter of the servers'
+//! time.
 
 use crate::bytes::u64_at;
 

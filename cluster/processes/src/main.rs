@@ -1,7 +1,8 @@
 //! Nodes that outlive their processes: three hosts and a coordinator, each in a process of its own, and the outside, on
 //! a transport of bytes that loses, repeats and reorders. Processes are killed, and power is cut, at drawn moments:
 //! between any two of writing, syncing, letting leave, and the steps of a save. Their nodes come back from what is left
-//! of their journals then. A process is a node of the library, and it ends when that is dropped.
+//! of their journals then. A process is a node of the library, and it ends when that is dropped. All this is plain Rust
+//! over the static library: nothing is proved of what draws and counts, and the interface for C is tried, too.
 //!
 //! `processes FIRST COUNT AUDITOR` runs so many seeds from the first on, and tells of each in a line what happened,
 //! counted from the works and the messages, what became of the table in the end, and what was wrong: what `AUDITOR

@@ -161,7 +161,7 @@ impl Coordinator {
     }
 
     /// Gives the node what was asked first of all that waits, where a transaction can be asked for at once that has it
-    /// alone.
+    /// alone, without Suspects and Decides beside it: the node names a refusal by its number alone.
     fn give_order(&mut self) {
         if self.orders.has_dues || self.orders.given.is_some() || self.core.is_transacting() {
             return;

@@ -1,4 +1,5 @@
-//! How long backups take to answer: one that stays slow while another is fast keeps all writes waiting.
+//! How long backups take to answer: one that stays slow while another is fast keeps all writes waiting. Where all are
+//! slow nobody is blamed.
 
 use sevunthi::Id;
 use std::time::Duration;

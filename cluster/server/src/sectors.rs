@@ -1,5 +1,6 @@
 //! A journal's file. It is written in sectors, each of which a disk writes whole or not at all, and each says of which
-//! journal it is. So a save is written over an older journal as that stands: nothing of it is taken for the new one.
+//! journal it is. So a save is written over an older journal as that stands: nothing of it is taken for the new one. A
+//! file that was freed would be discarded by the disk, which keeps syncs waiting, and zeros would cost a byte for each.
 
 use crate::disk;
 use std::fs::File;

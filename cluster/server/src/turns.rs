@@ -1,6 +1,6 @@
 //! Writes that wait for others of their key. A conditional write is compared with what is durable: so it waits until no
-//! write of its key is under way, and what wants to write that key later waits behind it. Where nobody waits, a write
-//! costs two additions.
+//! write of its key is under way. What wants to write that key later waits behind it, so that plain puts can't starve
+//! it. Where nobody waits, a write costs two additions.
 
 use std::collections::{HashMap, VecDeque};
 

@@ -1,4 +1,5 @@
-//! The calls of the C library that a server needs and the standard library lacks, on 64-bit Linux.
+//! The calls of the C library that a server needs and the standard library lacks, on 64-bit Linux. A page of code
+//! builds without a registry; and the server itself forbids unsafe code.
 
 use std::ffi::{CString, c_char, c_int, c_void};
 use std::io;

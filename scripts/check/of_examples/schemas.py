@@ -1,5 +1,6 @@
 """Each scenario and trace of examples/ fits its schema in docs/schemas exactly where its report is no `error`, and so
-does each line of its histories, and each document that `--format json` gives of these and of drawn runs. An
+does each line of its histories, and each document that `--format json` gives of these and of drawn runs. The schemas
+of what is printed take kinds as names; a scenario's alone lists them, so that an editor can complete it. An
 editor finds them by `.vscode/settings.json`: all that fit, and also a file NAME.scenario.json and a NAME.trace. A
 FOLDER has further inputs: NAME.stdin, with the command in NAME.args and what the program prints in NAME.stdout. The
 library jsonschema judges where it is there, else the few words that the schemas use are judged here."""

@@ -1,4 +1,5 @@
-//! What hosts have told of their folders, as the store has it: for whoever leads next.
+//! What hosts have told of their folders, as the store has it: for whoever leads next. All coordinators have one folder
+//! number for the hosts' guard, which stands there too. A new host is let in once the store has it.
 
 use std::sync::{Mutex, MutexGuard, PoisonError};
 use std::time::{Duration, Instant};
