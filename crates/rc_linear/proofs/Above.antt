@@ -5,7 +5,7 @@ use Rattle.rc_model.specs.Model.{ServerId, Entry, Setup, Event, Grant, Ack, IsEa
 use Rattle.rc_model.specs.Model.{HasAcknowledged, In}
 use Rattle.rc_model.proofs.Members.{place_of}
 use Rattle.rc_step_laws.specs.All.{log_in}
-use Rattle.rc_step_laws.proofs.Logs.{get-log}
+use Rattle.rc_step_laws.proofs.LogViews.{get-log}
 use Rattle.rc_step_laws.proofs.Places.{places_to-are, place-logged}
 use Rattle.rc_owner_laws.specs.Parts.{part_view, IsClients}
 use Rattle.rc_owner_laws.specs.VersionClaims.{MayFree}

@@ -9,10 +9,10 @@ use Rattle.rc_model.specs.Model.{IsHeld, HasAcknowledged, Master}
 use Rattle.rc_model.specs.Durable.{log_after}
 use Rattle.rc_step_laws.specs.All.{log_in, GoodMaster, IsWriteOk}
 use Rattle.rc_step_laws.proofs.Lists.{get-within}
-use Rattle.rc_log_laws.proofs.Clauses.{accepted-is}
-use Rattle.rc_log_laws.proofs.Covers.{IsCovered, PlanIs, covered}
-use Rattle.rc_log_laws.proofs.Growing.{recovered-is-made}
-use Rattle.rc_log_laws.proofs.Since.{Since, since-more}
+use Rattle.rc_step_laws.proofs.Clauses.{accepted-is}
+use Rattle.rc_step_laws.proofs.Covers.{IsCovered, PlanIs, covered}
+use Rattle.rc_step_laws.proofs.Growing.{recovered-is-made}
+use Rattle.rc_step_laws.proofs.Since.{Since, since-more}
 use Rattle.rc_owner_laws.specs.Worlds.{AllHold}
 use Rattle.rc_owner_laws.proofs.VersionsOrdered.{opened, logs-rise}
 use Rattle.rc_owner_laws.proofs.VersionReplays.{all-world}

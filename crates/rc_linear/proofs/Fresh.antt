@@ -11,10 +11,10 @@ use Rattle.rc_step_laws.specs.All.{log_in}
 use Rattle.rc_step_laws.proofs.Lists.{get-begins, get-left, get-within}
 use Rattle.rc_step_laws.proofs.Places.{IsOf, places_to-are}
 use Rattle.rc_step_laws.proofs.Tests.{get-map}
-use Rattle.rc_log_laws.proofs.Clauses.{made-is}
-use Rattle.rc_log_laws.proofs.EachMaster.{IsLed, led-by}
-use Rattle.rc_log_laws.proofs.Replays.{good-world}
-use Rattle.rc_log_laws.proofs.Since.{Since, since-more}
+use Rattle.rc_step_laws.proofs.Clauses.{made-is}
+use Rattle.rc_step_laws.proofs.EachMaster.{IsLed, led-by}
+use Rattle.rc_step_laws.proofs.Replays.{good-world}
+use Rattle.rc_step_laws.proofs.Since.{Since, since-more}
 use Rattle.rc_owner_laws.proofs.VersionReplays.{all-world}
 use Rattle.rc_owner_laws.proofs.VersionsOrdered.{opened}
 use Rattle.rc_write_laws.specs.AckClaims.{WasToldToWrite}

@@ -14,7 +14,7 @@ use Rattle.rc_worked.specs.Sentences.{Run, acks_of, is_of_key, is_no_more, whole
 use Rattle.rc_worked.specs.Ordered.{is_some_entry, has_begun, Shown, shown_by, shown_of, is_same_key, is_followed, is_no_less}
 use Rattle.rc_worked.specs.Ordered.{is_alike, is_in_order, answered_in_order, keeps_order_from, keeps_order, order_of}
 use Rattle.rc_worked.proofs.Scenarios.{scenarios-are-replays, runs-append}
-use Rattle.rc_log_laws.specs.WordClaims.{sent_after}
+use Rattle.rc_step_laws.specs.WordClaims.{sent_after}
 use Rattle.rc_promises.specs.Service.{Answer, HasRead}
 use Rattle.rc_promises.proofs.Tested.{all-from, where-from, else-from, same_value-from, acks-say, of-key, no-more}
 use Rattle.rc_linear.specs.Confirmed.{HasSentFor, IsConfirmed, MissesNothing, ConfirmedReadsMissNothing, ReadsFollowTime, WritesFollowReads}

@@ -10,9 +10,9 @@ use Rattle.rc_model.specs.Nodes.{Ask}
 use Rattle.rc_model.proofs.Members.{In-get}
 use Rattle.rc_model.proofs.Replays.{replay_from-push}
 use Rattle.rc_step_laws.proofs.Lists.{get-within, get-append}
-use Rattle.rc_log_laws.proofs.EachMaster.{coordinator-from}
-use Rattle.rc_log_laws.proofs.NodeWalk.{said-host}
-use Rattle.rc_log_laws.proofs.Replays.{GoodWorld, IsGiven, job_of-given, good-world}
+use Rattle.rc_step_laws.proofs.EachMaster.{coordinator-from}
+use Rattle.rc_step_laws.proofs.NodeWalk.{said-host}
+use Rattle.rc_step_laws.proofs.Replays.{GoodWorld, IsGiven, job_of-given, good-world}
 
 -- the list has one message, or none of the outside
 abbrev IsAlone : List Message → Type 0

@@ -5,7 +5,7 @@ use Rattle.std.proofs.Common.{arith}
 use Rattle.rc_model.specs.Model.{ServerId, Entry, Setup, Event, Grant, Ack, IsEarlier, Found, read_of, in_range, term_of, durable_entries}
 use Rattle.rc_model.specs.Model.{factor_of, World, replay, HasAcknowledged, In}
 use Rattle.rc_step_laws.specs.All.{log_in, IsSafe}
-use Rattle.rc_step_laws.proofs.Logs.{get-log}
+use Rattle.rc_step_laws.proofs.LogViews.{get-log}
 use Rattle.rc_owner_laws.specs.Worlds.{AllHold}
 use Rattle.rc_owner_laws.specs.VersionClaims.{MayFree}
 use Rattle.rc_owner_laws.proofs.OwnersOrdered.{one-chain}

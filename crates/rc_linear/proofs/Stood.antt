@@ -6,8 +6,8 @@ use Rattle.rc_model.specs.Model.{read_of, term_of, durable_entries, factor_of, W
 use Rattle.rc_step_laws.specs.All.{log_in, IsSafe, IsWriteOk}
 use Rattle.rc_step_laws.proofs.Lists.{get-begins}
 use Rattle.rc_step_laws.proofs.Places.{places-later}
-use Rattle.rc_log_laws.proofs.Replays.{GoodWorld, led-step, good-world}
-use Rattle.rc_log_laws.proofs.Since.{since-more, replay_from-append}
+use Rattle.rc_step_laws.proofs.Replays.{GoodWorld, led-step, good-world}
+use Rattle.rc_step_laws.proofs.Since.{since-more, replay_from-append}
 use Rattle.rc_owner_laws.proofs.Rising.{IsOwned, acked, owner}
 use Rattle.rc_write_laws.proofs.Moments.{Counts, counts-on}
 use Rattle.rc_write_laws.proofs.Worlds.{counted-is-durable, acknowledged-is-durable}

@@ -11,7 +11,7 @@ use Rattle.rc_types.specs.declared.events.Setup.{Setup}
 use Rattle.rc_types.specs.declared.events.Event.{Event}
 use Rattle.rc_types.specs.declared.messages.Message.{Message}
 use Rattle.rc_history.specs.Apart.{Step, sent_by, TakenApart}
-use Rattle.rc_log_laws.specs.WordClaims.{sent_after}
+use Rattle.rc_step_laws.specs.WordClaims.{sent_after}
 use Rattle.rc_linear.specs.Linearizable.{Operation, AWrite, IsOn, StandsBefore, HasReplicas}
 
 -- Of some operations on one key, one that is told as done behind the version that its client expected: it writes, has

@@ -9,7 +9,7 @@ use Rattle.rc_model.specs.Nodes.{factor_of}
 use Rattle.rc_model.specs.Recovered.{Ack}
 use Rattle.rc_model.specs.Owners.{Granted, IsGranted, covers, IsEarlier}
 use Rattle.rc_model.specs.Headline.{HasMade, HasAcknowledged}
-use Rattle.rc_log_laws.specs.WordClaims.{sent_after}
+use Rattle.rc_step_laws.specs.WordClaims.{sent_after}
 use Rattle.rc_promises.specs.Service.{WasGranted, HasAsked, IsOfKey, Answer, HasRead}
 
 -- the master has sent something for the place

@@ -38,7 +38,7 @@ use Rattle.rc_model.specs.Nodes.{factor_of}
 use Rattle.rc_model.specs.Recovered.{Ack}
 use Rattle.rc_model.specs.Headline.{HasMade, HasAcknowledged}
 use Rattle.rc_history.specs.Apart.{Step, sent_by, TakenApart}
-use Rattle.rc_log_laws.specs.WordClaims.{sent_after}
+use Rattle.rc_step_laws.specs.WordClaims.{sent_after}
 use Rattle.rc_linear.specs.Confirmed.{HasSentFor, IsConfirmed}
 
 -- Operations

@@ -7,7 +7,7 @@ use Rattle.rc_model.specs.Model.{Event, Message, replay}
 use Rattle.rc_model.specs.World.{NodeName, same_node}
 use Rattle.rc_lives.proofs.Since.{brought-last}
 use Rattle.rc_history.specs.Apart.{Step, events_by, sent_by, TakenApart}
-use Rattle.rc_log_laws.specs.WordClaims.{sent_after}
+use Rattle.rc_step_laws.specs.WordClaims.{sent_after}
 use Rattle.rc_lives.specs.Lives.{new_life}
 use Rattle.rc_lives.specs.Processes.{Deed, Processes, safe_at}
 use Rattle.rc_lives.proofs.Own.{IsLived, lived-first, lived-last}

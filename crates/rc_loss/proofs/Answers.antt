@@ -14,10 +14,10 @@ use Rattle.rc_model.proofs.Members.{In-right, In-filter}
 use Rattle.rc_step_laws.specs.All.{IsCopy, IsOf, IsAnswer}
 use Rattle.rc_step_laws.proofs.Attempting.{numbered-same}
 use Rattle.rc_step_laws.proofs.ReplicaLists.{replica_of-row}
-use Rattle.rc_log_laws.specs.WordClaims.{sent_after, log_of}
-use Rattle.rc_log_laws.specs.LogClaims.{held_after}
-use Rattle.rc_log_laws.proofs.Picked.{IsAnswered, held_rows-in}
-use Rattle.rc_log_laws.proofs.Replays.{GoodWorld, good-world}
+use Rattle.rc_step_laws.specs.WordClaims.{sent_after, log_of}
+use Rattle.rc_step_laws.specs.LogClaims.{held_after}
+use Rattle.rc_step_laws.proofs.Picked.{IsAnswered, held_rows-in}
+use Rattle.rc_step_laws.proofs.Replays.{GoodWorld, good-world}
 use Rattle.rc_loss.specs.Loss.{WasAnswered, AreAnswers}
 
 -- a row is a copy, at some server

@@ -14,8 +14,8 @@ use Rattle.rc_model.proofs.Tables.{put_id-same}
 use Rattle.rc_model.proofs.Tests.{true_false}
 use Rattle.rc_step_laws.specs.All.{IsOf, IsAnswer, AttemptLater, held_at}
 use Rattle.rc_step_laws.proofs.Attempting.{numbered-same}
-use Rattle.rc_log_laws.proofs.Replays.{GoodWorld, GoodStep, led-step, good-world}
-use Rattle.rc_log_laws.proofs.Staying.{StaysFenced, stays-step}
+use Rattle.rc_step_laws.proofs.Replays.{GoodWorld, GoodStep, led-step, good-world}
+use Rattle.rc_step_laws.proofs.Staying.{StaysFenced, stays-step}
 use Rattle.rc_loss.proofs.Hosts.{IsSaid, said-stands}
 
 -- A backup answers a Gather, and nothing else

@@ -18,9 +18,9 @@ use Rattle.rc_model.proofs.Members.{In-left, In-right, In-append}
 use Rattle.rc_model.proofs.Tests.{true_false, either}
 use Rattle.rc_step_laws.specs.All.{IsOf, IsNumbered}
 use Rattle.rc_step_laws.proofs.Attempting.{numbered-at}
-use Rattle.rc_log_laws.specs.LogClaims.{held_after}
-use Rattle.rc_log_laws.specs.WordClaims.{sent_after}
-use Rattle.rc_log_laws.proofs.Replays.{good-world}
+use Rattle.rc_step_laws.specs.LogClaims.{held_after}
+use Rattle.rc_step_laws.specs.WordClaims.{sent_after}
+use Rattle.rc_step_laws.proofs.Replays.{good-world}
 use Rattle.rc_loss.specs.Loss.{WasReady, AllHaveAnswered, AreAnswers, HasRow, IsGone}
 use Rattle.rc_loss.specs.LossClaims.{IsPlanned, IsNobodyReady, RefusedDecidesMeanLoss, DecidesPlanOrLoss}
 use Rattle.rc_loss.proofs.Answers.{IsMissing}

@@ -16,8 +16,8 @@ use Rattle.rc_model.proofs.Tests.{true_false}
 use Rattle.rc_step_laws.specs.All.{IsAnswer, IsOf, IsPlan}
 use Rattle.rc_step_laws.proofs.Attempting.{numbered-same}
 use Rattle.rc_step_laws.proofs.ReplicaLists.{replica_of-row}
-use Rattle.rc_log_laws.proofs.Picked.{IsPicked, IsTaken, picked-is}
-use Rattle.rc_log_laws.proofs.Replays.{GoodWorld, good-world}
+use Rattle.rc_step_laws.proofs.Picked.{IsPicked, IsTaken, picked-is}
+use Rattle.rc_step_laws.proofs.Replays.{GoodWorld, good-world}
 use Rattle.rc_loss.proofs.Asked.{answers-are-now}
 use Rattle.rc_loss.specs.FetchClaims.{IsPlannedRow, HasItsData, FetchesAreAnswered}
 

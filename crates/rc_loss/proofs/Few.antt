@@ -7,9 +7,9 @@ use Rattle.rc_model.specs.Model.{ServerId, Setup, Event, Member, ids_of, factor_
 use Rattle.rc_model.proofs.Tests.{true_false, either}
 use Rattle.rc_step_laws.specs.All.{Begins, NotOnHostOf, OnDifferentHosts}
 use Rattle.rc_step_laws.proofs.Copies.{split}
-use Rattle.rc_log_laws.specs.WordClaims.{log_of}
-use Rattle.rc_log_laws.proofs.Replays.{good-world}
-use Rattle.rc_log_laws.proofs.Since.{since-more}
+use Rattle.rc_step_laws.specs.WordClaims.{log_of}
+use Rattle.rc_step_laws.proofs.Replays.{good-world}
+use Rattle.rc_step_laws.proofs.Since.{since-more}
 use Rattle.rc_loss.specs.Loss.{WasDropped, IsGone, config_after}
 use Rattle.rc_loss.specs.LossClaims.{FewDropsAreNoLoss, FewMissingAreNoLoss}
 use Rattle.rc_loss.proofs.Worlds.{loss-facts}

@@ -19,7 +19,7 @@ use Rattle.rc_model.proofs.LogSteps.{obeys-leads}
 use Rattle.rc_model.proofs.Members.{In-left, In-right, filter-In, map-In}
 use Rattle.rc_model.proofs.Tests.{true_false}
 use Rattle.rc_model.proofs.Walk.{Joined, Listed, kept-obeys}
-use Rattle.rc_log_laws.proofs.Replays.{GoodWorld, good-world}
+use Rattle.rc_step_laws.proofs.Replays.{GoodWorld, good-world}
 use Rattle.rc_owner_laws.specs.Parts.{part_view, IsPart, WasPlanned, GoodParts}
 use Rattle.rc_owner_laws.specs.Recoveries.{IsPlanned, PlannedPartsCanBeGranted}
 use Rattle.rc_owner_laws.specs.TermClaims.{Issue, issue_of, WasIssued}

@@ -16,11 +16,11 @@ use Rattle.rc_model.proofs.Tests.{true_false, either}
 use Rattle.rc_model.proofs.Tables.{put-same, put-other}
 use Rattle.rc_model.proofs.Ids.{server-same}
 use Rattle.rc_step_laws.specs.All.{body_said, held_at, StillStands, MasterMoved, BackupMoved}
-use Rattle.rc_log_laws.proofs.NodeWalk.{walked-host}
+use Rattle.rc_step_laws.proofs.NodeWalk.{walked-host}
 use Rattle.rc_step_laws.proofs.Backups.{moved-backup}
 use Rattle.rc_step_laws.proofs.Copies.{In-either, split}
-use Rattle.rc_log_laws.proofs.Replays.{GoodWorld, IsGiven, job_of-given}
-use Rattle.rc_log_laws.proofs.EachMaster.{coordinator-from}
+use Rattle.rc_step_laws.proofs.Replays.{GoodWorld, IsGiven, job_of-given}
+use Rattle.rc_step_laws.proofs.EachMaster.{coordinator-from}
 
 -- A start
 

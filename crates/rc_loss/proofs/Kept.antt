@@ -13,7 +13,7 @@ use Rattle.rc_model.proofs.Storing.{closes-whole}
 use Rattle.rc_step_laws.specs.All.{Ascending}
 use Rattle.rc_step_laws.proofs.Copies.{More}
 use Rattle.rc_step_laws.proofs.ReplicaLists.{replica_of-put, replica_of-other, replica_of-filter}
-use Rattle.rc_log_laws.specs.FreedClaims.{HasFreed}
+use Rattle.rc_step_laws.specs.FreedClaims.{HasFreed}
 use Rattle.rc_loss.proofs.Placings.{HasClosed}
 
 pub record GoodKept (sent : List Message) (m : ServerId) (held : Held) : Type 0 where

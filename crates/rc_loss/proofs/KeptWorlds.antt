@@ -10,7 +10,7 @@ use Rattle.rc_model.specs.Nodes.{Tick, Start}
 use Rattle.rc_model.proofs.Tests.{either}
 use Rattle.rc_model.proofs.Tables.{put_each}
 use Rattle.rc_step_laws.specs.All.{Ascending}
-use Rattle.rc_log_laws.proofs.Replays.{GoodWorld, IsGiven, job_of-given, led-step}
+use Rattle.rc_step_laws.proofs.Replays.{GoodWorld, IsGiven, job_of-given, led-step}
 use Rattle.rc_loss.proofs.Kept.{AllKept, kept-more, kept-backup, kept-restarted}
 
 module _ (sent : List Message) (host : HostNode) (up : (m : ServerId) → Ascending (host.backup.held m).replicas)

@@ -3,7 +3,7 @@ use Rattle.std.proofs.Common.{◌≡◌, ◌⊎◌, List, [], ◌∷◌, ◌++�
 use Rattle.std.proofs.lemmas.List.{append-nil, append_assoc}
 use Rattle.rc_model.specs.Model.{ServerId, Pair, Setup, Event, Message, Commit, to_coordinator, World, opening, step, replay, In}
 use Rattle.rc_model.proofs.Replays.{replay_from-push}
-use Rattle.rc_log_laws.proofs.Replays.{led-step, good-world}
+use Rattle.rc_step_laws.proofs.Replays.{led-step, good-world}
 use Rattle.rc_write_laws.proofs.Leasts.{Asked, asked-event}
 
 -- the pair of each master

@@ -5,7 +5,7 @@ use Rattle.rc_model.specs.Model.{ServerId, Addr, Server, Message, Body, Stored, 
 use Rattle.rc_model.specs.Model.{then_does, ticks, master_takes_first, deposed_takes, master_takes, master_ticks, In}
 use Rattle.rc_model.proofs.Tests.{true_false, either}
 use Rattle.rc_model.proofs.Walk.{kept-takes_first, kept-ticks_first, kept-goes_on, kept-deposed}
-use Rattle.rc_log_laws.proofs.EachMaster.{IsLed, is_others}
+use Rattle.rc_step_laws.proofs.EachMaster.{IsLed, is_others}
 use Rattle.rc_loss.proofs.Placings.{Placings, PlacedNow, HasClosed, Claims, placings-wider, placings-heard, placings-say}
 use Rattle.rc_loss.proofs.Steps as first
 use Rattle.rc_loss.proofs.Follows as follow

@@ -17,14 +17,14 @@ use Rattle.rc_model.proofs.Tests.{true_false}
 use Rattle.rc_step_laws.specs.All.{Begins, HasToldClosed, held_at, StillStands, IsCopy, IsDigest}
 use Rattle.rc_step_laws.proofs.Copies.{More, split}
 use Rattle.rc_step_laws.proofs.Tests.{all-each}
-use Rattle.rc_log_laws.specs.WordClaims.{sent_after, log_of}
-use Rattle.rc_log_laws.specs.LogClaims.{held_after}
-use Rattle.rc_log_laws.specs.Freed.{IsLeftOut}
-use Rattle.rc_log_laws.specs.FreedClaims.{HasFreed}
-use Rattle.rc_log_laws.proofs.FreeWorlds.{freed-is-left-out}
-use Rattle.rc_log_laws.proofs.Replays.{good-world}
-use Rattle.rc_log_laws.proofs.Since.{since-more}
-use Rattle.rc_log_laws.proofs.Covers.{head-not-below}
+use Rattle.rc_step_laws.specs.WordClaims.{sent_after, log_of}
+use Rattle.rc_step_laws.specs.LogClaims.{held_after}
+use Rattle.rc_step_laws.specs.Freed.{IsLeftOut}
+use Rattle.rc_step_laws.specs.FreedClaims.{HasFreed}
+use Rattle.rc_step_laws.proofs.FreeWorlds.{freed-is-left-out}
+use Rattle.rc_step_laws.proofs.Replays.{good-world}
+use Rattle.rc_step_laws.proofs.Since.{since-more}
+use Rattle.rc_step_laws.proofs.Covers.{head-not-below}
 use Rattle.rc_write_laws.proofs.Quiet.{All-In}
 use Rattle.rc_write_laws.proofs.Leasts.{least-pairs-are-in-order}
 use Rattle.rc_loss.specs.Loss.{WasPlaced, HasStored, WasDropped, IsGone, AreAnswers, HasRow, WasReady, config_after}

@@ -10,7 +10,7 @@ use Rattle.rc_model.specs.Model.{new_segment, under_new_epoch, Log, with_segment
 use Rattle.rc_model.specs.Model.{refills, loses, stored, commit_noted, In}
 use Rattle.rc_model.proofs.Tests.{either}
 use Rattle.rc_model.proofs.Tables.{put_each}
-use Rattle.rc_log_laws.proofs.MasterWorlds.{put-cases}
+use Rattle.rc_step_laws.proofs.MasterWorlds.{put-cases}
 use Rattle.rc_loss.proofs.Placings.{IsNext, Some_placed, HasClosed, AllKnown, GoodPlacing, Placings, PlacedNow, good-later, placings-moved}
 use Rattle.rc_loss.proofs.Placings.{placings-put, good-config, good-alike}
 use Rattle.rc_loss.proofs.Members.{many-replaced, known-anew, known-chosen, known-lost, known-replaced, known-told}

@@ -12,9 +12,9 @@ use Rattle.rc_model.specs.Nodes.{Start}
 use Rattle.rc_model.proofs.Replays.{replay_from-push}
 use Rattle.rc_model.proofs.Tests.{true_false, either}
 use Rattle.rc_step_laws.specs.All.{HasToldClosed, IsPlace, IsPlacedAt, IsStored, OnDifferentHosts, LogLater, MasterMoved}
-use Rattle.rc_log_laws.proofs.NodeWalk.{walked-host}
+use Rattle.rc_step_laws.proofs.NodeWalk.{walked-host}
 use Rattle.rc_step_laws.proofs.Copies.{More, In-either, split}
-use Rattle.rc_log_laws.proofs.Replays.{GoodWorld, GoodStep, IsGiven, is-good, job_of-given, put_id-found, led-step, good-world}
+use Rattle.rc_step_laws.proofs.Replays.{GoodWorld, GoodStep, IsGiven, is-good, job_of-given, put_id-found, led-step, good-world}
 use Rattle.rc_loss.proofs.Placings.{WasShut}
 use Rattle.rc_loss.proofs.Worlds.{LossFacts, loss-facts}
 

@@ -12,10 +12,10 @@ use Rattle.rc_model.proofs.Storing.{stay-found}
 use Rattle.rc_step_laws.specs.All.{Begins, IsOpened, held_at, StillStands, HeldLater}
 use Rattle.rc_step_laws.proofs.Copies.{split}
 use Rattle.rc_step_laws.proofs.Lists.{begins-trans}
-use Rattle.rc_log_laws.specs.WordClaims.{log_of}
-use Rattle.rc_log_laws.specs.FreedClaims.{HasFreed}
-use Rattle.rc_log_laws.proofs.Replays.{GoodStep, led-step, good-world}
-use Rattle.rc_log_laws.proofs.EachMaster.{led-by}
+use Rattle.rc_step_laws.specs.WordClaims.{log_of}
+use Rattle.rc_step_laws.specs.FreedClaims.{HasFreed}
+use Rattle.rc_step_laws.proofs.Replays.{GoodStep, led-step, good-world}
+use Rattle.rc_step_laws.proofs.EachMaster.{led-by}
 use Rattle.rc_loss.specs.Loss.{WasPlaced, HasStored, WasDropped, config_after}
 use Rattle.rc_loss.proofs.Placings.{Placings, PlacedNow, HasClosed, placings-wider}
 use Rattle.rc_loss.proofs.Kept.{closed-more, freed-more}

@@ -15,7 +15,7 @@ use Rattle.rc_model.specs.Backup.{replica_of, is_in_part}
 use Rattle.rc_model.specs.Nodes.{HostNode, Deliver, host_step, is_running_at}
 use Rattle.rc_model.specs.World.{replay}
 use Rattle.rc_model.specs.Headline.{In}
-use Rattle.rc_log_laws.specs.WordClaims.{sent_after}
+use Rattle.rc_step_laws.specs.WordClaims.{sent_after}
 
 -- a plan for the master was sent in this attempt, and has the row
 pub record IsPlannedRow (sent : List Message) (number : ℕ) (m : ServerId) (row : PlanRow) : Type 0 where

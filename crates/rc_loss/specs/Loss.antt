@@ -20,8 +20,8 @@ use Rattle.rc_model.specs.Nodes.{server_of}
 use Rattle.rc_model.specs.World.{replay, is_possible}
 use Rattle.rc_model.specs.Headline.{In}
 use Rattle.rc_step_laws.specs.Words.{Begins, IsOf}
-use Rattle.rc_log_laws.specs.WordClaims.{sent_after, log_of}
-use Rattle.rc_log_laws.specs.LogClaims.{held_after}
+use Rattle.rc_step_laws.specs.WordClaims.{sent_after, log_of}
+use Rattle.rc_step_laws.specs.LogClaims.{held_after}
 
 -- the members of a master's segment after these events, by the master's view
 abbrev pub config_after : Setup → List Event → ServerId → ℕ → Config

@@ -15,7 +15,7 @@ use Rattle.rc_model.specs.Deciding.{decides, decides_on, decision_of, ready_ids}
 use Rattle.rc_model.specs.Nodes.{factor_of}
 use Rattle.rc_model.specs.World.{replay}
 use Rattle.rc_model.specs.Headline.{In}
-use Rattle.rc_log_laws.specs.WordClaims.{sent_after}
+use Rattle.rc_step_laws.specs.WordClaims.{sent_after}
 use Rattle.rc_loss.specs.Loss.{WasDropped, IsGone, AreAnswers, HasRow, WasReady, AllHaveAnswered}
 
 -- the log of the master can't be chosen from these answers

@@ -2,7 +2,7 @@
 //! answered (`fetching`), and a part whose entries are durable is granted (`granting`). Nothing here runs: the
 //! functions have empty bodies, or call others that have, and their contracts are theorems on the definitions.
 //!
-//! It stands on `rc_log_laws` and `rc_write_laws`.
+//! It stands on `rc_step_laws` and `rc_write_laws`.
 #![tactic(auto)]
 
 pub mod fetching;

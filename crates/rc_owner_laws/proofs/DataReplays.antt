@@ -11,8 +11,8 @@ use Rattle.rc_model.specs.Coordinator.{Coordinator}
 use Rattle.rc_model.specs.Nodes.{Ask}
 use Rattle.rc_step_laws.specs.Moves.{MasterMoved, CoordinatorMoved, body_said, coordinator_body_said}
 use Rattle.rc_model.proofs.Sending.{each-one}
-use Rattle.rc_log_laws.proofs.NodeWalk.{walked-host}
-use Rattle.rc_log_laws.proofs.Replays.{GoodWorld, GoodStep, IsGiven, job_of-given, coordinator-moved, led-step, good-step, good-opening}
+use Rattle.rc_step_laws.proofs.NodeWalk.{walked-host}
+use Rattle.rc_step_laws.proofs.Replays.{GoodWorld, GoodStep, IsGiven, job_of-given, coordinator-moved, led-step, good-step, good-opening}
 use Rattle.rc_owner_laws.specs.Data.{data_fine, DataAreCuts}
 use Rattle.rc_owner_laws.proofs.DataCuts.{data-later, IsNoData, no-data-fine, backup-fine}
 use Rattle.rc_model.proofs.Replays.{possible-job}

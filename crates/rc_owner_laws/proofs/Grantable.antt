@@ -15,8 +15,8 @@ use Rattle.rc_model.specs.Nodes.{Ask}
 use Rattle.rc_step_laws.specs.All.{IsNumbered}
 use Rattle.rc_step_laws.proofs.Attempting.{numbered-at}
 use Rattle.rc_model.proofs.Sending.{each-one}
-use Rattle.rc_log_laws.proofs.NodeWalk.{said-host}
-use Rattle.rc_log_laws.proofs.Replays.{GoodWorld, IsGiven as IsGivenWork, job_of-given, good-step, good-opening, good-world}
+use Rattle.rc_step_laws.proofs.NodeWalk.{said-host}
+use Rattle.rc_step_laws.proofs.Replays.{GoodWorld, IsGiven as IsGivenWork, job_of-given, good-step, good-opening, good-world}
 use Rattle.rc_owner_laws.specs.Grants.{IsGiven, IsPlanOf}
 use Rattle.rc_owner_laws.specs.Waiting.{IsTablet, GoodTablets, lacks_tablet, NoneLacksTablet}
 use Rattle.rc_owner_laws.specs.Recoveries.{IsPlanned, IsOwned, IsAnsweredByOwn, PlannedPartsAreTablets}

@@ -10,8 +10,8 @@ use Rattle.rc_types.specs.declared.messages.Body.TheVariants as body
 use Rattle.rc_model.specs.Coordinator.{Coordinator}
 use Rattle.rc_model.specs.Nodes.{Ask}
 use Rattle.rc_step_laws.specs.Moves.{CoordinatorLater, body_said, backup_body_said}
-use Rattle.rc_log_laws.proofs.Replays.{GoodWorld, IsGiven, job_of-given, coordinator-moved, good-step, good-opening}
-use Rattle.rc_log_laws.proofs.NodeWalk.{said-host}
+use Rattle.rc_step_laws.proofs.Replays.{GoodWorld, IsGiven, job_of-given, coordinator-moved, good-step, good-opening}
+use Rattle.rc_step_laws.proofs.NodeWalk.{said-host}
 use Rattle.rc_model.proofs.Sending.{each-one}
 use Rattle.rc_owner_laws.specs.Grants.{own_said, GoodGrants, GrantsKept}
 use Rattle.rc_owner_laws.proofs.Decided.{OwnSaid, OwnSays}

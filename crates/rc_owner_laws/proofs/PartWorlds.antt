@@ -8,8 +8,8 @@ use Rattle.rc_types.specs.declared.messages.Body.TheVariants as body
 use Rattle.rc_model.proofs.Members.{In-append}
 use Rattle.rc_step_laws.specs.Facts.{GoodMaster}
 use Rattle.rc_step_laws.proofs.Rolling.{writing-is}
-use Rattle.rc_log_laws.proofs.Replays.{GoodWorld, good-world}
-use Rattle.rc_log_laws.proofs.Since.{replay_from-append}
+use Rattle.rc_step_laws.proofs.Replays.{GoodWorld, good-world}
+use Rattle.rc_step_laws.proofs.Since.{replay_from-append}
 use Rattle.rc_owner_laws.specs.Grants.{IsOwn, IsPlanOf}
 use Rattle.rc_owner_laws.proofs.OwnerReplays.{OfWorld, grants-world}
 use Rattle.rc_owner_laws.specs.Terms.{IsGivenBy, GoodTerms}
@@ -20,7 +20,7 @@ use Rattle.rc_owner_laws.proofs.PartSteps.{takes-keep-parts, ticks-keep-parts, n
 use Rattle.rc_owner_laws.specs.Worlds.{PartsHold}
 use Rattle.rc_model.proofs.Tests.{true_false}
 use Rattle.rc_step_laws.proofs.LogMoves.{more-left}
-use Rattle.rc_log_laws.proofs.EachMaster.{is_others, IsLed, led-by}
+use Rattle.rc_step_laws.proofs.EachMaster.{is_others, IsLed, led-by}
 
 -- all of the world's parts
 abbrev pub PartsOf : World → Type 0

@@ -12,8 +12,8 @@ use Rattle.rc_types.specs.declared.messages.Body.TheVariants as body
 use Rattle.rc_model.specs.Coordinator.{Coordinator}
 use Rattle.rc_model.proofs.Members.{In-append, In-get, In-left, In-map, map-In, In-filter, filter-In}
 use Rattle.rc_step_laws.specs.All.{Begins, log_in, IsSafe, IsWriteOk, body_fine}
-use Rattle.rc_log_laws.proofs.Clauses.{accepted-is, acknowledged-is}
-use Rattle.rc_log_laws.proofs.Covers.{IsCovered, PlanIs, covered}
+use Rattle.rc_step_laws.proofs.Clauses.{accepted-is, acknowledged-is}
+use Rattle.rc_step_laws.proofs.Covers.{IsCovered, PlanIs, covered}
 use Rattle.rc_owner_laws.specs.Grants.{IsOwn, own_said}
 use Rattle.rc_owner_laws.specs.Terms.{IsGrantedTo, IsGivenBy}
 use Rattle.rc_owner_laws.specs.Parts.{part_view, logged, under, AllCame, RangeWasGranted, IsClients}

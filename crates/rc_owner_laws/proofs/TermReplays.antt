@@ -3,7 +3,7 @@ use Rattle.std.proofs.Common.{arith}
 use Rattle.std.proofs.Common.{◌≡◌, List, [], ◌∷◌, ◌++◌, Option, Some, None, refl, sym, subst}
 use Rattle.rc_model.specs.Model.{Setup, Event, NodeWork, outside_sends, host_step, World, opening, NodeName, TheOutside}
 use Rattle.rc_model.specs.Model.{TheCoordinator, TheHost, Job, job_of, node_done, job_done, step, replay_from, replay}
-use Rattle.rc_log_laws.proofs.Replays.{GoodWorld, IsGiven, job_of-given, taken-at, good-world}
+use Rattle.rc_step_laws.proofs.Replays.{GoodWorld, IsGiven, job_of-given, taken-at, good-world}
 use Rattle.rc_owner_laws.proofs.OwnerReplays.{OfWorld, grants-world, later-coordinator}
 use Rattle.rc_owner_laws.specs.Terms.{GoodTerms}
 use Rattle.rc_owner_laws.proofs.Keeping.{terms-more}

@@ -10,7 +10,7 @@ use Rattle.rc_model.specs.Coordinator.{Coordinator}
 use Rattle.rc_model.proofs.Said.{HasMade-from, HasMade-in}
 use Rattle.rc_step_laws.specs.All.{Begins, log_in, Good}
 use Rattle.rc_step_laws.proofs.Attempting.{numbered-same}
-use Rattle.rc_log_laws.proofs.Clauses.{made-is, accepted-is, held-made}
+use Rattle.rc_step_laws.proofs.Clauses.{made-is, accepted-is, held-made}
 use Rattle.rc_owner_laws.specs.Terms.{IsGivenBy}
 use Rattle.rc_owner_laws.specs.Data.{IsCut, data_fine, data_between}
 use Rattle.rc_owner_laws.specs.Parts.{part_view, logged, under, AllCame, WasPlanned}

@@ -4,10 +4,10 @@ use Rattle.rc_model.specs.Model.{Setup, Event, Entry, World, replay}
 use Rattle.rc_model.proofs.Headlines.{breach_is_headline}
 use Rattle.rc_step_laws.specs.All.{log_in, IsSafe}
 use Rattle.rc_step_laws.proofs.Lists.{get-below}
-use Rattle.rc_log_laws.proofs.Replays.{good-world, nothing-is-missing, nothing-is-invented}
-use Rattle.rc_log_laws.proofs.Since.{since-take}
-use Rattle.rc_log_laws.proofs.SafePlaces.{stored-is-safe}
-use Rattle.rc_log_laws.proofs.KeptWorlds.{safe-is-held}
+use Rattle.rc_step_laws.proofs.Replays.{good-world, nothing-is-missing, nothing-is-invented}
+use Rattle.rc_step_laws.proofs.Since.{since-take}
+use Rattle.rc_step_laws.proofs.SafePlaces.{stored-is-safe}
+use Rattle.rc_step_laws.proofs.KeptWorlds.{safe-is-held}
 use Rattle.rc_owner_laws.proofs.OwnerReplays.{OfWorld, grants-world}
 use Rattle.rc_owner_laws.proofs.TermReplays.{terms-world}
 use Rattle.rc_owner_laws.proofs.DataReplays.{data-world}

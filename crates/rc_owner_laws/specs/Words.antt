@@ -16,7 +16,7 @@ use Rattle.rc_model.specs.Master.{Master}
 use Rattle.rc_model.specs.Headline.{In, WasAccepted}
 use Rattle.rc_step_laws.specs.Words.{Begins, log_in}
 use Rattle.rc_step_laws.specs.Facts.{IsSafe}
-use Rattle.rc_log_laws.specs.WordClaims.{IsRecorded}
+use Rattle.rc_step_laws.specs.WordClaims.{IsRecorded}
 use Rattle.rc_owner_laws.specs.Parts.{under}
 
 -- the place is among those that the master counts as durable

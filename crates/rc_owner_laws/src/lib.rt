@@ -5,7 +5,7 @@
 //! together (`facts`). Nothing here runs: the functions have empty bodies, and their contracts are theorems on the
 //! definitions.
 //!
-//! It stands on `rc_step_laws`, `rc_log_laws`, and what `rc_model` proves of the choice of the log.
+//! It stands on `rc_step_laws`, `rc_step_laws`, and what `rc_model` proves of the choice of the log.
 #![tactic(auto)]
 
 pub mod data;

@@ -13,9 +13,9 @@ use Rattle.rc_model.specs.Coordinator.{Coordinator}
 use Rattle.rc_model.specs.Nodes.{Ask}
 use Rattle.rc_model.proofs.Members.{In-right, In-append}
 use Rattle.rc_step_laws.specs.Moves.{MasterMoved, body_said, BackupMoved, backup_body_said, CoordinatorMoved, coordinator_body_said}
-use Rattle.rc_log_laws.proofs.NodeWalk.{walked-host}
-use Rattle.rc_log_laws.proofs.Replays.{GoodWorld, IsGiven, job_of-given, coordinator-moved, good-world}
-use Rattle.rc_log_laws.proofs.Since.{replay_from-append}
+use Rattle.rc_step_laws.proofs.NodeWalk.{walked-host}
+use Rattle.rc_step_laws.proofs.Replays.{GoodWorld, IsGiven, job_of-given, coordinator-moved, good-world}
+use Rattle.rc_step_laws.proofs.Since.{replay_from-append}
 use Rattle.rc_promises.proofs.Hushed.{is_read_ok, Hushed, Hush, hush-then, hush-takes_first, hush-deposed, hush-goes, hush-master_ticks}
 use Rattle.rc_model.proofs.Tests.{true_false, either}
 use Rattle.rc_model.proofs.Ids.{server-same}

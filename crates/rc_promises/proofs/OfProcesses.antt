@@ -12,7 +12,7 @@ use Rattle.rc_model.proofs.Headlines.{breach_is_headline}
 use Rattle.rc_model.proofs.Members.{In-left}
 use Rattle.rc_history.specs.Apart.{Step, sent_by, TakenApart, events_by}
 use Rattle.rc_history.proofs.Apart.{apart-history}
-use Rattle.rc_log_laws.proofs.KeptWorlds.{nothing-is-dropped}
+use Rattle.rc_step_laws.proofs.KeptWorlds.{nothing-is-dropped}
 use Rattle.rc_model.specs.Headline.{NothingIsDropped}
 use Rattle.rc_owner_laws.proofs.VersionReplays.{there-is-no-breach}
 use Rattle.rc_lives.specs.Processes.{Processes, deed_of, new_processes, after_all}

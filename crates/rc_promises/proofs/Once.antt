@@ -6,8 +6,8 @@ use Rattle.rc_model.specs.Model.{ServerId, Server, Entry, Grant, Message, Ack, M
 use Rattle.rc_model.specs.Model.{HasMade}
 use Rattle.rc_model.specs.Coordinator.{Coordinator}
 use Rattle.rc_step_laws.specs.All.{log_in, IsWriteOk}
-use Rattle.rc_log_laws.proofs.Clauses.{made-is}
-use Rattle.rc_log_laws.proofs.Replays.{good-world}
+use Rattle.rc_step_laws.proofs.Clauses.{made-is}
+use Rattle.rc_step_laws.proofs.Replays.{good-world}
 use Rattle.rc_write_laws.specs.AckClaims.{IsAsked}
 use Rattle.rc_write_laws.proofs.Asking.{acknowledged-was-asked}
 use Rattle.rc_owner_laws.specs.Worlds.{AllHold}

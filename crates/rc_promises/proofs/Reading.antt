@@ -9,13 +9,13 @@ use Rattle.rc_model.specs.Model.{Found, read_of, in_range, term_of, under_term, 
 use Rattle.rc_model.specs.Model.{replay, master_of, In, HasMade, HasAcknowledged, WasAccepted, IsHeld}
 use Rattle.rc_model.proofs.Members.{In-left, In-get, place_of, filter-In}
 use Rattle.rc_step_laws.specs.All.{Begins, log_in, IsSafe, IsWriteOk}
-use Rattle.rc_step_laws.proofs.Logs.{get-log}
+use Rattle.rc_step_laws.proofs.LogViews.{get-log}
 use Rattle.rc_step_laws.proofs.Places.{IsOf, places_to-are, place-logged}
 use Rattle.rc_step_laws.proofs.Tests.{In-take, get-map}
-use Rattle.rc_log_laws.proofs.Clauses.{made-is}
-use Rattle.rc_log_laws.proofs.Replays.{good-world}
-use Rattle.rc_log_laws.proofs.Growing.{recovered-is-made}
-use Rattle.rc_log_laws.proofs.Since.{Since, since-more}
+use Rattle.rc_step_laws.proofs.Clauses.{made-is}
+use Rattle.rc_step_laws.proofs.Replays.{good-world}
+use Rattle.rc_step_laws.proofs.Growing.{recovered-is-made}
+use Rattle.rc_step_laws.proofs.Since.{Since, since-more}
 use Rattle.rc_owner_laws.proofs.OwnersOrdered.{one-chain}
 use Rattle.rc_owner_laws.specs.Terms.{IsGivenBy}
 use Rattle.rc_owner_laws.specs.Parts.{logged, under}

@@ -6,7 +6,7 @@ use Rattle.rc_model.proofs.Tests.{true_false}
 use Rattle.rc_worked.specs.Sentences.{Run, Sentence, OneVersionOneWrite, WritesInTime, ReadsSeeWrites, unless, broken}
 use Rattle.rc_worked.specs.Sentences.{early_world, whole_world, keeps_versions, keeps_time, keeps_reads}
 use Rattle.rc_worked.proofs.Scenarios.{scenarios-are-replays, runs-grow, runs-append}
-use Rattle.rc_log_laws.specs.WordClaims.{sent_after}
+use Rattle.rc_step_laws.specs.WordClaims.{sent_after}
 use Rattle.rc_promises.specs.Service.{OneVersionIsOneWrite, WritesFollowTime, ReadsSeeAcknowledgedWrites}
 use Rattle.rc_promises.specs.Runs.{BrokenVersionsRefute, BrokenTimeRefutes, BrokenReadsRefute, NoRunBreaksOne}
 use Rattle.rc_promises.proofs.Tested.{versions-kept, time-kept, reads-kept}

@@ -6,7 +6,7 @@ use Rattle.rc_types.specs.declared.events.Setup.{Setup}
 use Rattle.rc_model.specs.Model.{Entry, HasAcknowledged}
 use Rattle.rc_history.specs.Apart.{Step, events_by, sent_by, TakenApart}
 use Rattle.rc_history.proofs.Apart.{apart-history}
-use Rattle.rc_log_laws.specs.WordClaims.{sent_after}
+use Rattle.rc_step_laws.specs.WordClaims.{sent_after}
 use Rattle.rc_promises.specs.Service.{HasAsked, IsWritten, IsOneWrite}
 use Rattle.rc_promises.specs.ServiceApart.{OneWriteApart, WrittenApart, TimeApart, ReadsApart}
 use Rattle.rc_promises.proofs.Once.{one-version-is-one-write, acknowledged-is-written}

@@ -14,7 +14,7 @@ use Rattle.rc_model.proofs.Tests.{true_false}
 use Rattle.rc_worked.specs.Sentences.{acks_by, acks_of, is_of_key, asked_by, asked, is_to, was_granted, has_value, is_same_write}
 use Rattle.rc_worked.specs.Sentences.{is_one_write, keeps_versions, is_in_time, is_after, keeps_time, is_no_more, sees_earlier}
 use Rattle.rc_worked.specs.Sentences.{sees_own, sees_by_then, sees_value, sees_under, sees_all, keeps_reads_from, keeps_reads}
-use Rattle.rc_log_laws.specs.WordClaims.{sent_after}
+use Rattle.rc_step_laws.specs.WordClaims.{sent_after}
 use Rattle.rc_promises.specs.Service.{WasGranted, HasAsked, IsOfKey, IsWritten, IsOneWrite, Answer, HasRead, MissesOnlyLater}
 use Rattle.rc_model.proofs.Ids.{same_id-true, same_id-refl}
 use Rattle.rc_model.proofs.Headlines.{same_value-refl}

@@ -5,13 +5,13 @@ use Rattle.rc_model.specs.Model.{previous, onward, IsEarlier, from_coordinator, 
 use Rattle.rc_model.specs.Model.{HasAcknowledged, WasAccepted}
 use Rattle.rc_model.proofs.Members.{In-left, In-get, place_of}
 use Rattle.rc_step_laws.specs.All.{Begins, log_in, IsWriteOk}
-use Rattle.rc_step_laws.proofs.Logs.{get-log}
+use Rattle.rc_step_laws.proofs.LogViews.{get-log}
 use Rattle.rc_step_laws.proofs.Places.{IsOf, places_to-are, place-logged, places-later}
-use Rattle.rc_log_laws.proofs.Clauses.{made-is, accepted-is}
-use Rattle.rc_log_laws.proofs.Covers.{IsCovered, covered}
-use Rattle.rc_log_laws.proofs.Replays.{good-world}
-use Rattle.rc_log_laws.proofs.Growing.{recovered-is-made}
-use Rattle.rc_log_laws.proofs.Since.{Since, since-more}
+use Rattle.rc_step_laws.proofs.Clauses.{made-is, accepted-is}
+use Rattle.rc_step_laws.proofs.Covers.{IsCovered, covered}
+use Rattle.rc_step_laws.proofs.Replays.{good-world}
+use Rattle.rc_step_laws.proofs.Growing.{recovered-is-made}
+use Rattle.rc_step_laws.proofs.Since.{Since, since-more}
 use Rattle.rc_owner_laws.specs.Grants.{IsOwn}
 use Rattle.rc_owner_laws.proofs.OwnersOrdered.{one-chain, earlier-less}
 use Rattle.rc_owner_laws.specs.Terms.{IsGrantedTo, IsGivenBy}
@@ -244,7 +244,7 @@ module _ (setup : Setup) (events more : List Event) where
 
         there : IsCovered x (new.masters x).log gone.plan.rows later.seg later.offset w.entry
         there = covered new.sent new.masters new.hosts new.coordinator all_new.good x gone.plan.rows
-            (subst (λ (k : ServerId). Rattle.rc_log_laws.proofs.Covers.PlanIs new.sent new.masters new.coordinator k gone.plan.rows) of_x
+            (subst (λ (k : ServerId). Rattle.rc_step_laws.proofs.Covers.PlanIs new.sent new.masters new.coordinator k gone.plan.rows) of_x
             (accepted-is {sent = new.sent} {masters = new.masters} {hosts = new.hosts} {c = new.coordinator}
             all_new.good {plan = gone.plan} accepted))
             later.seg later.offset w.entry w.safe w.holds

@@ -15,7 +15,7 @@ use Rattle.rc_model.specs.Recovered.{Ack}
 use Rattle.rc_model.specs.Owners.{Granted, IsGranted, covers, IsEarlier}
 use Rattle.rc_model.specs.Durable.{IsDurable}
 use Rattle.rc_model.specs.Headline.{In, HasAcknowledged, HasMade}
-use Rattle.rc_log_laws.specs.WordClaims.{sent_after}
+use Rattle.rc_step_laws.specs.WordClaims.{sent_after}
 
 -- the point was granted to the master under the term
 pub record WasGranted (sent : List Message) (m : ServerId) (term table key : ℕ) : Type 0 where

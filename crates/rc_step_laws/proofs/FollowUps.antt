@@ -15,7 +15,7 @@ use Rattle.rc_model.specs.Model.{In}
 use Rattle.rc_model.proofs.Members.{In-append, In-map, In-filter}
 use Rattle.rc_step_laws.specs.All.{log_in, IsOpened, HasToldClosed, IsSafe, LogLater, OwnFine, MasterSays}
 use Rattle.rc_step_laws.proofs.Lists.{begins-refl, get-drop, get-take}
-use Rattle.rc_step_laws.proofs.Logs.{Grown, safe-grown, told_closed-more}
+use Rattle.rc_step_laws.proofs.LogViews.{Grown, safe-grown, told_closed-more}
 use Rattle.rc_step_laws.proofs.Tests.{all-each, find-one}
 use Rattle.rc_step_laws.proofs.LogMoves.{GoodSegment, GoodLog, LogMoved, more-left, segment-more, moved-log, log_moved-then}
 use Rattle.rc_step_laws.proofs.Places.{numbers-In, places_to-are, place-logged, durable-within}

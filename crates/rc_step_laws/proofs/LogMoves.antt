@@ -10,8 +10,8 @@ use Rattle.rc_model.proofs.Members.{In-left, In-append}
 use Rattle.rc_step_laws.specs.All.{log_in, IsOpened, HasTold, HasToldClosed, IsMember, IsCommitted, OnDifferentHosts, IsSafe, IsDigest}
 use Rattle.rc_step_laws.specs.All.{IsPlace, LogLater, IsNewPlace, OwnFine, MasterSays, body_said}
 use Rattle.rc_step_laws.proofs.Copies.{More, In-either}
-use Rattle.rc_step_laws.proofs.Logs.{Grown, member-more, told-more, told_closed-more, committed-more, length-log, log_later-trans}
-use Rattle.rc_step_laws.proofs.Logs.{safe-grown, digest-grown, place-grown, append-grown, close-grown, write_ok-grown, own_fine-grown}
+use Rattle.rc_step_laws.proofs.LogViews.{Grown, member-more, told-more, told_closed-more, committed-more, length-log, log_later-trans}
+use Rattle.rc_step_laws.proofs.LogViews.{safe-grown, digest-grown, place-grown, append-grown, close-grown, write_ok-grown, own_fine-grown}
 
 -- What holds of a log
 

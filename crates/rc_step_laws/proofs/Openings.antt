@@ -6,7 +6,7 @@ use Rattle.rc_model.specs.Model.{Log, opens_head, to_ids, ids_of, places_head, I
 use Rattle.rc_model.proofs.Members.{In-right, In-map, map-In}
 use Rattle.rc_step_laws.specs.All.{log_in, IsMember, OnDifferentHosts, IsDead, IsDigest, LogLater, OwnFine, MasterSays}
 use Rattle.rc_step_laws.proofs.Lists.{begins-refl}
-use Rattle.rc_step_laws.proofs.Logs.{dead-grown, member-more, told-more, told_closed-more, committed-more}
+use Rattle.rc_step_laws.proofs.LogViews.{dead-grown, member-more, told-more, told_closed-more, committed-more}
 use Rattle.rc_step_laws.proofs.LogMoves.{GoodLog, GoodSegment, LogMoved, IsFresh, more-left, new_places, moved-log}
 use Rattle.rc_step_laws.proofs.Segments.{SegmentLater, log-later, later-refl, counted-still, within-still}
 use Rattle.rc_step_laws.proofs.Views.{place-to_ids}

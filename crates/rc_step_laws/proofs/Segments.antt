@@ -8,7 +8,7 @@ use Rattle.rc_step_laws.specs.All.{LogLater, OwnFine, MasterSays}
 use Rattle.rc_step_laws.proofs.Lists.{begins-refl, begins-length}
 use Rattle.rc_step_laws.proofs.Tests.{get-begins_back}
 use Rattle.rc_step_laws.proofs.Copies.{More}
-use Rattle.rc_step_laws.proofs.Logs.{member-more, told-more, told_closed-more, committed-more}
+use Rattle.rc_step_laws.proofs.LogViews.{member-more, told-more, told_closed-more, committed-more}
 use Rattle.rc_step_laws.proofs.LogMoves.{GoodSegment, GoodLog, LogMoved, IsFresh, more-left, segment-more, moved-log}
 use Rattle.rc_step_laws.proofs.Places.{places-later}
 use Rattle.rc_model.proofs.Tests.{true_false}

@@ -4,7 +4,7 @@ use Rattle.rc_types.specs.declared.ids.Addr.TheVariants.{Coordinator}
 use Rattle.rc_model.specs.Model.{ServerId, Addr, Server, Entry, Message, Body, Place, between, up_rows, Log, Master, to_ids, then_does, In}
 use Rattle.rc_model.proofs.Members.{In-map}
 use Rattle.rc_step_laws.specs.All.{IsMember, OnDifferentHosts, OwnFine, MasterSays, body_said}
-use Rattle.rc_step_laws.proofs.Logs.{log_later-refl}
+use Rattle.rc_step_laws.proofs.LogViews.{log_later-refl}
 use Rattle.rc_model.proofs.Walk.{Joined}
 use Rattle.rc_step_laws.proofs.LogMoves.{GoodLog, LogMoved, more-left, segment-more, moved-log, log_moved-then}
 

@@ -7,3 +7,13 @@ pub mod BackupClaims
 pub mod CoordinatorClaims
 pub mod MemberClaims
 pub mod All
+pub mod SafetyClaims
+pub mod WordClaims
+pub mod LogClaims
+pub mod KeptClaims
+pub mod CommitClaims
+pub mod Freed
+pub mod FreedClaims
+pub mod SendClaims
+pub mod Numbers
+pub mod NumberClaims

@@ -10,6 +10,16 @@
 #![tactic(auto)]
 
 pub mod backup_laws;
+pub mod bounds;
+pub mod commits;
 pub mod coordinator_laws;
+pub mod durable;
+pub mod facts;
+pub mod fences;
+pub mod freed;
+pub mod kept;
+pub mod logs;
 pub mod master_laws;
 pub mod member_laws;
+pub mod safety;
+pub mod sends;

@@ -6,8 +6,8 @@ use Rattle.rc_model.specs.Nodes.{factor_of}
 use Rattle.rc_model.specs.Recovered.{Ack}
 use Rattle.rc_model.specs.Durable.{IsDurable}
 use Rattle.rc_model.specs.Headline.{HasAcknowledged}
-use Rattle.rc_log_laws.specs.WordClaims.{log_of, entry_in}
-use Rattle.rc_log_laws.proofs.Growing.{one-entry, replicas-are-beginnings, recovered-is-made}
+use Rattle.rc_step_laws.specs.WordClaims.{log_of, entry_in}
+use Rattle.rc_step_laws.proofs.Growing.{one-entry, replicas-are-beginnings, recovered-is-made}
 use Rattle.rc_owner_laws.proofs.Chained.{points-have-one-chain, terms-rise, points-are-granted-once}
 use Rattle.rc_owner_laws.proofs.VersionReplays.{data-is-the-plan-cut, grants-start-from-their-base, versions-rise-with-the-place}
 use Rattle.rc_owner_laws.proofs.VersionReplays.{no-version-is-acknowledged-twice}

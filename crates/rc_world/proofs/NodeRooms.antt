@@ -4,11 +4,11 @@ use Rattle.std.proofs.lemmas.List.Elements.{All-weaker}
 use Rattle.rc_model.specs.Model.{Entry, Setup, Server, Outside, MAX_EVENTS, entries_of, Master, HostNode, coordinator_step, host_step}
 use Rattle.rc_model.specs.Model.{master_setup}
 use Rattle.rc_model.specs.Coordinator.{Coordinator}
-use Rattle.rc_numbers.specs.Numbers.{HostWithin}
-use Rattle.rc_numbers.proofs.Entries.{body-more, none-within, one-within}
-use Rattle.rc_numbers.proofs.Coordinators.{After, within-more, coordinator-within, new-within}
-use Rattle.rc_numbers.proofs.Worlds.{HostDone, WorkWithin, host-more, host-within, new-host}
-use Rattle.rc_numbers.proofs.Rooms.{room-of, versions-of}
+use Rattle.rc_step_laws.specs.Numbers.{HostWithin}
+use Rattle.rc_step_laws.proofs.Entries.{body-more, none-within, one-within}
+use Rattle.rc_step_laws.proofs.Coordinators.{After, within-more, coordinator-within, new-within}
+use Rattle.rc_step_laws.proofs.WorldNumbers.{HostDone, WorkWithin, host-more, host-within, new-host}
+use Rattle.rc_step_laws.proofs.Rooms.{room-of, versions-of}
 use Rattle.rc_world.specs.HostView.{HostHasRoom}
 use Rattle.rc_history.specs.Nodes.{Node, TheOutside, TheCoordinator, TheHost, node_step}
 use Rattle.rc_world.specs.NodeNumbers.{GivenWithin, StepWithin, NewNodesAreWithin, StepsStayWithin, MoreWorksAllowMore, NodesHaveRoom}

@@ -2,8 +2,8 @@
 use Rattle.std.proofs.Common.{ℕ, ◌≤◌, List, length, sym, subst}
 use Rattle.rc_model.specs.Model.{MAX_EVENTS, Setup, Event, HostNode, World, TheOutside, TheCoordinator, TheHost, replay}
 use Rattle.rc_model.specs.Coordinator.{Coordinator}
-use Rattle.rc_numbers.specs.Claims.{HasRoom}
-use Rattle.rc_numbers.proofs.Rooms.{coordinator-has-room, generations-have-room, versions-have-room}
+use Rattle.rc_step_laws.specs.NumberClaims.{HasRoom}
+use Rattle.rc_step_laws.proofs.Rooms.{coordinator-has-room, generations-have-room, versions-have-room}
 use Rattle.rc_coordinator.specs.Steps.{HasNumbers}
 use Rattle.rc_world.specs.HostView.{HostHasRoom}
 use Rattle.rc_world.specs.WorldView.{IsSame, WorldHasRoom}

@@ -3,12 +3,12 @@ use Rattle.std.proofs.Common.{◌≡◌, ◌≢◌, refl, ℕ, List, Option, Non
 use Rattle.std.specs.List.{slice_get}
 use Rattle.std.specs.Prelude.{unwrap_or}
 use Rattle.rc_model.specs.Model.{Setup, Event, replay, factor_of}
-use Rattle.rc_log_laws.specs.WordClaims.{sent_after}
+use Rattle.rc_step_laws.specs.WordClaims.{sent_after}
 use Rattle.rc_promises.specs.Service.{IsWritten}
 use Rattle.rc_promises.proofs.Once.{one-version-is-one-write, acknowledged-is-written}
 use Rattle.rc_promises.proofs.Time.{writes-follow-time}
 use Rattle.rc_promises.proofs.Reading.{reads-see-acknowledged-writes}
-use Rattle.rc_numbers.proofs.Entries.{All-get}
+use Rattle.rc_step_laws.proofs.Entries.{All-get}
 use Rattle.rc_world.specs.HostView.{IsFactor, IsWithinLimits}
 use Rattle.rc_world.specs.Served.{IsServed}
 

@@ -9,8 +9,8 @@ use Rattle.rc_model.specs.Recovered.{Ack, Accepted}
 use Rattle.rc_model.specs.Owners.{Granted, IsGranted, covers, IsEarlier}
 use Rattle.rc_model.specs.Durable.{IsDurable}
 use Rattle.rc_model.specs.Headline.{HasMade, HasAcknowledged, WasAccepted, IsHeld}
-use Rattle.rc_log_laws.specs.WordClaims.{log_of, entry_in, IsRecorded}
-use Rattle.rc_log_laws.specs.LogClaims.{held_after, IsBeginning}
+use Rattle.rc_step_laws.specs.WordClaims.{log_of, entry_in, IsRecorded}
+use Rattle.rc_step_laws.specs.LogClaims.{held_after, IsBeginning}
 use Rattle.rc_owner_laws.specs.VersionClaims.{DataIsCut, GrantsStart, VersionsRiseWithThePlace, NoVersionTwice}
 use Rattle.rc_write_laws.specs.Handovers.{HasKept}
 use Rattle.rc_world.specs.Happened.{Happened, replayed, sent_in}

@@ -7,7 +7,7 @@ use Rattle.rc_types.specs.declared.limits.TheConstants.{MAX_EVENTS}
 use Rattle.rc_model.specs.Coordinator.{new_coordinator}
 use Rattle.rc_model.specs.Nodes.{new_host, master_setup}
 use Rattle.rc_model.specs.World.{NodeName, replay}
-use Rattle.rc_numbers.specs.Numbers.{CoordinatorWithin, HostWithin, MessagesWithin, body_within}
+use Rattle.rc_step_laws.specs.Numbers.{CoordinatorWithin, HostWithin, MessagesWithin, body_within}
 use Rattle.rc_history.specs.Nodes.{Node, TheOutside, TheCoordinator, TheHost, node_in, node_step}
 use Rattle.rc_world.specs.NodeView.{NodeHasRoom}
 use Rattle.rc_types.specs.declared.events.NodeWork.{NodeWork}

@@ -6,7 +6,7 @@ use Rattle.rc_types.specs.declared.events.Event.{Event}
 use Rattle.rc_types.specs.declared.messages.Message.{Message}
 use Rattle.rc_model.specs.Recovered.{Ack}
 use Rattle.rc_model.specs.Headline.{HasAcknowledged}
-use Rattle.rc_log_laws.specs.WordClaims.{sent_after}
+use Rattle.rc_step_laws.specs.WordClaims.{sent_after}
 use Rattle.rc_promises.specs.Service.{IsWritten, HasAsked, EachIsOneWrite, FollowsTime, ReadsMissOnlyLater}
 use Rattle.rc_world.specs.Happened.{Happened}
 

@@ -11,7 +11,7 @@ use Rattle.rc_step_laws.specs.Words.{log_in}
 use Rattle.rc_step_laws.proofs.Places.{IsOf, places_to-are, place-logged, places_to-same}
 use Rattle.rc_write_laws.specs.AckClaims.{is_ack_of, counted_places, WasToldToWrite, IsAsked, AcknowledgedWasAsked}
 use Rattle.rc_write_laws.proofs.Walk.{IsKept, takes-kept, tick-kept}
-use Rattle.rc_log_laws.proofs.EachMaster.{IsKeptByAll, kept-replay}
+use Rattle.rc_step_laws.proofs.EachMaster.{IsKeptByAll, kept-replay}
 use Rattle.rc_write_laws.proofs.Counting.{added, places-appended, filter-in, counted-is-acknowledged}
 use Rattle.rc_write_laws.proofs.Settling.{ok_of}
 use Rattle.rc_model.proofs.Ids.{same_id-refl}

@@ -14,7 +14,7 @@ use Rattle.rc_step_laws.proofs.Places.{durable-within, places_to-same}
 use Rattle.rc_write_laws.specs.AckClaims.{is_write_ok, is_ack_of, acks_in, counted_places, CountedIsAcknowledged}
 use Rattle.rc_write_laws.proofs.Quiet.{is_loud, AllSoft, soft-ids, QuietLog, put-beside, others-soft}
 use Rattle.rc_write_laws.proofs.Walk.{IsKept, takes-kept, tick-kept}
-use Rattle.rc_log_laws.proofs.EachMaster.{OthersSay, IsKeptByAll, kept-replay}
+use Rattle.rc_step_laws.proofs.EachMaster.{OthersSay, IsKeptByAll, kept-replay}
 use Rattle.rc_model.proofs.Tables.{put-same}
 use Rattle.rc_model.proofs.Ids.{same_id-refl}
 use Rattle.rc_model.proofs.Tests.{true_false, either}

@@ -5,11 +5,11 @@ use Rattle.std.proofs.lemmas.Bool.{and_parts, ltb-true}
 use Rattle.rc_model.specs.Model.{ServerId, Server, Entry, Setup, Event, durable_len, Log, has_segment, all_shut_to, IsDurable, factor_of}
 use Rattle.rc_model.specs.Model.{Granted, IsGranted, IsEarlier, World, replay, HasMade}
 use Rattle.rc_step_laws.specs.Words.{log_in, HasTold}
-use Rattle.rc_log_laws.proofs.Clauses.{made-is}
-use Rattle.rc_log_laws.proofs.Replays.{good-world}
-use Rattle.rc_log_laws.specs.WordClaims.{IsRecorded}
-use Rattle.rc_log_laws.proofs.Since.{Since, since-take}
-use Rattle.rc_log_laws.proofs.Stored.{stored-told}
+use Rattle.rc_step_laws.proofs.Clauses.{made-is}
+use Rattle.rc_step_laws.proofs.Replays.{good-world}
+use Rattle.rc_step_laws.specs.WordClaims.{IsRecorded}
+use Rattle.rc_step_laws.proofs.Since.{Since, since-take}
+use Rattle.rc_step_laws.proofs.Stored.{stored-told}
 use Rattle.rc_owner_laws.specs.Words.{Keeps, IsCarriedOn}
 use Rattle.rc_owner_laws.specs.VersionClaims.{Frees}
 use Rattle.rc_owner_laws.proofs.VersionReplays.{handovers-keep-acknowledged, handovers-keep-durable}

@@ -20,9 +20,9 @@ use Rattle.rc_model.proofs.Walk.{of_log-ticked, of_log-followed, kept-takes, kep
 use Rattle.rc_step_laws.specs.Words.{IsMember}
 use Rattle.rc_step_laws.specs.Facts.{IsPlace}
 use Rattle.rc_step_laws.proofs.Tests.{all-each}
-use Rattle.rc_log_laws.specs.WordClaims.{sent_after, log_of}
-use Rattle.rc_log_laws.proofs.Replays.{good-world}
-use Rattle.rc_log_laws.proofs.EachMaster.{IsKeptByAll, kept-replay}
+use Rattle.rc_step_laws.specs.WordClaims.{sent_after, log_of}
+use Rattle.rc_step_laws.proofs.Replays.{good-world}
+use Rattle.rc_step_laws.proofs.EachMaster.{IsKeptByAll, kept-replay}
 use Rattle.rc_write_laws.specs.CommitClaims.{HasToldOf}
 
 -- One segment's members: what holds of each id that has told under the epoch

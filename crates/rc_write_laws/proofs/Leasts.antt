@@ -9,8 +9,8 @@ use Rattle.rc_model.specs.Model.{node_done, job_done, step, replay_from, replay,
 use Rattle.rc_types.specs.declared.ids.Addr.TheVariants.{Coordinator as AtCoordinator}
 use Rattle.rc_model.specs.Coordinator.{Coordinator}
 use Rattle.rc_model.proofs.Replays.{replay_from-push}
-use Rattle.rc_log_laws.proofs.Replays.{GoodWorld, IsGiven, job_of-given, taken-at, led-step, good-world}
-use Rattle.rc_log_laws.proofs.LeastPairs.{WasTold, told-step}
+use Rattle.rc_step_laws.proofs.Replays.{GoodWorld, IsGiven, job_of-given, taken-at, led-step, good-world}
+use Rattle.rc_step_laws.proofs.LeastPairs.{WasTold, told-step}
 use Rattle.rc_write_laws.specs.CommitClaims.{CommitsAreInOrder, LeastPairsAreInOrder}
 use Rattle.rc_write_laws.proofs.Ordering.{commits-are-asked-in-order}
 use Rattle.rc_model.proofs.Tests.{either}

@@ -5,7 +5,7 @@ use Rattle.rc_model.specs.Model.{ServerId, Entry, Message, Setup, is_full, Maste
 use Rattle.rc_write_laws.specs.LimitClaims.{LogIsWithinLimits, LogsStayWithinLimits, SegmentsTakeWhatIsSetUp}
 use Rattle.rc_write_laws.proofs.Quiet.{limits-put}
 use Rattle.rc_write_laws.proofs.Walk.{IsKept, takes-kept, tick-kept}
-use Rattle.rc_log_laws.proofs.EachMaster.{IsKeptByAll, kept-replay}
+use Rattle.rc_step_laws.proofs.EachMaster.{IsKeptByAll, kept-replay}
 
 record Limits (old : Master) (after : Master × List Message) : Type 0 where
   size : after.0.log.size ≡ old.log.size

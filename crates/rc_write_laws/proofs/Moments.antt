@@ -11,11 +11,11 @@ use Rattle.rc_model.specs.Model.{step, replay, In}
 use Rattle.rc_model.proofs.Replays.{replay_from-push}
 use Rattle.rc_model.proofs.Walk.{OfLog, LogJoined, LogFollowed, of_log-joined, of_log-followed, kept-goes_on, same-deposed}
 use Rattle.rc_step_laws.proofs.Places.{numbers-In}
-use Rattle.rc_log_laws.proofs.Replays.{GoodWorld, good-world}
+use Rattle.rc_step_laws.proofs.Replays.{GoodWorld, good-world}
 use Rattle.rc_write_laws.specs.MomentClaims.{CountedWhenStored}
 use Rattle.rc_write_laws.proofs.Quiet.{put-beside}
 use Rattle.rc_write_laws.proofs.Walk.{IsKeptByInputs, first-kept_by, ticks-kept_by}
-use Rattle.rc_log_laws.proofs.EachMaster.{IsLed, led-by, kept-replay}
+use Rattle.rc_step_laws.proofs.EachMaster.{IsLed, led-by, kept-replay}
 use Rattle.rc_write_laws.proofs.Settling.{IsSettled, settled-kept}
 use Rattle.rc_model.proofs.Tests.{either}
 use Rattle.rc_model.proofs.Tables.{put_each}

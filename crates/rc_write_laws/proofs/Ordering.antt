@@ -12,11 +12,11 @@ use Rattle.rc_step_laws.specs.Facts.{GoodMaster}
 use Rattle.rc_write_laws.specs.CommitClaims.{CommitsAreAskedInOrder, CommitsAreOfPlaced, CommitsAreOfTheTold}
 use Rattle.rc_write_laws.proofs.Hearing.{members-have-told}
 use Rattle.rc_model.proofs.StepSends.{first-open}
-use Rattle.rc_log_laws.specs.WordClaims.{sent_after}
-use Rattle.rc_log_laws.proofs.InEvents.{commits-are-due-each}
+use Rattle.rc_step_laws.specs.WordClaims.{sent_after}
+use Rattle.rc_step_laws.proofs.InEvents.{commits-are-due-each}
 use Rattle.rc_write_laws.proofs.Quiet.{is_loud, AllSoft, soft-ids, QuietLog, All-In}
 use Rattle.rc_write_laws.proofs.Walk.{IsKept, takes-kept, tick-kept}
-use Rattle.rc_log_laws.proofs.EachMaster.{OthersSay, IsKeptByAll, kept-replay}
+use Rattle.rc_step_laws.proofs.EachMaster.{OthersSay, IsKeptByAll, kept-replay}
 use Rattle.rc_write_laws.proofs.Settling.{ok_of}
 use Rattle.rc_model.proofs.Tests.{true_false, either}
 use Rattle.rc_model.proofs.Tables.{put_each}

@@ -14,7 +14,7 @@ use Rattle.rc_write_laws.specs.LimitClaims.{LogIsWithinLimits}
 use Rattle.rc_model.proofs.Tests.{true_false, either}
 use Rattle.rc_model.proofs.Tables.{put_each}
 use Rattle.rc_model.proofs.Sending.{Each, each-all}
-use Rattle.rc_log_laws.proofs.EachMaster.{is_others}
+use Rattle.rc_step_laws.proofs.EachMaster.{is_others}
 use Rattle.rc_step_laws.proofs.Places.{places_to-same}
 
 -- Messages

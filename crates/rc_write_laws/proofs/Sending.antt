@@ -8,9 +8,9 @@ use Rattle.rc_types.specs.declared.ids.Addr.TheVariants.{Coordinator as AtCoordi
 use Rattle.rc_model.specs.Nodes.{Ask}
 use Rattle.rc_model.proofs.Members.{In-append, In-left}
 use Rattle.rc_step_laws.specs.All.{StillStands, MasterMoved, BackupMoved, stored_said}
-use Rattle.rc_log_laws.proofs.NodeWalk.{said-host}
-use Rattle.rc_log_laws.proofs.Replays.{GoodWorld, IsGiven, coordinator-moved}
-use Rattle.rc_log_laws.proofs.Replays.{job_of-given, good-step, good-opening}
+use Rattle.rc_step_laws.proofs.NodeWalk.{said-host}
+use Rattle.rc_step_laws.proofs.Replays.{GoodWorld, IsGiven, coordinator-moved}
+use Rattle.rc_step_laws.proofs.Replays.{job_of-given, good-step, good-opening}
 use Rattle.rc_model.proofs.Tests.{either}
 
 -- the master has sent an entry for the place

@@ -16,7 +16,7 @@ use Rattle.rc_step_laws.proofs.Lists.{get-left, get-within}
 use Rattle.rc_write_laws.specs.AckClaims.{is_ack_of, counted_places, StoredIsAcknowledged}
 use Rattle.rc_model.proofs.Walk.{same-deposed}
 use Rattle.rc_write_laws.proofs.Walk.{first-kept_by, ticks-kept_by}
-use Rattle.rc_log_laws.proofs.EachMaster.{IsKeptByAll, kept-replay}
+use Rattle.rc_step_laws.proofs.EachMaster.{IsKeptByAll, kept-replay}
 use Rattle.rc_write_laws.proofs.Counting.{acks-kept, acks-takes, acks-ticks, counted-is-acknowledged}
 use Rattle.rc_model.proofs.Tests.{either}
 use Rattle.rc_model.proofs.Members.{In-filter}

@@ -9,7 +9,7 @@ use Rattle.rc_model.specs.Model.{told_len, lost_if_crashed, with_lost, replaced,
 use Rattle.rc_model.specs.Model.{refills_with, refill, Segment, new_segment, with_entry, under_new_epoch, is_all_closed, Log, head_of}
 use Rattle.rc_model.specs.Model.{old_head_of, has_old_head, with_segment, has_segment, opens_head, appends, with_config, stored}
 use Rattle.rc_model.specs.Model.{commit_noted, opens_change, refills, loses, shuts, with_freed, In}
-use Rattle.rc_log_laws.proofs.MasterWorlds.{put-cases}
+use Rattle.rc_step_laws.proofs.MasterWorlds.{put-cases}
 use Rattle.rc_model.proofs.Tests.{true_false, either}
 use Rattle.rc_model.proofs.Tables.{put_each}
 

@@ -16,9 +16,9 @@ use Rattle.rc_step_laws.specs.All.{IsStored, GoodMaster, LogLater}
 use Rattle.rc_step_laws.proofs.Lists.{get-below, get-begins, get-within}
 use Rattle.rc_step_laws.proofs.Places.{IsOf, places_to-are, places-later, IsCovered, durable-covered}
 use Rattle.rc_step_laws.proofs.Tests.{all-each, In-take}
-use Rattle.rc_log_laws.proofs.Replays.{GoodWorld, led-step, good-world}
+use Rattle.rc_step_laws.proofs.Replays.{GoodWorld, led-step, good-world}
 use Rattle.rc_write_laws.specs.AckClaims.{is_write_ok, is_ack_of, counted_places}
-use Rattle.rc_log_laws.proofs.EachMaster.{IsLed, led-by}
+use Rattle.rc_step_laws.proofs.EachMaster.{IsLed, led-by}
 use Rattle.rc_write_laws.proofs.Counting.{counted-is-acknowledged}
 use Rattle.rc_write_laws.proofs.Settling.{ok_of}
 use Rattle.rc_write_laws.proofs.Asking.{oks-of}
@@ -29,7 +29,7 @@ use Rattle.rc_write_laws.proofs.DurableSteps.{TellsWhole, StepOk, step-same, tak
 use Rattle.rc_model.proofs.Ids.{same_id-refl}
 use Rattle.rc_model.proofs.Tests.{true_false}
 use Rattle.rc_model.proofs.Members.{filter-In}
-use Rattle.rc_log_laws.proofs.Stored.{all_shut-each}
+use Rattle.rc_step_laws.proofs.Stored.{all_shut-each}
 
 -- One event
 

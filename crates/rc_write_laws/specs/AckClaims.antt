@@ -18,7 +18,7 @@ use Rattle.rc_model.specs.Nodes.{factor_of}
 use Rattle.rc_model.specs.World.{replay, master_of}
 use Rattle.rc_model.specs.Durable.{is_stored_on_all}
 use Rattle.rc_model.specs.Headline.{In, HasAcknowledged, IsOfAck}
-use Rattle.rc_log_laws.specs.WordClaims.{sent_after, log_of, entry_in}
+use Rattle.rc_step_laws.specs.WordClaims.{sent_after, log_of, entry_in}
 
 abbrev pub is_write_ok : Body → Bool
 is_write_ok (WriteOk seg offset term table key version) = true

@@ -9,8 +9,8 @@ use Rattle.rc_model.specs.Messages.{between, to_coordinator, from_coordinator}
 use Rattle.rc_model.specs.World.{replay}
 use Rattle.rc_model.specs.Headline.{In}
 use Rattle.rc_model.specs.SendClaims.{IsPlacedOnAll, EarlierAreShut}
-use Rattle.rc_log_laws.specs.WordClaims.{sent_after, log_of}
-use Rattle.rc_log_laws.specs.SendClaims.{newly_sent}
+use Rattle.rc_step_laws.specs.WordClaims.{sent_after, log_of}
+use Rattle.rc_step_laws.specs.SendClaims.{newly_sent}
 use Rattle.rc_step_laws.specs.Words.{IsMember}
 
 -- a master asks for a commit of a segment only where each earlier one is shut

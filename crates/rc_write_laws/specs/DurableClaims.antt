@@ -9,7 +9,7 @@ use Rattle.rc_model.specs.Nodes.{factor_of}
 use Rattle.rc_model.specs.Recovered.{Ack}
 use Rattle.rc_model.specs.Durable.{IsDurable, is_stored_on_all}
 use Rattle.rc_model.specs.Headline.{HasAcknowledged, HasMade}
-use Rattle.rc_log_laws.specs.WordClaims.{sent_after, log_of, entry_in}
+use Rattle.rc_step_laws.specs.WordClaims.{sent_after, log_of, entry_in}
 
 -- Where a segment has replicas at all: a place that is stored on all is durable, since each place of the shut segments
 -- before it was stored on all when its segment was shut

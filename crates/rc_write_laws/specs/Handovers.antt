@@ -10,7 +10,7 @@ use Rattle.rc_model.specs.Recovered.{Ack}
 use Rattle.rc_model.specs.Owners.{Granted, IsGranted, IsEarlier}
 use Rattle.rc_model.specs.Durable.{IsDurable}
 use Rattle.rc_model.specs.Headline.{HasMade, HasAcknowledged}
-use Rattle.rc_log_laws.specs.WordClaims.{sent_after, log_of, entry_in, IsRecorded}
+use Rattle.rc_step_laws.specs.WordClaims.{sent_after, log_of, entry_in, IsRecorded}
 use Rattle.rc_owner_laws.specs.Words.{IsKeptBy}
 
 -- the owner has made, at a durable place, an entry of its own term, of the same key: with the same version and value,

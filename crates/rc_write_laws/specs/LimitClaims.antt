@@ -5,7 +5,7 @@ use Rattle.rc_types.specs.declared.events.Setup.{Setup}
 use Rattle.rc_types.specs.declared.events.Event.{Event}
 use Rattle.rc_types.specs.declared.limits.TheConstants.{LAST_SEGMENT, LAST_EPOCH}
 use Rattle.rc_model.specs.Log.{Log}
-use Rattle.rc_log_laws.specs.WordClaims.{log_of}
+use Rattle.rc_step_laws.specs.WordClaims.{log_of}
 
 -- segments and epochs are numbered within their limits, and a segment has at most as many entries as it takes
 pub record LogIsWithinLimits (log : Log) : Type 0 where

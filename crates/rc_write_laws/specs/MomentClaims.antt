@@ -6,7 +6,7 @@ use Rattle.rc_types.specs.declared.events.Event.{Event}
 use Rattle.rc_model.specs.Log.{durable_now}
 use Rattle.rc_model.specs.Nodes.{factor_of}
 use Rattle.rc_model.specs.World.{replay, master_of}
-use Rattle.rc_log_laws.specs.WordClaims.{log_of}
+use Rattle.rc_step_laws.specs.WordClaims.{log_of}
 
 -- how many places a master counts as durable
 abbrev pub count_of : Setup → List Event → ServerId → ℕ

@@ -4,7 +4,7 @@
 //! and stays with its key from owner to owner (`handovers`); a run that these words speak of (`shown`). Nothing here
 //! runs: the functions have empty bodies, and their contracts are theorems on the definitions.
 //!
-//! It stands on `rc_log_laws` and `rc_owner_laws`.
+//! It stands on `rc_step_laws` and `rc_owner_laws`.
 #![tactic(auto)]
 
 pub mod acks;

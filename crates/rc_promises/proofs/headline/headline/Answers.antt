@@ -1,4 +1,4 @@
-use Rattle.rc_log_laws.proofs.KeptWorlds.{nothing-is-dropped}
+use Rattle.rc_step_laws.proofs.KeptWorlds.{nothing-is-dropped}
 use Rattle.rc_owner_laws.proofs.VersionReplays.{there-is-no-breach}
 use Rattle.rc_promises.proofs.headline.headline.Goals as goal
 

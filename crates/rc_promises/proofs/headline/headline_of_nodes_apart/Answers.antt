@@ -3,7 +3,7 @@ use Rattle.rc_model.specs.Breach.{breach}
 use Rattle.rc_model.specs.Headline.{NothingIsDropped}
 use Rattle.rc_history.specs.Apart.{events_by}
 use Rattle.rc_history.proofs.Apart.{apart-history}
-use Rattle.rc_log_laws.proofs.KeptWorlds.{nothing-is-dropped}
+use Rattle.rc_step_laws.proofs.KeptWorlds.{nothing-is-dropped}
 use Rattle.rc_owner_laws.proofs.VersionReplays.{there-is-no-breach}
 use Rattle.rc_promises.proofs.headline.headline_of_nodes_apart.Goals as goal
 

@@ -1,6 +1,6 @@
 use Rattle.std.proofs.Common.{◌≡◌, List, None, sym, subst, ◌∙◌}
 use Rattle.rc_model.specs.Model.{Message, replay, breach, NothingIsDropped}
-use Rattle.rc_log_laws.proofs.KeptWorlds.{nothing-is-dropped}
+use Rattle.rc_step_laws.proofs.KeptWorlds.{nothing-is-dropped}
 use Rattle.rc_owner_laws.proofs.VersionReplays.{there-is-no-breach}
 use Rattle.rc_world.specs.Happened.{Happened}
 use Rattle.rc_world.specs.Served.{IsServed}

@@ -1,5 +1,0 @@
-use Rattle.rc_log_laws.proofs.Crashing.{crashed-is-never-up}
-use Rattle.rc_log_laws.proofs.commits.crashed_is_for_good.Goals as goal
-
-pub returns : goal.returns
-returns c = crashed-is-never-up

@@ -1,5 +1,0 @@
-use Rattle.rc_log_laws.proofs.LeastPairs.{least-is-the-greatest-commit}
-use Rattle.rc_log_laws.proofs.commits.the_least_pair_is_the_greatest_commit.Goals as goal
-
-pub returns : goal.returns
-returns c = least-is-the-greatest-commit

@@ -1,5 +1,0 @@
-use Rattle.rc_log_laws.proofs.Replays.{good-world}
-use Rattle.rc_log_laws.proofs.facts.facts_hold.Goals as goal
-
-pub returns : goal.returns
-returns c = good-world

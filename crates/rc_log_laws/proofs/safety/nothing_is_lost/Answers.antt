@@ -1,5 +1,0 @@
-use Rattle.rc_log_laws.proofs.Replays.{nothing-is-missing, nothing-is-invented}
-use Rattle.rc_log_laws.proofs.safety.nothing_is_lost.Goals as goal
-
-pub returns : goal.returns
-returns c = record { there = nothing-is-missing; one_entry = nothing-is-invented }

@@ -1,5 +1,0 @@
-use Rattle.rc_log_laws.proofs.InEvents.{the-fenced-are-told}
-use Rattle.rc_log_laws.proofs.sends.answers_are_of_the_fenced.Goals as goal
-
-pub returns : goal.returns
-returns c = the-fenced-are-told

@@ -1,5 +1,0 @@
-use Rattle.rc_log_laws.proofs.InEvents.{closes-are-due-each}
-use Rattle.rc_log_laws.proofs.sends.closes_are_final.Goals as goal
-
-pub returns : goal.returns
-returns c = closes-are-due-each

@@ -1,9 +1,0 @@
-pub mod Tablets
-pub mod Coordinators
-pub mod Entries
-pub mod Logs
-pub mod Masters
-pub mod Parts
-pub mod Backups
-pub mod Worlds
-pub mod Rooms

@@ -1,5 +1,0 @@
-//! How great the numbers of a world get. Nothing here runs: the functions have empty bodies, and their
-//! contracts are theorems on the definitions.
-#![tactic(auto)]
-
-pub mod bounds;
