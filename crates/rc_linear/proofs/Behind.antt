@@ -17,9 +17,9 @@ use Rattle.rc_owner_laws.specs.Worlds.{AllHold}
 use Rattle.rc_owner_laws.proofs.VersionsOrdered.{opened, logs-rise}
 use Rattle.rc_owner_laws.proofs.VersionReplays.{all-world}
 use Rattle.rc_owner_laws.proofs.Rising.{acked}
-use Rattle.rc_write_laws.proofs.Worlds.{once-durable}
-use Rattle.rc_write_laws.proofs.Worlds as worlds
-use Rattle.rc_write_laws.proofs.Handing.{durable-is-made}
+use Rattle.rc_owner_laws.proofs.WriteWorlds.{once-durable}
+use Rattle.rc_owner_laws.proofs.WriteWorlds as worlds
+use Rattle.rc_owner_laws.proofs.Handing.{durable-is-made}
 use Rattle.rc_promises.proofs.Once.{three}
 use Rattle.rc_linear.specs.Confirmed.{HasSentFor}
 

@@ -17,8 +17,8 @@ use Rattle.rc_step_laws.proofs.Replays.{good-world}
 use Rattle.rc_step_laws.proofs.Since.{Since, since-more}
 use Rattle.rc_owner_laws.proofs.VersionReplays.{all-world}
 use Rattle.rc_owner_laws.proofs.VersionsOrdered.{opened}
-use Rattle.rc_write_laws.specs.AckClaims.{WasToldToWrite}
-use Rattle.rc_write_laws.proofs.Asking.{asks-takes, asks-ticks, ClientsAsked}
+use Rattle.rc_owner_laws.specs.AckClaims.{WasToldToWrite}
+use Rattle.rc_owner_laws.proofs.Asking.{asks-takes, asks-ticks, ClientsAsked}
 use Rattle.rc_promises.proofs.Asked.{clients-asked, client-asked}
 use Rattle.rc_linear.specs.Confirmed.{HasSentFor}
 

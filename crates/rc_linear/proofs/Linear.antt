@@ -15,13 +15,13 @@ use Rattle.rc_step_laws.proofs.Tests.{In-take}
 use Rattle.rc_history.specs.Apart.{events_by}
 use Rattle.rc_owner_laws.specs.Worlds.{AllHold}
 use Rattle.rc_owner_laws.proofs.VersionReplays.{all-world}
-use Rattle.rc_write_laws.specs.AckClaims.{acks_place, is_ack_of, counted_places}
-use Rattle.rc_write_laws.proofs.Asking.{oks-of}
-use Rattle.rc_write_laws.proofs.Counting.{filter-in, counted-is-acknowledged}
-use Rattle.rc_write_laws.proofs.Settling.{ok_of}
-use Rattle.rc_write_laws.proofs.Worlds.{counted-is-durable}
-use Rattle.rc_write_laws.proofs.Handing.{durable-is-made}
-use Rattle.rc_write_laws.proofs.Once.{acknowledged-once}
+use Rattle.rc_owner_laws.specs.AckClaims.{acks_place, is_ack_of, counted_places}
+use Rattle.rc_owner_laws.proofs.Asking.{oks-of}
+use Rattle.rc_owner_laws.proofs.Counting.{filter-in, counted-is-acknowledged}
+use Rattle.rc_owner_laws.proofs.Settling.{ok_of}
+use Rattle.rc_owner_laws.proofs.WriteWorlds.{counted-is-durable}
+use Rattle.rc_owner_laws.proofs.Handing.{durable-is-made}
+use Rattle.rc_owner_laws.proofs.Once.{acknowledged-once}
 use Rattle.rc_promises.specs.Service.{IsWritten, IsOneWrite, MissesOnlyLater}
 use Rattle.rc_promises.proofs.Asked.{versions-begin-at-one}
 use Rattle.rc_promises.proofs.Once.{three, one-version-is-one-write}

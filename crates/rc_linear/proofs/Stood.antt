@@ -9,8 +9,8 @@ use Rattle.rc_step_laws.proofs.Places.{places-later}
 use Rattle.rc_step_laws.proofs.Replays.{GoodWorld, led-step, good-world}
 use Rattle.rc_step_laws.proofs.Since.{since-more, replay_from-append}
 use Rattle.rc_owner_laws.proofs.Rising.{IsOwned, acked, owner}
-use Rattle.rc_write_laws.proofs.Moments.{Counts, counts-on}
-use Rattle.rc_write_laws.proofs.Worlds.{counted-is-durable, acknowledged-is-durable}
+use Rattle.rc_owner_laws.proofs.Moments.{Counts, counts-on}
+use Rattle.rc_owner_laws.proofs.WriteWorlds.{counted-is-durable, acknowledged-is-durable}
 use Rattle.rc_promises.proofs.Found.{IsFound, read-is}
 use Rattle.rc_promises.proofs.Once.{granted-to}
 use Rattle.rc_promises.proofs.Reading.{IsPlaced, placed, In-take_map}

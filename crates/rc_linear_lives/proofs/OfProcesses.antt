@@ -14,8 +14,8 @@ use Rattle.rc_step_laws.proofs.Lists.{get-left, get-within}
 use Rattle.rc_lives.specs.Processes.{Deed, Processes, new_processes, Happening, Takes, Leaves, MayAll, MayLeave, after_all, safe_at}
 use Rattle.rc_lives.proofs.Global.{Goes, goes-all, goes-new}
 use Rattle.rc_lives.proofs.Telling.{in-said}
-use Rattle.rc_write_laws.specs.AckClaims.{acks_place}
-use Rattle.rc_write_laws.proofs.Once.{acknowledged-once}
+use Rattle.rc_owner_laws.specs.AckClaims.{acks_place}
+use Rattle.rc_owner_laws.proofs.Once.{acknowledged-once}
 use Rattle.rc_promises.specs.Service.{IsWritten, IsOneWrite, IsOfKey, Answer, HasRead, MissesOnlyLater}
 use Rattle.rc_promises.proofs.Once.{three, one-version-is-one-write}
 use Rattle.rc_promises.proofs.Reading.{reads-see-acknowledged-writes}

@@ -12,7 +12,7 @@ use Rattle.rc_model.proofs.Sending.{Each}
 use Rattle.rc_step_laws.proofs.Lists.{get-append, get-within, get-set}
 use Rattle.rc_owner_laws.specs.Grants.{IsDecided, GoodGrants, own_said, IsGiven}
 use Rattle.rc_owner_laws.proofs.Tablets.{some-none}
-use Rattle.rc_owner_laws.proofs.Granting.{kept-good}
+use Rattle.rc_owner_laws.proofs.GrantingSteps.{kept-good}
 use Rattle.rc_model.proofs.Ids.{same_id-true}
 use Rattle.rc_model.proofs.Tests.{true_false, either}
 use Rattle.rc_model.proofs.Tables.{put_id_each}

@@ -32,7 +32,7 @@ use Rattle.rc_owner_laws.specs.Grants.{IsDecided, GoodGrants, GrantsMoved, own_s
 use Rattle.rc_owner_laws.proofs.Tablets.{some-none, owner_at-marked, apart-marked, owner_at-split, apart-split, owner_at-new}
 use Rattle.rc_owner_laws.proofs.Tablets.{owner_at-beside, owner_at-before, apart-new, assigned-beside, assigned-within, apart-assigned}
 use Rattle.rc_owner_laws.proofs.Chains.{found-at, of_owner, apart-of_owner, IsPartOf, part-of, length-gives, parts-apart, part-once}
-use Rattle.rc_owner_laws.proofs.Granting.{kept-good, IsNewGrant, granted-good}
+use Rattle.rc_owner_laws.proofs.GrantingSteps.{kept-good, IsNewGrant, granted-good}
 use Rattle.rc_owner_laws.proofs.Decided.{gives, given-more, OwnSaid, plan-said, begun-good, answered-decided, newly-decided}
 use Rattle.rc_owner_laws.proofs.Decided.{IsSenders, senders, senders-decided, senders-open}
 use Rattle.rc_model.proofs.Ids.{same_id-true}

@@ -27,7 +27,7 @@ use Rattle.rc_owner_laws.specs.Grants.{IsGiven, IsDecided, GoodGrants}
 use Rattle.rc_owner_laws.specs.Waiting.{IsTablet, GoodTablets, lacks_tablet, TabletsMoved}
 use Rattle.rc_owner_laws.proofs.Tablets.{some-none}
 use Rattle.rc_owner_laws.proofs.Chains.{of_owner, IsPartOf, part-of}
-use Rattle.rc_owner_laws.proofs.Granting.{IsNewGrant}
+use Rattle.rc_owner_laws.proofs.GrantingSteps.{IsNewGrant}
 use Rattle.rc_owner_laws.proofs.Decided.{gives, given-more, begun-decided, answered-decided, newly-decided}
 use Rattle.rc_owner_laws.proofs.OwnerSteps.{new-grant}
 use Rattle.rc_owner_laws.proofs.Decided.{IsSenders, senders, senders-decided, senders-open}

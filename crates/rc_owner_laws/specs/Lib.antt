@@ -14,3 +14,14 @@ pub mod Worlds
 pub mod Words
 pub mod VersionClaims
 pub mod Complete
+pub mod AckClaims
+pub mod CommitClaims
+pub mod LimitClaims
+pub mod MomentClaims
+pub mod ShownClaims
+pub mod DurableClaims
+pub mod DurableHandovers
+pub mod Loss
+pub mod LossClaims
+pub mod FetchClaims
+pub mod GrantClaims

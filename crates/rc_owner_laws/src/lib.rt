@@ -8,14 +8,23 @@
 //! It stands on `rc_step_laws`, `rc_step_laws`, and what `rc_model` proves of the choice of the log.
 #![tactic(auto)]
 
+pub mod acks;
+pub mod commits;
 pub mod data;
+pub mod durable;
+pub mod durable_handovers;
 pub mod facts;
+pub mod fetching;
 pub mod granted;
+pub mod granting;
 pub mod grants;
 pub mod handovers;
+pub mod limits;
+pub mod loss;
 pub mod owners;
 pub mod parts;
 pub mod recovered;
 pub mod recoveries;
+pub mod shown;
 pub mod terms;
 pub mod versions;

@@ -3,8 +3,8 @@ use Rattle.std.proofs.Common.{◌≡◌, ℕ, ◌<◌, true, List, Option, subst
 use Rattle.rc_model.specs.Model.{ServerId, Server, Outside, Entry, Setup, Event, Message, Write, LogPlace, places_of, Master}
 use Rattle.rc_model.specs.Model.{replay, Ack, In, HasAcknowledged}
 use Rattle.rc_step_laws.specs.WordClaims.{sent_after}
-use Rattle.rc_write_laws.specs.AckClaims.{WasToldToWrite}
-use Rattle.rc_write_laws.proofs.Asking.{asks-takes, asks-ticks, ClientsAsked, clients-kept}
+use Rattle.rc_owner_laws.specs.AckClaims.{WasToldToWrite}
+use Rattle.rc_owner_laws.proofs.Asking.{asks-takes, asks-ticks, ClientsAsked, clients-kept}
 use Rattle.rc_step_laws.proofs.EachMaster.{IsKeptByAll, kept-replay}
 use Rattle.rc_owner_laws.proofs.Rising.{IsAcked, acked}
 use Rattle.rc_owner_laws.proofs.VersionReplays.{all-world}

@@ -8,15 +8,15 @@ use Rattle.rc_model.specs.Coordinator.{Coordinator}
 use Rattle.rc_step_laws.specs.All.{log_in, IsWriteOk}
 use Rattle.rc_step_laws.proofs.Clauses.{made-is}
 use Rattle.rc_step_laws.proofs.Replays.{good-world}
-use Rattle.rc_write_laws.specs.AckClaims.{IsAsked}
-use Rattle.rc_write_laws.proofs.Asking.{acknowledged-was-asked}
+use Rattle.rc_owner_laws.specs.AckClaims.{IsAsked}
+use Rattle.rc_owner_laws.proofs.Asking.{acknowledged-was-asked}
 use Rattle.rc_owner_laws.specs.Worlds.{AllHold}
 use Rattle.rc_owner_laws.proofs.Rising.{granted_of, acked, IsOwned, owner}
 use Rattle.rc_owner_laws.proofs.Kept.{was-granted, no-version-twice}
 use Rattle.rc_owner_laws.proofs.VersionsOrdered.{logs-rise}
 use Rattle.rc_owner_laws.proofs.VersionReplays.{all-world}
-use Rattle.rc_write_laws.specs.Handovers.{IsHandedOn}
-use Rattle.rc_write_laws.proofs.Handing.{acknowledged-is-handed-on}
+use Rattle.rc_owner_laws.specs.DurableHandovers.{IsHandedOn}
+use Rattle.rc_owner_laws.proofs.Handing.{acknowledged-is-handed-on}
 use Rattle.rc_promises.proofs.Asked.{client-asked, versions-begin-at-one}
 use Rattle.rc_promises.specs.Service.{WasGranted, IsOfKey, OneVersionIsOneWrite, AcknowledgedIsWritten}
 use Rattle.rc_model.proofs.Tests.{true_false}

@@ -21,9 +21,9 @@ use Rattle.rc_owner_laws.specs.Terms.{IsGivenBy}
 use Rattle.rc_owner_laws.specs.Parts.{logged, under}
 use Rattle.rc_owner_laws.proofs.Appending.{OwnsPoint, owns-point}
 use Rattle.rc_owner_laws.proofs.PartLists.{under-In}
-use Rattle.rc_write_laws.specs.AckClaims.{is_ack_of, counted_places}
-use Rattle.rc_write_laws.proofs.Counting.{filter-in, counted-is-acknowledged}
-use Rattle.rc_write_laws.proofs.Settling.{ok_of}
+use Rattle.rc_owner_laws.specs.AckClaims.{is_ack_of, counted_places}
+use Rattle.rc_owner_laws.proofs.Counting.{filter-in, counted-is-acknowledged}
+use Rattle.rc_owner_laws.proofs.Settling.{ok_of}
 use Rattle.rc_owner_laws.specs.Worlds.{AllHold}
 use Rattle.rc_owner_laws.specs.Words.{IsKeptBy}
 use Rattle.rc_owner_laws.specs.VersionClaims.{MayFree}
@@ -33,14 +33,14 @@ use Rattle.rc_owner_laws.proofs.Rising.{granted_of, covers-anyhow, at-point, ter
 use Rattle.rc_owner_laws.proofs.Rising.{acked, IsOwned, owner, owned}
 use Rattle.rc_owner_laws.proofs.Kept.{was-granted}
 use Rattle.rc_owner_laws.proofs.VersionReplays.{all-world}
-use Rattle.rc_write_laws.proofs.Worlds.{counted-is-durable}
-use Rattle.rc_write_laws.proofs.Handing.{durable-is-made}
+use Rattle.rc_owner_laws.proofs.WriteWorlds.{counted-is-durable}
+use Rattle.rc_owner_laws.proofs.Handing.{durable-is-made}
 use Rattle.rc_promises.specs.Service.{IsWritten, IsOfKey, IsShown, MissesOnlyLater, ReadsSeeAcknowledgedWrites}
 use Rattle.rc_promises.proofs.Asked.{versions-begin-at-one}
 use Rattle.rc_promises.proofs.Once.{granted-to}
 use Rattle.rc_promises.proofs.Time.{still-granted}
 use Rattle.rc_promises.proofs.News.{WasRead, clients-are-heard}
-use Rattle.rc_write_laws.proofs.Asking.{oks-of}
+use Rattle.rc_owner_laws.proofs.Asking.{oks-of}
 use Rattle.rc_promises.proofs.Found.{IsFound, read-above, read-is}
 use Rattle.rc_promises.proofs.Standing.{one-a-version, goes-from, above-safe}
 use Rattle.rc_model.proofs.Ids.{same_id-refl}

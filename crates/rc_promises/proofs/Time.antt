@@ -17,7 +17,7 @@ use Rattle.rc_owner_laws.proofs.OwnersOrdered.{one-chain, earlier-less}
 use Rattle.rc_owner_laws.specs.Terms.{IsGrantedTo, IsGivenBy}
 use Rattle.rc_owner_laws.specs.Parts.{part_view, logged, IsClients}
 use Rattle.rc_owner_laws.proofs.PartLists.{logged-append}
-use Rattle.rc_write_laws.specs.AckClaims.{WasToldToWrite}
+use Rattle.rc_owner_laws.specs.AckClaims.{WasToldToWrite}
 use Rattle.rc_owner_laws.specs.Worlds.{AllHold}
 use Rattle.rc_owner_laws.specs.VersionClaims.{MayFree}
 use Rattle.rc_owner_laws.proofs.Bases.{IsTaskOf, task-of, IsStarted, started}

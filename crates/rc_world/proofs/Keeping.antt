@@ -11,8 +11,8 @@ use Rattle.rc_step_laws.proofs.Growing.{one-entry, replicas-are-beginnings, reco
 use Rattle.rc_owner_laws.proofs.Chained.{points-have-one-chain, terms-rise, points-are-granted-once}
 use Rattle.rc_owner_laws.proofs.VersionReplays.{data-is-the-plan-cut, grants-start-from-their-base, versions-rise-with-the-place}
 use Rattle.rc_owner_laws.proofs.VersionReplays.{no-version-is-acknowledged-twice}
-use Rattle.rc_write_laws.proofs.Handing.{acknowledged-is-handed-on, durable-is-handed-on}
-use Rattle.rc_write_laws.specs.Handovers as ByFactors
+use Rattle.rc_owner_laws.proofs.Handing.{acknowledged-is-handed-on, durable-is-handed-on}
+use Rattle.rc_owner_laws.specs.DurableHandovers as ByFactors
 use Rattle.rc_world.specs.HostView.{IsWithinLimits}
 use Rattle.rc_world.specs.Happened.{Happened, sent_in}
 use Rattle.rc_world.specs.Kept.{KeepsLogs, KeepsOwners, KeepsWrites, IsHandedOn, OwnersKeep}

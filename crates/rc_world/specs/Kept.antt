@@ -12,7 +12,7 @@ use Rattle.rc_model.specs.Headline.{HasMade, HasAcknowledged, WasAccepted, IsHel
 use Rattle.rc_step_laws.specs.WordClaims.{log_of, entry_in, IsRecorded}
 use Rattle.rc_step_laws.specs.LogClaims.{held_after, IsBeginning}
 use Rattle.rc_owner_laws.specs.VersionClaims.{DataIsCut, GrantsStart, VersionsRiseWithThePlace, NoVersionTwice}
-use Rattle.rc_write_laws.specs.Handovers.{HasKept}
+use Rattle.rc_owner_laws.specs.DurableHandovers.{HasKept}
 use Rattle.rc_world.specs.Happened.{Happened, replayed, sent_in}
 
 -- Logs and their copies

@@ -1,5 +1,0 @@
-use Rattle.rc_loss.proofs.Fetches.{fetches-are-answered}
-use Rattle.rc_loss.proofs.fetching.fetches_are_answered.Goals as goal
-
-pub returns : goal.returns
-returns c = fetches-are-answered

@@ -1,5 +1,0 @@
-use Rattle.rc_loss.proofs.Granted.{durable-parts-are-granted}
-use Rattle.rc_loss.proofs.granting.durable_parts_are_granted.Goals as goal
-
-pub returns : goal.returns
-returns c = durable-parts-are-granted c.a_decided_recovery_can_be_granted.ensures.granted

@@ -1,4 +1,0 @@
-pub mod Loss
-pub mod LossClaims
-pub mod FetchClaims
-pub mod GrantClaims

@@ -1,8 +1,0 @@
-use Rattle.rc_write_laws.proofs.Ordering.{commits-are-of-placed, commits-are-of-the-told}
-use Rattle.rc_write_laws.proofs.commits.commits_are_of_placed_segments.Goals as goal
-
-pub returns-clause-placed : goal.returns-clause-placed
-returns-clause-placed c = commits-are-of-placed
-
-pub returns-clause-told : goal.returns-clause-told
-returns-clause-told c = commits-are-of-the-told
