@@ -16,8 +16,8 @@ use Rattle.rc_world.specs.NodeView.{NodeData, OutsideData, CoordinatorData}
 use Rattle.rc_world.specs.NodeView.{HostNodeData, node_seen}
 use Rattle.rc_keeping.specs.Keeping.{host_next, host_given}
 use Rattle.rc_keeping.proofs.ComingBack.{saved-hosts-come-back, refusals-come-back}
-use Rattle.rc_lives.specs.Lives.{keeps, node_after, stops, SameNode}
-use Rattle.rc_lives.proofs.Cutting.{name-next}
+use Rattle.rc_history.specs.Lives.{keeps, node_after, stops, SameNode}
+use Rattle.rc_history.proofs.Cutting.{name-next}
 use Rattle.rc_codec.proofs.Lawful.{some_is}
 use Rattle.rc_keeping.specs.Saved.{Saved, HostSave, CoordinatorSave, saved_of, node_from}
 use Rattle.rc_keeping.proofs.Loaded.{loaded-is-same}

@@ -5,7 +5,7 @@ use Rattle.rc_types.specs.declared.events.NodeWork.{NodeWork}
 use Rattle.rc_model.specs.World.{NodeName}
 use Rattle.rc_history.specs.Nodes.{Node, new_node, node_can, node_step}
 use Rattle.rc_world.specs.NodeView.{NodeData, node_seen}
-use Rattle.rc_lives.specs.Lives.{keeps, node_after, stops, SameNode}
+use Rattle.rc_history.specs.Lives.{keeps, node_after, stops, SameNode}
 use Rattle.rc_keeping.specs.Saved.{Saved, saved_of, node_from}
 
 -- all of them are kept, and were possible

@@ -5,3 +5,9 @@ pub mod Longer
 pub mod Apart
 pub mod Own
 pub mod Remade
+pub mod OwnLife
+pub mod Cutting
+pub mod Remaking
+pub mod Global
+pub mod Telling
+pub mod Since

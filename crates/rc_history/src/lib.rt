@@ -12,3 +12,4 @@
 #![tactic(auto)]
 
 pub mod laws;
+pub mod lives;

@@ -15,13 +15,13 @@ use Rattle.rc_model.proofs.Members.{In-left, In-right, In-append, In-filter, fil
 use Rattle.rc_model.proofs.Tables.{put-same, put-other, put_each}
 use Rattle.rc_history.specs.Nodes.{node_can}
 use Rattle.rc_history.specs.Nodes as node
-use Rattle.rc_lives.specs.Lives.{Life, keeps, life_next, life_after, node_after, stops, replayed, remade}
-use Rattle.rc_lives.specs.Processes.{Deed, Process, Processes, Happening, Takes, new_processes}
-use Rattle.rc_lives.specs.Processes.{MayTake, safe_at, deed_of, stop_deeds, is_left, IsBrought, MayAll}
-use Rattle.rc_lives.specs.Processes.{after, after_all}
+use Rattle.rc_history.specs.Lives.{Life, keeps, life_next, life_after, node_after, stops, replayed, remade}
+use Rattle.rc_history.specs.Processes.{Deed, Process, Processes, Happening, Takes, new_processes}
+use Rattle.rc_history.specs.Processes.{MayTake, safe_at, deed_of, stop_deeds, is_left, IsBrought, MayAll}
+use Rattle.rc_history.specs.Processes.{after, after_all}
 use Rattle.std.proofs.Common.{nat_le}
-use Rattle.rc_lives.specs.Claims.{WasDone}
-use Rattle.rc_lives.proofs.Global.{left-passes}
+use Rattle.rc_history.specs.LifeClaims.{WasDone}
+use Rattle.rc_history.proofs.Global.{left-passes}
 use Rattle.rc_leaders.specs.Store.{Store, joined, journal_in, with_record, with_piece, swapped, without_epoch}
 use Rattle.rc_leaders.specs.Leaders.{Leader, Cluster, leader_with, new_cluster, Event, Others, TakesLead, Gives, Appends, Confirms}
 use Rattle.rc_leaders.specs.Leaders.{BeginsSave, PutsPiece, Swaps, Deletes, Sends, IsOther, MayGive, MayAppend, MaySwap, MayCome}

@@ -4,10 +4,10 @@ use Rattle.rc_types.specs.declared.events.Setup.{Setup}
 use Rattle.rc_types.specs.declared.messages.Message.{Message}
 use Rattle.rc_model.specs.Headline.{HasAcknowledged, WasAccepted}
 use Rattle.rc_history.specs.Apart.{sent_by}
-use Rattle.rc_lives.specs.Processes.{Processes, Happening, new_processes, MayAll, after_all}
-use Rattle.rc_lives.specs.Claims.{HasHistory, GoesOn}
-use Rattle.rc_lives.proofs.Telling.{has-history}
-use Rattle.rc_lives.proofs.Since.{stays-left}
+use Rattle.rc_history.specs.Processes.{Processes, Happening, new_processes, MayAll, after_all}
+use Rattle.rc_history.specs.LifeClaims.{HasHistory, GoesOn}
+use Rattle.rc_history.proofs.Telling.{has-history}
+use Rattle.rc_history.proofs.Since.{stays-left}
 use Rattle.rc_promises.specs.Service.{EachIsOneWrite, EachWasSent, FollowsTime}
 use Rattle.rc_promises.specs.OfProcesses.{HadAsked, HasAnswered}
 use Rattle.rc_promises.proofs.OfProcesses.{no-breach-of-processes, nothing-is-missing-of-processes, strong-of-processes}

@@ -8,9 +8,9 @@ use Rattle.rc_model.specs.Nodes.{NodeWork}
 use Rattle.rc_model.specs.World.{NodeName, TheCoordinator, same_node}
 use Rattle.rc_model.proofs.Members.{In-left, In-right, In-append, In-filter, filter-In, In-map}
 use Rattle.rc_history.specs.Nodes.{node_can}
-use Rattle.rc_lives.specs.Lives.{Life, life_next, stops, replayed, remade}
-use Rattle.rc_lives.specs.Processes.{Deed, Process, Processes, Happening, Takes, Syncs, Leaves, Falls, with_process, May, MayTake}
-use Rattle.rc_lives.specs.Processes.{MayLeave, MayBeLeft, safe_at, deed_of, stop_deeds, is_left, IsBrought}
+use Rattle.rc_history.specs.Lives.{Life, life_next, stops, replayed, remade}
+use Rattle.rc_history.specs.Processes.{Deed, Process, Processes, Happening, Takes, Syncs, Leaves, Falls, with_process, May, MayTake}
+use Rattle.rc_history.specs.Processes.{MayLeave, MayBeLeft, safe_at, deed_of, stop_deeds, is_left, IsBrought}
 use Rattle.rc_leaders.specs.Leaders.{Cluster, IsOther, IsOfOthers, Others}
 use Rattle.rc_leaders.specs.Store.{journal_in}
 use Rattle.rc_leaders.proofs.Simulated.{Leads, Simulated, Comes, turned, behind-more, leads-more}

@@ -3,8 +3,8 @@ use Rattle.std.proofs.Common.{ℕ, List, [], ◌∷◌, ◌++◌, refl, inl, inr
 use Rattle.std.proofs.lemmas.Bool.{leb-true, ltb-true}
 use Rattle.rc_model.specs.Nodes.{NodeWork, Deliver, Start, Tick}
 use Rattle.rc_model.specs.World.{TheCoordinator, TheHost}
-use Rattle.rc_lives.specs.Lives.{new_life, remade}
-use Rattle.rc_lives.specs.Processes.{Deed, deed_of}
+use Rattle.rc_history.specs.Lives.{new_life, remade}
+use Rattle.rc_history.specs.Processes.{Deed, deed_of}
 use Rattle.rc_leaders.specs.Leaders.{Event, Cluster, new_cluster, come, MayComeAll, come_all}
 use Rattle.rc_leaders.specs.Claims.{cluster_of}
 use Rattle.rc_leaders.specs.Worked.{setup, enlist, starts, of_term_1, of_term_2, saves, of_term_3, ItMayCome}

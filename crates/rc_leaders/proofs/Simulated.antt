@@ -8,7 +8,7 @@ use Rattle.rc_types.specs.declared.events.Setup.{Setup}
 use Rattle.rc_model.specs.Headline.{In}
 use Rattle.rc_model.specs.Nodes.{NodeWork}
 use Rattle.rc_model.specs.World.{NodeName, TheOutside, TheCoordinator, TheHost, same_node}
-use Rattle.rc_lives.specs.Processes.{Deed, Process, Processes, after_all, MayAll}
+use Rattle.rc_history.specs.Processes.{Deed, Process, Processes, after_all, MayAll}
 use Rattle.rc_leaders.specs.Store.{joined, journal_in}
 use Rattle.rc_leaders.specs.Leaders.{Leader, Cluster, IsOther, Event, come}
 use Rattle.rc_leaders.specs.Claims.{in_lives}

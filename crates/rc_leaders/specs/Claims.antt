@@ -2,8 +2,8 @@
 use Rattle.std.specs.Prelude.{◌≡◌, nat_eq, if◌then◌else◌, List, [], ◌∷◌, ◌++◌, length, take}
 use Rattle.rc_types.specs.declared.events.Setup.{Setup}
 use Rattle.rc_model.specs.World.{NodeName, TheCoordinator}
-use Rattle.rc_lives.specs.Processes.{Processes, Happening, Takes, Syncs, Leaves, Falls, new_processes, MayAll}
-use Rattle.rc_lives.specs.Processes.{after_all}
+use Rattle.rc_history.specs.Processes.{Processes, Happening, Takes, Syncs, Leaves, Falls, new_processes, MayAll}
+use Rattle.rc_history.specs.Processes.{after_all}
 use Rattle.rc_leaders.specs.Store.{journal_in}
 use Rattle.rc_leaders.specs.Leaders.{Leader, Cluster, new_cluster, IsOther, MayComeAll, come, come_all, Event, Others}
 use Rattle.rc_leaders.specs.Leaders.{TakesLead, Gives, Appends, Confirms, BeginsSave, PutsPiece, Swaps, Deletes, Sends}

@@ -9,8 +9,8 @@ use Rattle.rc_model.specs.Breach.{breach}
 use Rattle.rc_model.specs.Recovered.{Ack, Accepted}
 use Rattle.rc_model.specs.Headline.{HasAcknowledged, WasAccepted, IsThere, IsThereItself}
 use Rattle.rc_history.specs.Apart.{sent_by}
-use Rattle.rc_lives.specs.Processes.{Leaves}
-use Rattle.rc_lives.specs.Claims.{HasHistory, GoesOn}
+use Rattle.rc_history.specs.Processes.{Leaves}
+use Rattle.rc_history.specs.LifeClaims.{HasHistory, GoesOn}
 use Rattle.rc_promises.specs.Service.{EachIsOneWrite, EachWasSent, FollowsTime, Answer}
 use Rattle.rc_promises.specs.OfProcesses.{HadAsked, HasAnswered, IsTrueRead}
 use Rattle.rc_linear.specs.Linearizable.{HasReplicas}

@@ -10,7 +10,7 @@ use Rattle.rc_types.specs.declared.messages.Message.{Message}
 use Rattle.rc_types.specs.declared.messages.Body.TheVariants.{Enlist, List as ServersOf}
 use Rattle.rc_model.specs.Nodes.{Deliver, Start, Tick, Ordered}
 use Rattle.rc_model.specs.World.{TheCoordinator, TheHost}
-use Rattle.rc_lives.specs.Processes.{Happening, Takes, Syncs, Leaves, Falls}
+use Rattle.rc_history.specs.Processes.{Happening, Takes, Syncs, Leaves, Falls}
 use Rattle.rc_leaders.specs.Leaders.{Event, Others, TakesLead, Gives, Appends, Confirms, BeginsSave, PutsPiece, Swaps}
 use Rattle.rc_leaders.specs.Leaders.{Deletes, Sends, Leader, Cluster, new_cluster, MayComeAll}
 use Rattle.rc_leaders.specs.Claims.{cluster_of, happenings_of}

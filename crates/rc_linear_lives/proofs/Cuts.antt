@@ -5,14 +5,14 @@ use Rattle.std.proofs.lemmas.List.Elements.{filter-append}
 use Rattle.rc_types.specs.declared.events.Setup.{Setup}
 use Rattle.rc_model.specs.Model.{Event, Message, replay}
 use Rattle.rc_model.specs.World.{NodeName, same_node}
-use Rattle.rc_lives.proofs.Since.{brought-last}
+use Rattle.rc_history.proofs.Since.{brought-last}
 use Rattle.rc_history.specs.Apart.{Step, events_by, sent_by, TakenApart}
 use Rattle.rc_step_laws.specs.WordClaims.{sent_after}
-use Rattle.rc_lives.specs.Lives.{new_life}
-use Rattle.rc_lives.specs.Processes.{Deed, Processes, safe_at}
-use Rattle.rc_lives.proofs.Own.{IsLived, lived-first, lived-last}
-use Rattle.rc_lives.proofs.Global.{own, AllBrought, Goes}
-use Rattle.rc_lives.proofs.Telling.{Further, told-none, told-from}
+use Rattle.rc_history.specs.Lives.{new_life}
+use Rattle.rc_history.specs.Processes.{Deed, Processes, safe_at}
+use Rattle.rc_history.proofs.OwnLife.{IsLived, lived-first, lived-last}
+use Rattle.rc_history.proofs.Global.{own, AllBrought, Goes}
+use Rattle.rc_history.proofs.Telling.{Further, told-none, told-from}
 use Rattle.rc_promises.proofs.ServiceApart.{sent-apart}
 use Rattle.rc_linear_lives.specs.OfProcesses.{sent_by_deeds}
 

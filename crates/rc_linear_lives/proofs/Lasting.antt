@@ -17,11 +17,11 @@ use Rattle.rc_model.proofs.Tests.{true_false}
 use Rattle.rc_step_laws.proofs.Lists.{get-append}
 use Rattle.rc_history.specs.Nodes.{Node}
 use Rattle.rc_history.specs.Nodes as node
-use Rattle.rc_lives.specs.Lives.{stops, replayed, remade, life_next}
-use Rattle.rc_lives.specs.Processes.{Deed, Process, Processes, new_processes, Happening, Takes, Syncs, Leaves, Falls, deed_of, is_left}
-use Rattle.rc_lives.specs.Processes.{stop_deeds, after, MayLeave, safe_at, MayAll, after_all}
-use Rattle.rc_lives.proofs.Global.{Goes, goes-after, goes-new, left-passes, put-safe}
-use Rattle.rc_lives.proofs.Telling.{in-said}
+use Rattle.rc_history.specs.Lives.{stops, replayed, remade, life_next}
+use Rattle.rc_history.specs.Processes.{Deed, Process, Processes, new_processes, Happening, Takes, Syncs, Leaves, Falls, deed_of, is_left}
+use Rattle.rc_history.specs.Processes.{stop_deeds, after, MayLeave, safe_at, MayAll, after_all}
+use Rattle.rc_history.proofs.Global.{Goes, goes-after, goes-new, left-passes, put-safe}
+use Rattle.rc_history.proofs.Telling.{in-said}
 use Rattle.rc_linear_lives.specs.OfProcesses.{sent_by_deeds, at_moment, IsDone}
 use Rattle.rc_linear.proofs.Standing.{take-get}
 

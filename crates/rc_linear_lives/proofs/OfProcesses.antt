@@ -11,9 +11,9 @@ use Rattle.rc_model.specs.Model.{In, HasAcknowledged}
 use Rattle.rc_model.proofs.Ids.{same_id-refl}
 use Rattle.rc_model.proofs.Members.{In-get, In-left, In-right, place_of, filter-In}
 use Rattle.rc_step_laws.proofs.Lists.{get-left, get-within}
-use Rattle.rc_lives.specs.Processes.{Deed, Processes, new_processes, Happening, Takes, Leaves, MayAll, MayLeave, after_all, safe_at}
-use Rattle.rc_lives.proofs.Global.{Goes, goes-all, goes-new}
-use Rattle.rc_lives.proofs.Telling.{in-said}
+use Rattle.rc_history.specs.Processes.{Deed, Processes, new_processes, Happening, Takes, Leaves, MayAll, MayLeave, after_all, safe_at}
+use Rattle.rc_history.proofs.Global.{Goes, goes-all, goes-new}
+use Rattle.rc_history.proofs.Telling.{in-said}
 use Rattle.rc_owner_laws.specs.AckClaims.{acks_place}
 use Rattle.rc_owner_laws.proofs.Once.{acknowledged-once}
 use Rattle.rc_promises.specs.Service.{IsWritten, IsOneWrite, IsOfKey, Answer, HasRead, MissesOnlyLater}

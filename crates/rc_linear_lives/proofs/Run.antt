@@ -15,7 +15,7 @@ use Rattle.rc_model.proofs.Members.{In-filter, filter-In, In-left, In-right}
 use Rattle.rc_model.proofs.Said.{HasMade-in, HasMade-from}
 use Rattle.rc_model.proofs.Tests.{true_false}
 use Rattle.rc_owner_laws.specs.AckClaims.{acks_place}
-use Rattle.rc_lives.specs.Processes.{Deed, Happening, Takes, deed_of, new_processes}
+use Rattle.rc_history.specs.Processes.{Deed, Happening, Takes, deed_of, new_processes}
 use Rattle.rc_linear_lives.specs.OfProcesses.{IsDone, IsUnsent, IsWrite, IsRead, asked, at_moment, in_the_end, sent_by_deeds, request_to}
 use Rattle.rc_linear_lives.specs.Script.{lines_of}
 use Rattle.rc_linear_lives.specs.Worked.{holding, held_run, held_read, answered_b, HoldingMayHappen, ItIsHeldBack}

@@ -9,7 +9,7 @@ use Rattle.rc_model.specs.World.{NodeName, node_of}
 use Rattle.rc_model.proofs.Members.{In-get}
 use Rattle.rc_model.proofs.Tests.{true_false}
 use Rattle.rc_history.specs.Nodes.{node_can}
-use Rattle.rc_lives.specs.Processes.{Deed, Processes, MayTake, May, MayAll, after}
+use Rattle.rc_history.specs.Processes.{Deed, Processes, MayTake, May, MayAll, after}
 use Rattle.rc_linear_lives.specs.Script.{Line, Gives, Brings, AllIsSafe, Lets, Ends, brings, lets_go, message_of}
 use Rattle.rc_linear_lives.specs.Script.{happening_of, happenings_of}
 

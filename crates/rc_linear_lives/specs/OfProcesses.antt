@@ -1,4 +1,4 @@
--- Linearizability of processes that end at any moment, by the rules of `rc_lives`. The words are those of rc_linear's
+-- Linearizability of processes that end at any moment, by the rules of `rc_history`. The words are those of rc_linear's
 -- `specs/Linearizable.antt`. But a moment is the number of a happening, and what clients see are messages that leave.
 --
 -- - What happened is a list of happenings. The processes of a moment are those before the happening of this number.
@@ -25,8 +25,8 @@ use Rattle.rc_model.specs.Nodes.{Deliver}
 use Rattle.rc_model.specs.World.{TheHost}
 use Rattle.rc_model.specs.Recovered.{Ack}
 use Rattle.rc_model.specs.Headline.{In, HasMade, HasAcknowledged}
-use Rattle.rc_lives.specs.Processes.{Deed, Processes, Happening, Takes, Leaves, Falls, new_processes, deed_of, MayAll}
-use Rattle.rc_lives.specs.Processes.{after_all}
+use Rattle.rc_history.specs.Processes.{Deed, Processes, Happening, Takes, Leaves, Falls, new_processes, deed_of, MayAll}
+use Rattle.rc_history.specs.Processes.{after_all}
 use Rattle.rc_linear.specs.Confirmed.{HasSentFor}
 use Rattle.rc_linear.specs.Linearizable.{Operation, AWrite, ARead, HasReplicas}
 use Rattle.rc_linear.specs.Conditional.{IsDoneBehind, TakesEffectOn}

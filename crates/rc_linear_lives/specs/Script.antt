@@ -8,7 +8,7 @@ use Rattle.rc_types.specs.declared.messages.Message.{Message}
 use Rattle.rc_model.specs.Nodes.{NodeWork, Deliver}
 use Rattle.rc_model.specs.World.{NodeName, TheOutside, node_of}
 use Rattle.rc_history.specs.Nodes.{node_step}
-use Rattle.rc_lives.specs.Processes.{Deed, Processes, Happening, Takes, Syncs, Leaves, Falls, new_processes, after}
+use Rattle.rc_history.specs.Processes.{Deed, Processes, Happening, Takes, Syncs, Leaves, Falls, new_processes, after}
 
 -- a line is one happening
 pub data Line : Type 0 where

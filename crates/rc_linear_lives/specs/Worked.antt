@@ -12,7 +12,7 @@ use Rattle.rc_model.specs.Nodes.{Deliver, Start, Ask, Ordered}
 use Rattle.rc_types.specs.declared.events.Order.TheVariants.{Create, Decide}
 use Rattle.rc_model.specs.World.{TheOutside, TheCoordinator, TheHost}
 use Rattle.rc_model.specs.Report.{message_lines}
-use Rattle.rc_lives.specs.Processes.{Deed, Happening, Takes, Leaves, new_processes, MayAll, after_all}
+use Rattle.rc_history.specs.Processes.{Deed, Happening, Takes, Leaves, new_processes, MayAll, after_all}
 use Rattle.rc_linear.specs.Linearizable.{Operation, AWrite, ARead, Precedes}
 use Rattle.rc_linear_lives.specs.OfProcesses.{IsDone, IsWrite, IsRead}
 use Rattle.rc_linear_lives.specs.Script.{Piece, Whole, Next, Settle, Taken, Late, End, run_of}

@@ -4,7 +4,7 @@ ghost use Rattle.rc_linear_lives.specs.Linearized.{SaysTheSame};
 ghost use Rattle.rc_linear_lives.specs.OfProcesses.{LinearizableOfProcesses, EachWriteOfProcesses, WhatLeavesWasDone};
 ghost use Rattle.rc_linear_lives.specs.OfProcesses.{ConditionalWritesOfProcesses};
 
-/// Processes that end at any moment are linearizable, by the rules of `rc_lives`, whatever happens to them, where each
+/// Processes that end at any moment are linearizable, by the rules of `rc_history`, whatever happens to them, where each
 /// host's segments have replicas. An operation is a write whose acknowledgement has left its process, or a confirmed
 /// read whose answer has, and a moment is that of a happening. Where an answer had left before another operation was
 /// asked for, or before its request left or was brought to its master, the two stand in that order, though processes

@@ -4,9 +4,9 @@ use Rattle.std.proofs.lemmas.List.{append-nil}
 use Rattle.rc_types.specs.declared.events.Setup.{Setup}
 use Rattle.rc_model.specs.World.{NodeName}
 use Rattle.rc_history.specs.Nodes.{new_node}
-use Rattle.rc_lives.specs.Lives.{SameNode}
-use Rattle.rc_lives.specs.Processes.{Processes, new_process, new_processes}
-use Rattle.rc_lives.proofs.Global.{name-new}
+use Rattle.rc_history.specs.Lives.{SameNode}
+use Rattle.rc_history.specs.Processes.{Processes, new_process, new_processes}
+use Rattle.rc_history.proofs.Global.{name-new}
 use Rattle.rc_keeping.specs.Saved.{save_of}
 use Rattle.rc_files.proofs.Anew.{saves-stand, same-itself}
 use Rattle.rc_process.specs.View.{ProcessView}

@@ -18,12 +18,12 @@ use Rattle.rc_model.proofs.Members.{In-left, In-right}
 use Rattle.rc_history.specs.Nodes.{Node, new_node, name_of, node_can, node_step}
 use Rattle.rc_history.specs.Nodes as node
 use Rattle.rc_world.specs.NodeView.{node_seen}
-use Rattle.rc_lives.specs.Lives.{Life, new_life, keeps, life_next, rests_on, node_after, SameNode}
-use Rattle.rc_lives.specs.Processes.{Deed, Process, Processes, Takes, Syncs, Leaves, deed_of, after, with_process, IsAddressed, IsBrought}
-use Rattle.rc_lives.specs.Processes.{MayTake, safe_at}
-use Rattle.rc_lives.proofs.Own.{works_of, life_journal}
-use Rattle.rc_lives.proofs.Global.{Goes, Well, own, name-life}
-use Rattle.rc_lives.proofs.Telling.{journals-make}
+use Rattle.rc_history.specs.Lives.{Life, new_life, keeps, life_next, rests_on, node_after, SameNode}
+use Rattle.rc_history.specs.Processes.{Deed, Process, Processes, Takes, Syncs, Leaves, deed_of, after, with_process, IsAddressed, IsBrought}
+use Rattle.rc_history.specs.Processes.{MayTake, safe_at}
+use Rattle.rc_history.proofs.OwnLife.{works_of, life_journal}
+use Rattle.rc_history.proofs.Global.{Goes, Well, own, name-life}
+use Rattle.rc_history.proofs.Telling.{journals-make}
 use Rattle.rc_model.proofs.Ids.{same_node-refl}
 use Rattle.rc_keeping.specs.Spelling.{journal_of}
 use Rattle.rc_keeping.specs.Saved.{Saved, save_of}

@@ -17,10 +17,10 @@ use Rattle.rc_history.specs.Nodes.{Node, new_node, name_of, node_can, node_step}
 use Rattle.rc_history.specs.Nodes as node
 use Rattle.rc_history.specs.Remade.{changes_backup}
 use Rattle.rc_keeping.specs.Spelling.{record_of}
-use Rattle.rc_lives.specs.Lives as lives
-use Rattle.rc_lives.specs.Lives.{Life, keeps, is_masters, life_next, node_after, SameNode}
-use Rattle.rc_lives.specs.Processes.{Deed, Process, deed_of}
-use Rattle.rc_lives.proofs.Cutting.{name-next, started-next}
+use Rattle.rc_history.specs.Lives as lives
+use Rattle.rc_history.specs.Lives.{Life, keeps, is_masters, life_next, node_after, SameNode}
+use Rattle.rc_history.specs.Processes.{Deed, Process, deed_of}
+use Rattle.rc_history.proofs.Cutting.{name-next, started-next}
 use Rattle.rc_keeping.specs.Saved.{Saved}
 use Rattle.rc_files.specs.Files.{file_of}
 use Rattle.rc_files.specs.Standing.{StandsFor}

@@ -11,7 +11,7 @@ use Rattle.rc_model.specs.World.{NodeName}
 use Rattle.rc_history.specs.Nodes.{Node, new_node, node_step}
 use Rattle.rc_keeping.specs.Spelling.{record_of, journal_of}
 use Rattle.rc_keeping.proofs.JournalLaws.{journal-push}
-use Rattle.rc_lives.specs.Lives.{node_after}
+use Rattle.rc_history.specs.Lives.{node_after}
 use Rattle.rc_keeping.specs.Saved.{Saved, save_of}
 use Rattle.rc_files.specs.Files.{file_of}
 use Rattle.rc_files.specs.Standing.{StandsFor}

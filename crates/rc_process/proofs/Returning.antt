@@ -16,9 +16,9 @@ use Rattle.rc_history.specs.Nodes.{Node, new_node, name_of}
 use Rattle.rc_history.specs.Nodes as node
 use Rattle.rc_history.specs.Remade.{SameButMaster}
 use Rattle.rc_world.specs.NodeView.{node_seen}
-use Rattle.rc_lives.specs.Lives.{Life, life_next, life_after, node_after, stops, remade, SameNode}
-use Rattle.rc_lives.specs.Processes.{Deed, deed_of, Process, Processes, Falls, MayBeLeft, after, fallen, stop_deeds, is_left}
-use Rattle.rc_lives.proofs.Global.{Goes}
+use Rattle.rc_history.specs.Lives.{Life, life_next, life_after, node_after, stops, remade, SameNode}
+use Rattle.rc_history.specs.Processes.{Deed, deed_of, Process, Processes, Falls, MayBeLeft, after, fallen, stop_deeds, is_left}
+use Rattle.rc_history.proofs.Global.{Goes}
 use Rattle.rc_keeping.specs.Saved.{Saved, node_from}
 use Rattle.rc_files.specs.Files.{file_of, IsLeft, GivesBack}
 use Rattle.rc_files.specs.Standing.{StandsFor, node_given}

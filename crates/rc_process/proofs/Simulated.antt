@@ -9,8 +9,8 @@ use Rattle.rc_model.specs.World.{NodeName, same_node}
 use Rattle.rc_model.proofs.Ids.{same_node-true}
 use Rattle.rc_history.specs.Nodes.{name_of}
 use Rattle.rc_keeping.specs.Saved.{Saved, save_of}
-use Rattle.rc_lives.specs.Processes.{Deed, Process, Processes, Happening, new_processes, with_process, after, after_all, May, MayAll}
-use Rattle.rc_lives.proofs.Global.{Goes, goes-all, goes-new}
+use Rattle.rc_history.specs.Processes.{Deed, Process, Processes, Happening, new_processes, with_process, after, after_all, May, MayAll}
+use Rattle.rc_history.proofs.Global.{Goes, goes-all, goes-new}
 use Rattle.rc_files.specs.Files.{file_of}
 use Rattle.rc_files.specs.Standing.{StandsFor}
 use Rattle.rc_process.specs.declared.saving.Saving.{Saving}

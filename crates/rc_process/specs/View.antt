@@ -14,7 +14,7 @@ use Rattle.rc_world.specs.NodeView.{NodeData, node_seen, node_runs, NodeHasRoom}
 use Rattle.rc_keeping.specs.Spelling.{record_of}
 use Rattle.rc_keeping.specs.Claims.{AreReadFrom}
 use Rattle.rc_keeping.specs.SaveClaims.{IsLoaded}
-use Rattle.rc_lives.specs.Lives.{keeps, is_masters}
+use Rattle.rc_history.specs.Lives.{keeps, is_masters}
 use Rattle.rc_files.specs.Standing.{node_given}
 use Rattle.rc_process.specs.declared.saving.Saving.{Saving}
 

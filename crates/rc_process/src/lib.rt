@@ -3,7 +3,7 @@
 //! A `Process` keeps a node, and knows how many bytes its journal has and how many of them are safe. Whoever has one
 //! has five duties: it writes what it is given at the end of the journal's file, says when that is safe, cuts the file
 //! where it says when it comes back, lets no other process at the file, and keeps elsewhere how many bytes were safe.
-//! Then whatever happens is what `rc_lives` has of lives (`laws`), and all that holds of those holds of the messages
+//! Then whatever happens is what `rc_history` has of lives (`laws`), and all that holds of those holds of the messages
 //! that have left.
 //!
 //! To be read in this order: `specs/View.antt`, a process as its contracts see it; `process`, the calls; `messages`;

@@ -6,7 +6,7 @@ ghost use Rattle.rc_types.specs.declared.faults.Fault.TheVariants.{OutOfMemory, 
 ghost use Rattle.rc_world.specs.declared.work.StepFault.TheVariants.{NoRoom, Refused};
 ghost use Rattle.rc_history.specs.Nodes.{name_of, node_can};
 ghost use Rattle.rc_world.specs.NodeView.{node_seen, NodeHasRoom};
-ghost use Rattle.rc_lives.specs.Lives.{keeps, is_masters};
+ghost use Rattle.rc_history.specs.Lives.{keeps, is_masters};
 ghost use Rattle.rc_keeping.specs.SaveClaims.{IsSaved};
 ghost use Rattle.rc_keeping.specs.Saved.{saved_of};
 ghost use Rattle.rc_keeping.specs.declared.faults.SaveFault.TheVariants.{OutOfMemory as NoMemory, Outside};

@@ -15,9 +15,9 @@ use Rattle.rc_history.proofs.Apart.{apart-history}
 use Rattle.rc_step_laws.proofs.KeptWorlds.{nothing-is-dropped}
 use Rattle.rc_model.specs.Headline.{NothingIsDropped}
 use Rattle.rc_owner_laws.proofs.VersionReplays.{there-is-no-breach}
-use Rattle.rc_lives.specs.Processes.{Processes, deed_of, new_processes, after_all}
-use Rattle.rc_lives.specs.Claims.{ComesLast}
-use Rattle.rc_lives.proofs.Telling.{steps-come-last}
+use Rattle.rc_history.specs.Processes.{Processes, deed_of, new_processes, after_all}
+use Rattle.rc_history.specs.LifeClaims.{ComesLast}
+use Rattle.rc_history.proofs.Telling.{steps-come-last}
 use Rattle.rc_promises.specs.Service.{Answer, HasRead}
 use Rattle.rc_promises.specs.OfProcesses.{NoBreachOfProcesses, NothingIsMissingOfProcesses, StrongOfProcesses, OneWriteOfProcesses}
 use Rattle.rc_promises.specs.OfProcesses.{WrittenOfProcesses, TimeOfProcesses, ReadsOfProcesses, ReadsWhenMade}

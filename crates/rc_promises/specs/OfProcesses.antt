@@ -13,8 +13,8 @@ use Rattle.rc_model.specs.Breach.{breach}
 use Rattle.rc_model.specs.Recovered.{Ack, Accepted}
 use Rattle.rc_model.specs.Headline.{In, HasAcknowledged, WasAccepted, IsThere, IsThereItself}
 use Rattle.rc_history.specs.Apart.{Step, events_by, sent_by, TakenApart}
-use Rattle.rc_lives.specs.Processes.{Processes, Happening, new_processes, MayTake, MayAll, after_all, deed_of}
-use Rattle.rc_lives.specs.Claims.{HasHistory, WasDone, GoesOn}
+use Rattle.rc_history.specs.Processes.{Processes, Happening, new_processes, MayTake, MayAll, after_all, deed_of}
+use Rattle.rc_history.specs.LifeClaims.{HasHistory, WasDone, GoesOn}
 use Rattle.rc_promises.specs.Service.{EachIsOneWrite, EachWasSent, FollowsTime, Answer, HasRead, MissesOnlyLater}
 
 -- The headline

@@ -1,6 +1,6 @@
 //! The headline.
 
-ghost use Rattle.rc_lives.specs.Claims.{LivesAreAHistory};
+ghost use Rattle.rc_history.specs.LifeClaims.{LivesAreAHistory};
 ghost use Rattle.rc_promises.specs.HeadlineClaims.{NoBreach, Strong, NoBreachApart, StrongApart};
 ghost use Rattle.rc_promises.specs.OfProcesses.{NoBreachOfProcesses, NothingIsMissingOfProcesses, StrongOfProcesses};
 
@@ -22,7 +22,7 @@ pub fn headline_of_nodes_apart()
     ensures strong { StrongApart }
 {}
 
-/// The same of processes that end at any moment, by the rules of `rc_lives`: whatever happens to them, all that has
+/// The same of processes that end at any moment, by the rules of `rc_history`: whatever happens to them, all that has
 /// ever left them was sent in a history, and in what this sent there is no breach. So each write of which an
 /// acknowledgement has left is in each recovery of its master of which a plan has left, at its place, or a greater
 /// version of its key under its term is; where masters free no segments, it is there itself.

@@ -3,7 +3,7 @@
 ghost use Rattle.rc_promises.specs.Service.{OneVersionIsOneWrite, AcknowledgedIsWritten, WritesFollowTime};
 ghost use Rattle.rc_promises.specs.Service.{ReadsSeeAcknowledgedWrites};
 ghost use Rattle.rc_promises.specs.ServiceApart.{OneWriteApart, WrittenApart, TimeApart, ReadsApart};
-ghost use Rattle.rc_lives.specs.Claims.{LivesAreAHistory, WhatHasLeftStays};
+ghost use Rattle.rc_history.specs.LifeClaims.{LivesAreAHistory, WhatHasLeftStays};
 ghost use Rattle.rc_promises.specs.OfProcesses.{OneWriteOfProcesses, WrittenOfProcesses, TimeOfProcesses};
 ghost use Rattle.rc_promises.specs.OfProcesses.{ReadsOfProcesses, ReadsWhenMade};
 
@@ -45,7 +45,7 @@ pub fn service_of_nodes_apart()
     ensures reads { ReadsApart }
 {}
 
-/// All of that of processes that end at any moment, by the rules of `rc_lives`: whatever happens to them, all that has
+/// All of that of processes that end at any moment, by the rules of `rc_history`: whatever happens to them, all that has
 /// ever left them was sent in a history, which later ones go on from, and of each such history it holds. A version of
 /// a key of which an acknowledgement has left is one write, which was sent where segments have replicas. Where an
 /// acknowledgement had left by some moment, a write of its key that was asked for only afterwards has a greater

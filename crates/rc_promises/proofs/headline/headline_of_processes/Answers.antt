@@ -1,4 +1,4 @@
-use Rattle.rc_lives.proofs.Telling.{has-history}
+use Rattle.rc_history.proofs.Telling.{has-history}
 use Rattle.rc_promises.proofs.OfProcesses.{no-breach-of-processes, nothing-is-missing-of-processes, strong-of-processes}
 use Rattle.rc_promises.proofs.headline.headline_of_processes.Goals as goal
 

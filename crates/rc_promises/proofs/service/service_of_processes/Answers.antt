@@ -1,5 +1,5 @@
-use Rattle.rc_lives.proofs.Telling.{has-history}
-use Rattle.rc_lives.proofs.Since.{stays-left}
+use Rattle.rc_history.proofs.Telling.{has-history}
+use Rattle.rc_history.proofs.Since.{stays-left}
 use Rattle.rc_promises.proofs.OfProcesses.{one-write-of-processes, written-of-processes, time-of-processes, reads-of-processes}
 use Rattle.rc_promises.proofs.OfProcesses.{reads-when-made}
 use Rattle.rc_promises.proofs.service.service_of_processes.Goals as goal

@@ -1,5 +1,5 @@
 use Rattle.std.proofs.Common.{◌≡◌, ◌+◌, ◌≤◌, ℕ, true, false, length, ap, sym, ◌∙◌, refl, subst, arith}
-use Rattle.rc_lives.specs.Lives.{is_masters}
+use Rattle.rc_history.specs.Lives.{is_masters}
 use Rattle.rc_world.specs.NodeView.{node_seen}
 use Rattle.rc_process.specs.View.{ProcessData, process_seen, written_down}
 use Rattle.rc_process.proofs.Waiting.{masters_pushed, others_pushed, masters_held, others_held, started_between, is_given}

@@ -15,15 +15,15 @@ use Rattle.rc_history.specs.Nodes.{Node, node_step, new_node, name_of, event_of}
 use Rattle.rc_history.specs.Apart.{Step, WasSent, sent_by, left_at, TakenApart}
 use Rattle.rc_history.proofs.Apart.{sent_by-push, left_at-push, taken_apart-push, taken_apart-none}
 use Rattle.rc_history.proofs.Own.{given-job, takes-own}
-use Rattle.rc_lives.specs.Lives.{SameNode, node_after, Life, new_life, life_next}
-use Rattle.rc_lives.specs.Processes.{Takes, after, deed_of, Deed, Processes, new_processes, Happening, IsAddressed, MayLeave, safe_at}
-use Rattle.rc_lives.specs.Processes.{MayAll, after_all}
-use Rattle.rc_lives.specs.Claims.{HasHistory, StepsComeLast, JournalsMakeNodes}
-use Rattle.rc_lives.proofs.Remaking.{journal-makes}
-use Rattle.rc_lives.proofs.Own.{Lives, IsLived, works_of, life_of, life_of-append}
-use Rattle.rc_lives.proofs.Global.{own, own-push, own-others, IsSupported, Brought, AllBrought, Goes, goes-all, goes-after, goes-new}
-use Rattle.rc_lives.proofs.Global.{name-life}
-use Rattle.rc_lives.proofs.Global.{name-new}
+use Rattle.rc_history.specs.Lives.{SameNode, node_after, Life, new_life, life_next}
+use Rattle.rc_history.specs.Processes.{Takes, after, deed_of, Deed, Processes, new_processes, Happening, IsAddressed, MayLeave, safe_at}
+use Rattle.rc_history.specs.Processes.{MayAll, after_all}
+use Rattle.rc_history.specs.LifeClaims.{HasHistory, StepsComeLast, JournalsMakeNodes}
+use Rattle.rc_history.proofs.Remaking.{journal-makes}
+use Rattle.rc_history.proofs.OwnLife.{Lives, IsLived, works_of, life_of, life_of-append}
+use Rattle.rc_history.proofs.Global.{own, own-push, own-others, IsSupported, Brought, AllBrought, Goes, goes-all, goes-after, goes-new}
+use Rattle.rc_history.proofs.Global.{name-life}
+use Rattle.rc_history.proofs.Global.{name-new}
 
 abbrev pub said_by : List Deed → List Message
 said_by deeds = flat_map (λ (deed : Deed). deed.sent) deeds

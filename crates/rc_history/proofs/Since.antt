@@ -10,13 +10,13 @@ use Rattle.rc_model.specs.World.{NodeName, same_node}
 use Rattle.rc_model.proofs.Members.{In-append}
 use Rattle.rc_history.specs.Nodes.{new_node}
 use Rattle.rc_history.specs.Apart.{sent_by, left_at, TakenApart}
-use Rattle.rc_lives.specs.Lives.{Life, new_life, life_next, stops, replayed, remade}
-use Rattle.rc_lives.specs.Processes.{Deed, Process, Processes, new_processes, Happening, Takes, Syncs, Leaves, Falls, deed_of, is_left}
-use Rattle.rc_lives.specs.Processes.{stop_deeds, after, MayLeave, safe_at, May, MayAll, after_all}
-use Rattle.rc_lives.specs.Claims.{GoesOn, WhatHasLeftStays}
-use Rattle.rc_lives.proofs.Own.{IsLived, life_of, lived-first, lived-last}
-use Rattle.rc_lives.proofs.Global.{own, AllBrought, Goes, goes-all, goes-new, in-filter, left-passes, put-safe}
-use Rattle.rc_lives.proofs.Telling.{Further, told-none, told-from, in-said, said_by}
+use Rattle.rc_history.specs.Lives.{Life, new_life, life_next, stops, replayed, remade}
+use Rattle.rc_history.specs.Processes.{Deed, Process, Processes, new_processes, Happening, Takes, Syncs, Leaves, Falls, deed_of, is_left}
+use Rattle.rc_history.specs.Processes.{stop_deeds, after, MayLeave, safe_at, May, MayAll, after_all}
+use Rattle.rc_history.specs.LifeClaims.{GoesOn, WhatHasLeftStays}
+use Rattle.rc_history.proofs.OwnLife.{IsLived, life_of, lived-first, lived-last}
+use Rattle.rc_history.proofs.Global.{own, AllBrought, Goes, goes-all, goes-new, in-filter, left-passes, put-safe}
+use Rattle.rc_history.proofs.Telling.{Further, told-none, told-from, in-said, said_by}
 
 record Since (early now : Processes) : Type 0 where
   kept : List Deed

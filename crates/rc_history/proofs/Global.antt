@@ -16,13 +16,13 @@ use Rattle.rc_model.proofs.Ids.{same_node-true, same_node-refl}
 use Rattle.rc_model.proofs.Members.{In-left, In-append}
 use Rattle.rc_history.specs.Nodes.{Node, node_can, node_step, new_node, name_of}
 use Rattle.rc_history.specs.Nodes as node
-use Rattle.rc_lives.specs.Lives.{Life, keeps, new_life, life_next, life_after, node_after, stops, replayed, remade}
-use Rattle.rc_lives.specs.Processes.{Deed, Process, Processes, new_processes, Happening, Takes, Syncs, Leaves, Falls}
-use Rattle.rc_lives.specs.Processes.{with_process, deed_of, is_left, stop_deeds, after, IsAddressed, IsBrought, MayTake, MayLeave}
-use Rattle.rc_lives.specs.Processes.{MayBeLeft, safe_at, May, MayAll, after_all}
-use Rattle.rc_lives.proofs.Own.{IsLived, life_of, life_of-append, lived-append, life_journal, deed_lives}
-use Rattle.rc_lives.proofs.Cutting.{are_left, first-cut, name-next}
-use Rattle.rc_lives.proofs.Remaking.{Ends, remade-ends, stop-lived, stop-works}
+use Rattle.rc_history.specs.Lives.{Life, keeps, new_life, life_next, life_after, node_after, stops, replayed, remade}
+use Rattle.rc_history.specs.Processes.{Deed, Process, Processes, new_processes, Happening, Takes, Syncs, Leaves, Falls}
+use Rattle.rc_history.specs.Processes.{with_process, deed_of, is_left, stop_deeds, after, IsAddressed, IsBrought, MayTake, MayLeave}
+use Rattle.rc_history.specs.Processes.{MayBeLeft, safe_at, May, MayAll, after_all}
+use Rattle.rc_history.proofs.OwnLife.{IsLived, life_of, life_of-append, lived-append, life_journal, deed_lives}
+use Rattle.rc_history.proofs.Cutting.{are_left, first-cut, name-next}
+use Rattle.rc_history.proofs.Remaking.{Ends, remade-ends, stop-lived, stop-works}
 
 abbrev pub own : NodeName → List Deed → List Deed
 own name deeds = filter (λ (deed : Deed). same_node deed.node name) deeds

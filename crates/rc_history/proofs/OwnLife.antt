@@ -6,8 +6,8 @@ use Rattle.std.proofs.lemmas.List.{append-nil}
 use Rattle.rc_model.specs.Nodes.{NodeWork}
 use Rattle.rc_model.specs.World.{NodeName}
 use Rattle.rc_history.specs.Nodes.{node_can, node_step}
-use Rattle.rc_lives.specs.Lives.{Life, keeps, life_next, life_after, rests_on, node_after}
-use Rattle.rc_lives.specs.Processes.{Deed, deed_of}
+use Rattle.rc_history.specs.Lives.{Life, keeps, life_next, life_after, rests_on, node_after}
+use Rattle.rc_history.specs.Processes.{Deed, deed_of}
 
 pub record Lives (name : NodeName) (life : Life) (deed : Deed) : Type 0 where
   pub can : node_can life.node deed.work ≡ true

@@ -14,10 +14,10 @@ use Rattle.rc_history.specs.Nodes.{Node, node_can, new_node}
 use Rattle.rc_history.specs.Nodes as node
 use Rattle.rc_history.specs.Remade.{stopped, SameButMaster, host_keeps, coordinator_keeps}
 use Rattle.rc_history.proofs.Remade.{hosts-remade, coordinator-remade}
-use Rattle.rc_lives.specs.Lives.{keeps, SameNode, Life, new_life, life_next, life_after, node_after, stops, replayed}
-use Rattle.rc_lives.specs.Processes.{Deed, stop_deeds}
-use Rattle.rc_lives.proofs.Own.{IsLived, works_of, life_of, life_node, life_journal}
-use Rattle.rc_lives.proofs.Cutting.{node_runs}
+use Rattle.rc_history.specs.Lives.{keeps, SameNode, Life, new_life, life_next, life_after, node_after, stops, replayed}
+use Rattle.rc_history.specs.Processes.{Deed, stop_deeds}
+use Rattle.rc_history.proofs.OwnLife.{IsLived, works_of, life_of, life_node, life_journal}
+use Rattle.rc_history.proofs.Cutting.{node_runs}
 
 node_after-outside : (works : List NodeWork) → node_after node.TheOutside works ≡ node.TheOutside
 node_after-outside [] = refl

@@ -1,6 +1,6 @@
 //! The laws of lives, as contracts of a function that does nothing.
 
-ghost use Rattle.rc_lives.specs.Claims.{LivesAreAHistory, JournalsMakeNodes, StepsComeLast, WhatHasLeftStays};
+ghost use Rattle.rc_history.specs.LifeClaims.{LivesAreAHistory, JournalsMakeNodes, StepsComeLast, WhatHasLeftStays};
 
 /// Whatever happens to processes that keep a node each: works, in any order in which each message leaves before it is
 /// brought; journals of which more becomes safe; messages that leave once all is safe on which the step rests that has

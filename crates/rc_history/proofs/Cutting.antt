@@ -17,10 +17,10 @@ use Rattle.rc_model.proofs.Tests.{either, true_false}
 use Rattle.rc_history.specs.Nodes.{Node, node_can, node_step, with_host, name_of}
 use Rattle.rc_history.specs.Nodes as node
 use Rattle.rc_history.specs.Remade.{changes_backup, host_keeps}
-use Rattle.rc_lives.specs.Lives.{Life, keeps, is_masters, life_next, rests_on, journal_next, started_next}
-use Rattle.rc_lives.specs.Processes.{Deed}
+use Rattle.rc_history.specs.Lives.{Life, keeps, is_masters, life_next, rests_on, journal_next, started_next}
+use Rattle.rc_history.specs.Processes.{Deed}
 use Rattle.rc_history.proofs.Names.{host_step-index}
-use Rattle.rc_lives.proofs.Own.{Lives, IsLived, life_of}
+use Rattle.rc_history.proofs.OwnLife.{Lives, IsLived, life_of}
 
 abbrev pub node_runs : Node → Bool
 node_runs (node.TheHost host) = runs host

@@ -7,8 +7,8 @@ use Rattle.rc_model.specs.Nodes.{NodeWork}
 use Rattle.rc_model.specs.World.{NodeName}
 use Rattle.rc_history.specs.Nodes.{new_node}
 use Rattle.rc_history.specs.Apart.{Step, sent_by, left_at, TakenApart}
-use Rattle.rc_lives.specs.Lives.{node_after, SameNode}
-use Rattle.rc_lives.specs.Processes.{Deed, Processes, Happening, new_processes, MayTake, MayAll, after_all, deed_of}
+use Rattle.rc_history.specs.Lives.{node_after, SameNode}
+use Rattle.rc_history.specs.Processes.{Deed, Processes, Happening, new_processes, MayTake, MayAll, after_all, deed_of}
 
 -- steps that nodes take apart have sent all that has ever left, and each node is where its own steps led
 pub record HasHistory (setup : Setup) (all : Processes) : Type 0 where

@@ -7,7 +7,7 @@ use Rattle.rc_model.specs.Headline.{In}
 use Rattle.rc_model.specs.Nodes.{NodeWork, Deliver}
 use Rattle.rc_model.specs.World.{NodeName, same_node, node_of}
 use Rattle.rc_history.specs.Nodes.{node_can, node_step}
-use Rattle.rc_lives.specs.Lives.{Life, new_life, life_next, rests_on, replayed, remade, stops}
+use Rattle.rc_history.specs.Lives.{Life, new_life, life_next, rests_on, replayed, remade, stops}
 
 -- what a node has done: a work, what it sends, and how many works of its journal that rests on
 pub record Deed : Type 0 where

@@ -1,6 +1,6 @@
-use Rattle.rc_lives.proofs.Telling.{has-history, steps-come-last, journals-make-nodes}
-use Rattle.rc_lives.proofs.Since.{stays-left}
-use Rattle.rc_lives.proofs.laws.lives_are_a_history.Goals as goal
+use Rattle.rc_history.proofs.Telling.{has-history, steps-come-last, journals-make-nodes}
+use Rattle.rc_history.proofs.Since.{stays-left}
+use Rattle.rc_history.proofs.lives.lives_are_a_history.Goals as goal
 
 pub returns-clause-history : goal.returns-clause-history
 returns-clause-history c = has-history
