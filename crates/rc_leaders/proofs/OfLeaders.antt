@@ -12,7 +12,7 @@ use Rattle.rc_promises.specs.Service.{EachIsOneWrite, EachWasSent, FollowsTime}
 use Rattle.rc_promises.specs.OfProcesses.{HadAsked, HasAnswered}
 use Rattle.rc_promises.proofs.OfProcesses.{no-breach-of-processes, nothing-is-missing-of-processes, strong-of-processes}
 use Rattle.rc_promises.proofs.OfProcesses.{one-write-of-processes, written-of-processes, time-of-processes, reads-of-processes}
-use Rattle.rc_linear_lives.proofs.OfProcesses.{linearizable-of-processes, each-write-of-processes, what-leaves-was-done}
+use Rattle.rc_promises.proofs.LinearProcesses.{linearizable-of-processes, each-write-of-processes, what-leaves-was-done}
 use Rattle.rc_leaders.specs.Leaders.{Event, new_cluster}
 use Rattle.rc_leaders.specs.Claims.{happenings_of, lives_of, all_in_lives, cluster_of}
 use Rattle.rc_leaders.specs.OfLeaders.{MayBe, HeadlineOfLeaders, ServedByLeaders, TimeOfLeaders, LinearizableOfLeaders}

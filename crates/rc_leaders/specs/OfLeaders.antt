@@ -13,9 +13,9 @@ use Rattle.rc_history.specs.Processes.{Leaves}
 use Rattle.rc_history.specs.LifeClaims.{HasHistory, GoesOn}
 use Rattle.rc_promises.specs.Service.{EachIsOneWrite, EachWasSent, FollowsTime, Answer}
 use Rattle.rc_promises.specs.OfProcesses.{HadAsked, HasAnswered, IsTrueRead}
-use Rattle.rc_linear.specs.Linearizable.{HasReplicas}
-use Rattle.rc_linear_lives.specs.Linearized.{AreLinearized}
-use Rattle.rc_linear_lives.specs.OfProcesses.{IsOn, WasAskedFor, IsResponseOf, IsOfStep}
+use Rattle.rc_promises.specs.Linearizable.{HasReplicas}
+use Rattle.rc_promises.specs.Linearized.{AreLinearized}
+use Rattle.rc_promises.specs.LinearProcesses.{IsOn, WasAskedFor, IsResponseOf, IsOfStep}
 use Rattle.rc_leaders.specs.Leaders.{Event, new_cluster, MayComeAll}
 use Rattle.rc_leaders.specs.Claims.{cluster_of, happenings_of, lives_of}
 

@@ -3,3 +3,11 @@ pub mod Service
 pub mod ServiceApart
 pub mod Runs
 pub mod OfProcesses
+pub mod Confirmed
+pub mod Linearizable
+pub mod Conditional
+pub mod OrderedRuns
+pub mod Linearized
+pub mod LinearProcesses
+pub mod Script
+pub mod WorkedLives

@@ -7,6 +7,12 @@
 //! `specs/OfProcesses.antt`, of processes that end at any moment.
 #![tactic(auto)]
 
+pub mod conditional;
+pub mod confirmed;
 pub mod headline;
+pub mod linear_lives;
+pub mod linearizable;
+pub mod ordered_runs;
 pub mod runs;
 pub mod service;
+pub mod worked_lives;

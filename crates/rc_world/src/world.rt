@@ -14,7 +14,7 @@ ghost use Rattle.rc_coordinator.specs.Book.{coordinator_of};
 ghost use Rattle.rc_master.specs.Data.{master_of};
 ghost use Rattle.rc_world.specs.HostView.{IsWithinLimits, backup_once_started};
 ghost use Rattle.rc_world.specs.Kept.{KeepsLogs, KeepsOwners, KeepsWrites};
-ghost use Rattle.rc_linear.specs.Linearizable.{IsLinearizable};
+ghost use Rattle.rc_promises.specs.Linearizable.{IsLinearizable};
 ghost use Rattle.rc_world.specs.Served.{IsServed};
 ghost use Rattle.rc_world.specs.Happened.{opened, replayed, with_events, sent_in, can_happen, AllHappen};
 

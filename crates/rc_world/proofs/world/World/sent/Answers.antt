@@ -4,8 +4,8 @@ use Rattle.rc_step_laws.proofs.KeptWorlds.{nothing-is-dropped}
 use Rattle.rc_owner_laws.proofs.VersionReplays.{there-is-no-breach}
 use Rattle.rc_world.specs.Happened.{Happened}
 use Rattle.rc_world.specs.Served.{IsServed}
-use Rattle.rc_linear.specs.Linearizable.{IsLinearizable}
-use Rattle.rc_linear.proofs.Linear.{linearized}
+use Rattle.rc_promises.specs.Linearizable.{IsLinearizable}
+use Rattle.rc_promises.proofs.Linear.{linearized}
 use Rattle.rc_world.proofs.Serving.{has-replicas, is-served}
 use Rattle.rc_world.proofs.world.World.sent.Goals as goal
 

@@ -1,5 +1,0 @@
-use Rattle.rc_linear.proofs.NoneLater.{confirmed-reads-miss-nothing}
-use Rattle.rc_linear.proofs.confirmed.confirmed_reads_miss_nothing.Goals as goal
-
-pub returns : goal.returns
-returns c = confirmed-reads-miss-nothing

@@ -1,5 +1,0 @@
-use Rattle.rc_linear.proofs.Ordering.{broken-order-refutes}
-use Rattle.rc_linear.proofs.runs.what_breaks_the_order_refutes.Goals as goal
-
-pub returns : goal.returns
-returns c = broken-order-refutes

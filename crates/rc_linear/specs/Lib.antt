@@ -1,4 +1,0 @@
-pub mod Confirmed
-pub mod Linearizable
-pub mod Conditional
-pub mod Runs

@@ -1,5 +1,0 @@
-use Rattle.rc_linear_lives.proofs.Run.{holding-may-happen, it-is-held-back}
-use Rattle.rc_linear_lives.proofs.worked.what_is_held_back_is_old.Goals as goal
-
-pub returns : goal.returns
-returns c = record { may = holding-may-happen; held = it-is-held-back }

@@ -1,4 +1,0 @@
-pub mod Linearized
-pub mod OfProcesses
-pub mod Script
-pub mod Worked
