@@ -12,3 +12,5 @@ pub mod SealLaws
 pub mod JournalLaws
 pub mod ComingBack
 pub mod Sum
+pub mod Back
+pub mod Anew

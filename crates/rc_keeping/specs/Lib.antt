@@ -7,3 +7,5 @@ pub mod Keeping
 pub mod Spelling
 pub mod Readers
 pub mod Claims
+pub mod Files
+pub mod Standing

@@ -25,6 +25,7 @@ mod book_putting;
 mod book_reading;
 mod building;
 mod faults;
+pub mod files;
 mod journals;
 mod keeping;
 pub mod laws;

@@ -6,7 +6,7 @@ use Rattle.std.proofs.lemmas.List.{take_more}
 use Rattle.std.proofs.Math.Seq.{take-length}
 use Rattle.rc_types.specs.declared.events.NodeWork.{NodeWork}
 use Rattle.rc_history.specs.Nodes.{Node}
-use Rattle.rc_files.specs.Standing.{node_next, node_given}
+use Rattle.rc_keeping.specs.Standing.{node_next, node_given}
 use Rattle.rc_world.specs.declared.work.StepFault.{StepFault}
 use Rattle.rc_world.specs.declared.work.StepFault.TheVariants.{NoRoom}
 use Rattle.rc_world.specs.NodeView.{node_seen, NodeHasRoom}

@@ -8,7 +8,7 @@ use Rattle.rc_history.specs.Lives.{SameNode}
 use Rattle.rc_history.specs.Processes.{Processes, new_process, new_processes}
 use Rattle.rc_history.proofs.Global.{name-new}
 use Rattle.rc_keeping.specs.Saved.{save_of}
-use Rattle.rc_files.proofs.Anew.{saves-stand, same-itself}
+use Rattle.rc_keeping.proofs.Anew.{saves-stand, same-itself}
 use Rattle.rc_process.specs.View.{ProcessView}
 use Rattle.rc_process.specs.Running.{Running, Machine, IsFirst, IsNew, Call, Asks, Gives, Syncs, Leave, BeginsSave, EndsSave}
 use Rattle.rc_process.specs.Running.{ComesBack}

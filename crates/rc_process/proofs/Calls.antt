@@ -27,9 +27,9 @@ use Rattle.rc_history.proofs.Telling.{journals-make}
 use Rattle.rc_model.proofs.Ids.{same_node-refl}
 use Rattle.rc_keeping.specs.Spelling.{journal_of}
 use Rattle.rc_keeping.specs.Saved.{Saved, save_of}
-use Rattle.rc_files.specs.Files.{file_of}
-use Rattle.rc_files.proofs.Anew.{saves-stand}
-use Rattle.rc_files.proofs.Back.{le_or_lt}
+use Rattle.rc_keeping.specs.Files.{file_of}
+use Rattle.rc_keeping.proofs.Anew.{saves-stand}
+use Rattle.rc_keeping.proofs.Back.{le_or_lt}
 use Rattle.rc_process.specs.declared.saving.Saving.{Saving}
 use Rattle.rc_process.specs.View.{Held, ProcessView, written_down, moved_place, move_mark, move_held, moved_by, LARGEST}
 use Rattle.rc_process.specs.Running.{Running, Machine, HasJournal, MayBring, IsGiven, IsSynced, HasLeft, IsSaving, IsMoved, HasAsked}

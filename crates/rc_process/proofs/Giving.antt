@@ -22,9 +22,9 @@ use Rattle.rc_history.specs.Lives.{Life, keeps, is_masters, life_next, node_afte
 use Rattle.rc_history.specs.Processes.{Deed, Process, deed_of}
 use Rattle.rc_history.proofs.Cutting.{name-next, started-next}
 use Rattle.rc_keeping.specs.Saved.{Saved}
-use Rattle.rc_files.specs.Files.{file_of}
-use Rattle.rc_files.specs.Standing.{StandsFor}
-use Rattle.rc_files.proofs.Anew.{one-more-is-written}
+use Rattle.rc_keeping.specs.Files.{file_of}
+use Rattle.rc_keeping.specs.Standing.{StandsFor}
+use Rattle.rc_keeping.proofs.Anew.{one-more-is-written}
 use Rattle.rc_process.specs.declared.saving.Saving.{Saving}
 use Rattle.rc_process.specs.View.{Held, ProcessView, written_down, started_next, given}
 use Rattle.rc_process.specs.Running.{Running}

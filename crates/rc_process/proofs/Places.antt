@@ -13,9 +13,9 @@ use Rattle.rc_keeping.specs.Spelling.{record_of, journal_of}
 use Rattle.rc_keeping.proofs.JournalLaws.{journal-push}
 use Rattle.rc_history.specs.Lives.{node_after}
 use Rattle.rc_keeping.specs.Saved.{Saved, save_of}
-use Rattle.rc_files.specs.Files.{file_of}
-use Rattle.rc_files.specs.Standing.{StandsFor}
-use Rattle.rc_files.proofs.Back.{journal-append, le_or_lt}
+use Rattle.rc_keeping.specs.Files.{file_of}
+use Rattle.rc_keeping.specs.Standing.{StandsFor}
+use Rattle.rc_keeping.proofs.Back.{journal-append, le_or_lt}
 use Rattle.rc_process.specs.declared.saving.Saving.{Saving}
 use Rattle.rc_process.specs.View.{moved_place}
 

@@ -20,10 +20,10 @@ use Rattle.rc_history.specs.Lives.{Life, life_next, life_after, node_after, stop
 use Rattle.rc_history.specs.Processes.{Deed, deed_of, Process, Processes, Falls, MayBeLeft, after, fallen, stop_deeds, is_left}
 use Rattle.rc_history.proofs.Global.{Goes}
 use Rattle.rc_keeping.specs.Saved.{Saved, node_from}
-use Rattle.rc_files.specs.Files.{file_of, IsLeft, GivesBack}
-use Rattle.rc_files.specs.Standing.{StandsFor, node_given}
-use Rattle.rc_files.proofs.Anew.{files-make-anew, fewer-stand, stops-make-equal, same-itself, name-after, name-new}
-use Rattle.rc_files.proofs.Back.{what-is-left, le_or_lt}
+use Rattle.rc_keeping.specs.Files.{file_of, IsLeft, GivesBack}
+use Rattle.rc_keeping.specs.Standing.{StandsFor, node_given}
+use Rattle.rc_keeping.proofs.Anew.{files-make-anew, fewer-stand, stops-make-equal, same-itself, name-after, name-new}
+use Rattle.rc_keeping.proofs.Back.{what-is-left, le_or_lt}
 use Rattle.rc_process.specs.View.{ProcessView, written_down, given, ended, end_written, IsReplayed, IsBack}
 use Rattle.rc_process.specs.Running.{Running, Machine, HasJournal, MayStand, First, Second, HasComeBack}
 use Rattle.rc_process.proofs.Places.{place, place-within, place-push, place-above, place-none, place-moved, journal-size}

@@ -11,8 +11,8 @@ use Rattle.rc_history.specs.Nodes.{name_of}
 use Rattle.rc_keeping.specs.Saved.{Saved, save_of}
 use Rattle.rc_history.specs.Processes.{Deed, Process, Processes, Happening, new_processes, with_process, after, after_all, May, MayAll}
 use Rattle.rc_history.proofs.Global.{Goes, goes-all, goes-new}
-use Rattle.rc_files.specs.Files.{file_of}
-use Rattle.rc_files.specs.Standing.{StandsFor}
+use Rattle.rc_keeping.specs.Files.{file_of}
+use Rattle.rc_keeping.specs.Standing.{StandsFor}
 use Rattle.rc_process.specs.declared.saving.Saving.{Saving}
 use Rattle.rc_process.specs.View.{Held}
 use Rattle.rc_process.specs.Running.{Running, Machine, with_running, HasJournal}

@@ -15,7 +15,7 @@ use Rattle.rc_world.specs.NodeView.{NodeData, node_seen}
 use Rattle.rc_keeping.specs.SaveClaims.{IsSaved}
 use Rattle.rc_keeping.specs.Saved.{Saved}
 use Rattle.rc_history.specs.Processes.{Happening, new_processes, MayAll, after_all}
-use Rattle.rc_files.specs.Files.{file_of, IsLeft}
+use Rattle.rc_keeping.specs.Files.{file_of, IsLeft}
 use Rattle.rc_process.specs.declared.saving.Saving.{Saving}
 use Rattle.rc_process.specs.View.{ProcessView, written_down, given, Leaves, save_begun, moved_place, moved, LARGEST}
 use Rattle.rc_process.specs.View.{IsBack}

@@ -15,7 +15,7 @@ use Rattle.rc_keeping.specs.Spelling.{record_of}
 use Rattle.rc_keeping.specs.Claims.{AreReadFrom}
 use Rattle.rc_keeping.specs.SaveClaims.{IsLoaded}
 use Rattle.rc_history.specs.Lives.{keeps, is_masters}
-use Rattle.rc_files.specs.Standing.{node_given}
+use Rattle.rc_keeping.specs.Standing.{node_given}
 use Rattle.rc_process.specs.declared.saving.Saving.{Saving}
 
 -- what is held back, with how many bytes of the journal have to be safe before it may leave

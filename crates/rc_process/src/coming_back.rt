@@ -9,7 +9,7 @@ ghost use Rattle.rc_world.specs.NodeView.{node_seen, NodeHasRoom};
 ghost use Rattle.rc_keeping.specs.Saved.{saved_of};
 ghost use Rattle.rc_keeping.specs.declared.faults.SaveFault.TheVariants.{Outside, OutOfMemory};
 ghost use Rattle.rc_keeping.specs.SaveClaims.{IsSaved, BeginsWithNoSave};
-ghost use Rattle.rc_files.specs.Standing.{node_next, node_given};
+ghost use Rattle.rc_keeping.specs.Standing.{node_next, node_given};
 ghost use Rattle.rc_process.specs.View.{IsBack, IsReplayed, IsUnloaded, IsTooShort, RunsOut, RunsOutAfter, begun};
 ghost use Rattle.rc_process.specs.View.{process_seen};
 ghost use Rattle.rc_process.specs.View.{ended, end_written, given, written_down, whole_start};

@@ -1,6 +1,6 @@
 use Rattle.std.proofs.Common.{◌≡◌, take}
 use Rattle.rc_world.specs.NodeView.{node_seen}
-use Rattle.rc_files.specs.Standing.{node_given}
+use Rattle.rc_keeping.specs.Standing.{node_given}
 use Rattle.rc_process.proofs.coming_back.replay.Given as goal
 
 -- the works so far have been given

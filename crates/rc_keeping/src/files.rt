@@ -1,8 +1,8 @@
 //! The laws of files, as contracts of functions that do nothing.
 
-ghost use Rattle.rc_files.specs.Files.{CutsAreLeft, WhatIsLeftComesBack};
-ghost use Rattle.rc_files.specs.Standing.{FilesMakeAnew, OneMoreIsWritten, FewerStandForFewer, SavesStandForAll};
-ghost use Rattle.rc_files.specs.Standing.{StopsMakeEqual};
+ghost use Rattle.rc_keeping.specs.Files.{CutsAreLeft, WhatIsLeftComesBack};
+ghost use Rattle.rc_keeping.specs.Standing.{FilesMakeAnew, OneMoreIsWritten, FewerStandForFewer, SavesStandForAll};
+ghost use Rattle.rc_keeping.specs.Standing.{StopsMakeEqual};
 
 /// Of what a crash leaves of a file all comes back that was safe, and perhaps some of what was written behind it, in
 /// order; and nothing that was not written. It may have been cut off anywhere behind what was safe, and whatever is no

@@ -14,7 +14,7 @@ use Rattle.rc_keeping.proofs.JournalLaws.{what-stands-before-is-read}
 use Rattle.rc_keeping.specs.SaveClaims.{IsLoaded}
 use Rattle.rc_keeping.specs.Saved.{save_of, node_from, saved_of}
 use Rattle.rc_keeping.proofs.SaveLaws.{saved-is-loaded}
-use Rattle.rc_files.specs.Files.{CutsAreLeft, WhatIsLeftComesBack}
+use Rattle.rc_keeping.specs.Files.{CutsAreLeft, WhatIsLeftComesBack}
 
 free : IsPrefixFree record_of
 free = is_prefix_free record_law

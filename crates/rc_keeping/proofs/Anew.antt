@@ -21,8 +21,8 @@ use Rattle.rc_history.proofs.Cutting.{name-next}
 use Rattle.rc_codec.proofs.Lawful.{some_is}
 use Rattle.rc_keeping.specs.Saved.{Saved, HostSave, CoordinatorSave, saved_of, node_from}
 use Rattle.rc_keeping.proofs.Loaded.{loaded-is-same}
-use Rattle.rc_files.specs.Standing.{AllWritten, node_next, node_given, FilesMakeAnew, OneMoreIsWritten, FewerStandForFewer}
-use Rattle.rc_files.specs.Standing.{StopsMakeEqual, SavesStandForAll}
+use Rattle.rc_keeping.specs.Standing.{AllWritten, node_next, node_given, FilesMakeAnew, OneMoreIsWritten, FewerStandForFewer}
+use Rattle.rc_keeping.specs.Standing.{StopsMakeEqual, SavesStandForAll}
 use Rattle.rc_model.specs.Master.{Master}
 use Rattle.std.proofs.lemmas.List.{append-nil}
 use Rattle.std.specs.Prelude.{is_some}
