@@ -1,2 +1,3 @@
 pub mod MemberLemmas
 mod NobodyLost
+pub mod SegmentTables

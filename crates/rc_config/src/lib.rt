@@ -4,10 +4,15 @@
 
 mod choosing;
 mod config;
+pub mod heads;
 mod ids;
 mod members;
 mod replacing;
+mod segment;
+mod state;
 
 pub use choosing::choose;
 pub use config::{Config, MAX_MEMBERS};
 pub use ids::MemberIds;
+pub use segment::Segment;
+pub use state::SegmentState;

@@ -11,8 +11,8 @@ use Rattle.rc_model.specs.Model.{entries_of, with_segment, has_segment, opens_he
 use Rattle.rc_model.proofs.Tables.{put_each, put-same, put-other}
 use Rattle.rc_model.proofs.LogParts.{places_to-agrees}
 use Rattle.rc_model.proofs.Numbering.{places-push}
-use Rattle.rc_segment.specs.Lists.{segment_at}
-use Rattle.rc_segment.proofs.SegmentTables.{segment_at-read, segment_at-past}
+use Rattle.rc_config.specs.Lists.{segment_at}
+use Rattle.rc_config.proofs.SegmentTables.{segment_at-read, segment_at-past}
 use Rattle.rc_ownership.specs.Groups.{group_of, IsAliveAt}
 use Rattle.rc_ownership.specs.Slots.{slot_of}
 use Rattle.rc_headroll.specs.Alive.{has_alive, IsFound, entries_in, AreFound}

@@ -8,12 +8,12 @@ use Rattle.std.proofs.lemmas.Bool.{cond-true, cond-false, cond_both, cases_eq, e
 use Rattle.std.proofs.lemmas.Bool.{leb-true, lt-ltb, le-ltb, false≢true}
 use Rattle.std.proofs.lemmas.Bool.Decides.{nat_tests}
 use Rattle.rc_model.specs.Model.{Phase, put, Segment, no_segment}
-use Rattle.rc_segment.specs.declared.state.SegmentState.{SegmentState}
-use Rattle.rc_segment.specs.Lists.{segment_at}
-use Rattle.rc_segment.specs.States.{state_of, with_state}
+use Rattle.rc_config.specs.declared.state.SegmentState.{SegmentState}
+use Rattle.rc_config.specs.Lists.{segment_at}
+use Rattle.rc_config.specs.States.{state_of, with_state}
 use Rattle.rc_headroll.specs.Before.{Mark, mark_of, state_at, as_it_was, kept_of, kept_len}
 use Rattle.rc_headroll.specs.Before.{was_there, segments_before, IsKept, CanGoBack}
-use Rattle.rc_segment.proofs.SegmentTables.{put-other, put_each, segment_at-zero, segment_at-past, segment_at-within}
+use Rattle.rc_config.proofs.SegmentTables.{put-other, put_each, segment_at-zero, segment_at-past, segment_at-within}
 
 -- Segments as they were
 

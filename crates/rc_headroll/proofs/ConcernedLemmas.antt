@@ -7,7 +7,7 @@ use Rattle.rc_model.specs.Model.{ServerId, Member, Fault, put, ServerList, has_c
 use Rattle.rc_model.specs.Model.{staying, substitutes, substitutes_for, candidates, changes_to, refills_with, lose, refill}
 use Rattle.rc_model.specs.Model.{Segment, Log, with_config, refills, opens_change, loses}
 use Rattle.rc_config.proofs.MemberLemmas.{replaced-none}
-use Rattle.rc_segment.specs.Concerned.{is_concerned}
+use Rattle.rc_config.specs.Concerned.{is_concerned}
 
 or-false : (a b : Bool) → (a || b) ≡ false → (a ≡ false) × (b ≡ false)
 or-false true b e = absurd (false≢true (sym e))

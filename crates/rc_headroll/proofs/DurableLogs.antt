@@ -5,10 +5,10 @@ use Rattle.std.proofs.Common.{append_assoc, add_assoc, zero-add, add-zero, ltb, 
 use Rattle.std.proofs.lemmas.Bool.{cases_eq, and_from, lt-ltb, le-leb}
 use Rattle.std.proofs.lemmas.List.{map-append, append-nil}
 use Rattle.rc_model.specs.Model.{MAX_SEGMENT, Segment, durable_in, Log, has_segment, numbers_to, durable_among, durable_now, first_open}
-use Rattle.rc_segment.specs.Lists.{segment_at}
+use Rattle.rc_config.specs.Lists.{segment_at}
 use Rattle.rc_headroll.specs.LogData.{LogData, log_of}
 use Rattle.rc_headroll.specs.Soundness.{IsSound, IsSoundSegment, entries_to}
-use Rattle.rc_segment.proofs.SegmentTables.{segment_at-read}
+use Rattle.rc_config.proofs.SegmentTables.{segment_at-read}
 
 -- the numbers after this one, so many
 numbers_after : ℕ → ℕ → List ℕ

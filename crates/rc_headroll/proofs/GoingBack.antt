@@ -5,11 +5,11 @@ use Rattle.std.proofs.Math.Path.{fun_ext}
 use Rattle.std.proofs.lemmas.Bool.{cond-true, cond-false, cases_eq, cases_lt, eq-eqb, ne_eqb, and_from, lt-ltb, le-ltb, false≢true}
 use Rattle.std.proofs.lemmas.Bool.Decides.{nat_tests}
 use Rattle.rc_model.specs.Model.{put, Segment, no_segment}
-use Rattle.rc_segment.specs.declared.state.SegmentState.{SegmentState}
-use Rattle.rc_segment.specs.Lists.{segment_at}
-use Rattle.rc_segment.specs.States.{with_state}
+use Rattle.rc_config.specs.declared.state.SegmentState.{SegmentState}
+use Rattle.rc_config.specs.Lists.{segment_at}
+use Rattle.rc_config.specs.States.{with_state}
 use Rattle.rc_headroll.specs.Before.{Mark, as_it_was, other_of, segments_before, with_kept, one_back, other_back, others_back}
-use Rattle.rc_segment.proofs.SegmentTables.{segment_at-set, segment_at-read, segment_at-zero, segment_at-past}
+use Rattle.rc_config.proofs.SegmentTables.{segment_at-set, segment_at-read, segment_at-zero, segment_at-past}
 
 -- What was kept
 

@@ -6,11 +6,11 @@ use Rattle.std.proofs.Math.Path.{fun_ext}
 use Rattle.std.proofs.lemmas.Bool.{cond-true, cond-false, cond_both, cases_eq, cases_lt, ne_eqb, and_parts, ltb-true}
 use Rattle.std.proofs.lemmas.Bool.{lt-ltb, le-ltb, false≢true}
 use Rattle.rc_model.specs.Segment.{Segment, no_segment}
-use Rattle.rc_segment.specs.declared.state.SegmentState.{SegmentState}
-use Rattle.rc_segment.specs.Lists.{segment_at}
+use Rattle.rc_config.specs.declared.state.SegmentState.{SegmentState}
+use Rattle.rc_config.specs.Lists.{segment_at}
 use Rattle.rc_headroll.specs.LogData.{LogData, before_of}
 use Rattle.rc_headroll.specs.Soundness.{IsSoundLog}
-use Rattle.rc_segment.specs.States.{state_of}
+use Rattle.rc_config.specs.States.{state_of}
 use Rattle.rc_headroll.specs.Before.{Mark, as_it_was, other_of, kept_of, kept_len, was_there}
 use Rattle.rc_headroll.specs.Before.{segments_before, with_kept, IsKept, CanGoBack}
 use Rattle.rc_headroll.proofs.GoingBack.{other_of-push_same, other_of-push_other}

@@ -2,7 +2,7 @@
 use Rattle.std.proofs.Common.{◌≡◌, ℕ, Bool, true, false, cond, not, ◌&&◌, ◌||◌, List, [], ap, ◌∙◌, refl}
 use Rattle.std.proofs.lemmas.Bool.{and_parts}
 use Rattle.rc_model.specs.Model.{Message, Master, places_segment, loses, replaces_lost}
-use Rattle.rc_segment.specs.Concerned.{is_concerned}
+use Rattle.rc_config.specs.Concerned.{is_concerned}
 use Rattle.rc_headroll.specs.Watching.{is_helpless, is_let_be}
 use Rattle.rc_headroll.proofs.ConcernedLemmas.{loses-unconcerned}
 use Rattle.rc_headroll.proofs.StuckLemmas.{loses-helpless}

@@ -10,11 +10,11 @@ use Rattle.rc_model.specs.Model.{notes, lose, refill, Segment, new_segment, with
 use Rattle.rc_model.specs.Model.{is_writing, commit_noted, stored, notes_stored, loses, opens_change, refills, opens_head, is_full}
 use Rattle.rc_model.specs.Model.{appends, append_fault}
 use Rattle.rc_types.specs.declared.faults.Fault.TheVariants.{OutOfMemory}
-use Rattle.rc_segment.specs.Losing.{segment_loses, segment_changes, segment_refills}
-use Rattle.rc_segment.specs.Lists.{segment_at}
+use Rattle.rc_config.specs.Losing.{segment_loses, segment_changes, segment_refills}
+use Rattle.rc_config.specs.Lists.{segment_at}
 use Rattle.rc_headroll.specs.LogData.{LogData, log_of}
 use Rattle.rc_headroll.specs.Soundness.{IsKnown, IsSound}
-use Rattle.rc_segment.proofs.SegmentTables.{segment_at-read, segment_at-push}
+use Rattle.rc_config.proofs.SegmentTables.{segment_at-read, segment_at-push}
 use Rattle.rc_headroll.proofs.LogTables.{log_of-set, has-parts}
 use Rattle.rc_headroll.proofs.SoundLogs.{sound-put, sound-appends, sound-opens}
 

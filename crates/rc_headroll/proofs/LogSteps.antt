@@ -10,10 +10,10 @@ use Rattle.rc_model.specs.Model.{Phase, Opening, Closing, Writing, Segment, no_s
 use Rattle.rc_model.specs.Model.{with_closes_sent, Log, head_of, old_head_of, has_old_head, has_segment, with_segment, is_opening}
 use Rattle.rc_model.specs.Model.{is_closing, is_writing, shuts, with_shut, may_start, may_write, starts, left_out, with_freed}
 use Rattle.rc_model.specs.Model.{close_is_due, close_marked}
-use Rattle.rc_segment.specs.Lists.{segment_at}
+use Rattle.rc_config.specs.Lists.{segment_at}
 use Rattle.rc_headroll.specs.LogData.{LogData, log_of}
 use Rattle.rc_headroll.specs.Soundness.{IsSound}
-use Rattle.rc_segment.proofs.SegmentTables.{segment_at-zero, put_each}
+use Rattle.rc_config.proofs.SegmentTables.{segment_at-zero, put_each}
 use Rattle.rc_headroll.proofs.SoundLogs.{sound-shut, sound-writes}
 use Rattle.rc_headroll.proofs.LogChanges.{log_of-change, seg_place}
 

@@ -3,8 +3,8 @@ use Rattle.std.proofs.Common.{◌≡◌, ℕ, ◌+◌, ◌<◌, ◌≤◌, true,
 use Rattle.std.proofs.lemmas.Bool.{and_parts, and_from, ltb-true, leb-true, lt-ltb, le-leb}
 use Rattle.std.proofs.lemmas.List.{length-set}
 use Rattle.rc_model.specs.Model.{put, Segment, ServerId, Opening, Log, new_log, with_segment, has_segment}
-use Rattle.rc_segment.specs.Lists.{segment_at}
-use Rattle.rc_segment.proofs.SegmentTables.{segment_at-nil, segment_at-set}
+use Rattle.rc_config.specs.Lists.{segment_at}
+use Rattle.rc_config.proofs.SegmentTables.{segment_at-nil, segment_at-set}
 use Rattle.rc_headroll.specs.declared.durable.Counted.{Counted}
 use Rattle.rc_headroll.specs.Before.{first_mark}
 use Rattle.rc_headroll.specs.Watching.{Watched}

@@ -9,7 +9,7 @@ use Rattle.std.proofs.lemmas.Map.Entries.{place_from_lookup}
 use Rattle.std.proofs.lemmas.Option.{slice_get_within}
 use Rattle.indexmap.proofs.IndexTableLemmas.Probe.{pigeonhole}
 use Rattle.rc_model.specs.Segment.{Segment}
-use Rattle.rc_segment.specs.declared.state.SegmentState.{SegmentState}
+use Rattle.rc_config.specs.declared.state.SegmentState.{SegmentState}
 use Rattle.rc_headroll.specs.Before.{other_of, ArePlaced}
 
 -- Lists read at a place

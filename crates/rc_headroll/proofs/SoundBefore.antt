@@ -5,13 +5,13 @@ use Rattle.std.proofs.Math.Path.{fun_ext}
 use Rattle.std.proofs.lemmas.Bool.{and_parts, leb-true, ltb-true}
 use Rattle.std.proofs.lemmas.List.{get_or-take}
 use Rattle.rc_model.specs.Model.{ServerId, Phase, Opening, MAX_FACTOR, MAX_SEGMENT, Segment, no_segment, new_log}
-use Rattle.rc_segment.specs.Lists.{segment_at}
+use Rattle.rc_config.specs.Lists.{segment_at}
 use Rattle.rc_headroll.specs.LogData.{LogData, log_of, before_of}
 use Rattle.rc_headroll.specs.Soundness.{IsSound, IsSoundLog}
 use Rattle.rc_headroll.specs.Watching.{Watched}
 use Rattle.rc_headroll.specs.declared.durable.Counted.{Counted}
 use Rattle.rc_headroll.specs.Before.{Mark, first_mark, mark_of, as_it_was, kept_of, was_there, segments_before}
-use Rattle.rc_segment.proofs.SegmentTables.{segment_at-within, segment_at-nil}
+use Rattle.rc_config.proofs.SegmentTables.{segment_at-within, segment_at-nil}
 use Rattle.rc_headroll.proofs.LogTables.{log_of-nil}
 use Rattle.rc_headroll.proofs.SoundLogs.{sound-new}
 use Rattle.rc_headroll.proofs.BeforeLemmas.{begin-before, begin-back}

@@ -8,7 +8,7 @@ use Rattle.std.proofs.lemmas.List.Elements.{All-push, All-filter}
 use Rattle.rc_model.specs.Model.{ServerId, Entry, LAST_SEGMENT, MAX_FACTOR, MAX_SEGMENT, put, Segment, new_segment, with_entry, Log}
 use Rattle.rc_model.specs.Model.{new_log, head_of, old_head_of, with_segment, is_writing, opens_head, appends, starts}
 use Rattle.rc_headroll.specs.Soundness.{IsKnown, IsSoundSegment, IsSound, all_shut_below, entries_to}
-use Rattle.rc_segment.proofs.SegmentTables.{put-at, put-other, put_each}
+use Rattle.rc_config.proofs.SegmentTables.{put-at, put-other, put_each}
 
 -- The entries of the first segments
 

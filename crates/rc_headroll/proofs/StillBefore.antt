@@ -3,11 +3,11 @@ use Rattle.std.proofs.Common.{◌≡◌, ℕ, ◌+◌, ◌-◌, ◌<◌, ◌≤�
 use Rattle.std.proofs.Common.{set, take, refl, ap, sym, ◌∙◌, subst, arith}
 use Rattle.std.proofs.lemmas.List.{take-append-le, length_push, length-set}
 use Rattle.rc_model.specs.Model.{Entry, Phase, Segment, with_entry, has_segment, append_fault}
-use Rattle.rc_segment.specs.Lists.{segment_at}
+use Rattle.rc_config.specs.Lists.{segment_at}
 use Rattle.rc_headroll.specs.LogData.{LogData, log_of, before_of}
 use Rattle.rc_headroll.specs.Soundness.{IsSound, IsSoundLog}
 use Rattle.rc_headroll.specs.Before.{segments_before, IsKept, CanGoBack}
-use Rattle.rc_segment.proofs.SegmentTables.{segment_at-set, segment_at-read, segment_at-push, segment_at-past}
+use Rattle.rc_config.proofs.SegmentTables.{segment_at-set, segment_at-read, segment_at-push, segment_at-past}
 use Rattle.rc_headroll.proofs.BeforeLemmas.{Extends, before-put, before-new, back-put}
 use Rattle.rc_headroll.proofs.LogChanges.{Keeps, seg_place, sound-written, sound-pushed, append-possible}
 

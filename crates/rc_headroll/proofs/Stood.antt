@@ -4,8 +4,8 @@ use Rattle.std.proofs.Common.{None, refl, ap, sym, ◌∙◌}
 use Rattle.std.specs.List.{list_any}
 use Rattle.std.proofs.lemmas.Bool.{cond-true, and_from, eq-eqb, lt-ltb, le-leb}
 use Rattle.rc_model.specs.Model.{ServerId, Member, same_id, has_id, Segment, no_segment, ids_of, stood}
-use Rattle.rc_segment.specs.declared.state.SegmentState.{SegmentState}
-use Rattle.rc_segment.specs.Lists.{segment_at}
+use Rattle.rc_config.specs.declared.state.SegmentState.{SegmentState}
+use Rattle.rc_config.specs.Lists.{segment_at}
 use Rattle.rc_headroll.specs.LogData.{LogData, log_of, before_of}
 use Rattle.rc_headroll.specs.Before.{kept_of, was_there, as_it_was, segments_before}
 

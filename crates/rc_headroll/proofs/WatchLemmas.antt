@@ -7,15 +7,15 @@ use Rattle.std.proofs.lemmas.Bool.{and_parts, and_from, cases_eq, cases_lt, cond
 use Rattle.std.proofs.lemmas.List.{length-set, length_push}
 use Rattle.rc_model.specs.Model.{ServerId, Member, Phase, same_id, ServerList, has_crashed, put, Config, is_heard}
 use Rattle.rc_model.specs.Model.{told_with, told_if_heard, noted, committed_at, Segment, Log, has_segment}
-use Rattle.rc_segment.specs.Lists.{segment_at}
+use Rattle.rc_config.specs.Lists.{segment_at}
 use Rattle.rc_headroll.specs.LogData.{LogData, log_of, before_of}
-use Rattle.rc_segment.specs.Concerned.{is_concerned}
-use Rattle.rc_segment.specs.Resting.{have_told, wants_nothing}
+use Rattle.rc_config.specs.Concerned.{is_concerned}
+use Rattle.rc_config.specs.Resting.{have_told, wants_nothing}
 use Rattle.rc_headroll.specs.Watching.{Watched, StuckUnder, has_number, is_among, is_awake, is_filed, is_filed_whole, is_helpless}
 use Rattle.rc_headroll.specs.Watching.{is_stuck, is_findable, is_on_file, is_watched, AreWatched, is_let_be, AreRoused}
 use Rattle.rc_headroll.specs.Soundness.{IsSoundLog, IsWatchedLog}
 use Rattle.rc_headroll.specs.Before.{Mark}
-use Rattle.rc_segment.proofs.SegmentTables.{put_each, put-other, segment_at-set, segment_at-read, segment_at-push}
+use Rattle.rc_config.proofs.SegmentTables.{put_each, put-other, segment_at-set, segment_at-read, segment_at-push}
 use Rattle.rc_headroll.proofs.LogTables.{has-from}
 use Rattle.rc_headroll.proofs.LogChanges.{seg_place}
 use Rattle.rc_headroll.proofs.StuckLemmas.{helpless-told}

@@ -6,8 +6,8 @@ use Rattle.std.proofs.lemmas.Bool.{ne_eqb}
 use Rattle.std.proofs.lemmas.List.{length-set, length_push}
 use Rattle.rc_model.specs.Model.{put, Segment, has_segment}
 use Rattle.rc_model.proofs.Tables.{put_each, put-same, put-other}
-use Rattle.rc_segment.specs.Lists.{segment_at, newest_of, previous_of}
-use Rattle.rc_segment.proofs.SegmentTables.{segment_at-read, segment_at-set, segment_at-push}
+use Rattle.rc_config.specs.Lists.{segment_at, newest_of, previous_of}
+use Rattle.rc_config.proofs.SegmentTables.{segment_at-read, segment_at-set, segment_at-push}
 use Rattle.rc_headroll.specs.LogData.{LogData, log_of}
 use Rattle.rc_headroll.specs.Soundness.{IsKnownWhole}
 use Rattle.rc_headroll.proofs.LogChanges.{seg_place}

@@ -6,7 +6,7 @@ use Rattle.rc_types.specs.declared.entries.Entry.{Entry}
 use Rattle.rc_model.specs.Segment.{Segment}
 use Rattle.rc_model.specs.Log.{places_to}
 use Rattle.rc_model.specs.Versions.{is_outdated}
-use Rattle.rc_segment.specs.Lists.{segment_at}
+use Rattle.rc_config.specs.Lists.{segment_at}
 use Rattle.rc_ownership.specs.Groups.{group_of}
 use Rattle.rc_ownership.specs.Slots.{slot_of}
 use Rattle.rc_headroll.specs.declared.alive.AliveEntry.{AliveEntry}

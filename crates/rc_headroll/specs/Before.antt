@@ -6,8 +6,8 @@ use Rattle.std.specs.Map.{lookup}
 use Rattle.rc_types.specs.declared.kept.Phase.{Phase}
 use Rattle.rc_types.specs.declared.kept.Phase.TheVariants.{Opening}
 use Rattle.rc_model.specs.Segment.{Segment, no_segment}
-use Rattle.rc_segment.specs.declared.state.SegmentState.{SegmentState}
-use Rattle.rc_segment.specs.States.{state_of, with_state}
+use Rattle.rc_config.specs.declared.state.SegmentState.{SegmentState}
+use Rattle.rc_config.specs.States.{state_of, with_state}
 
 -- a segment of which nothing was kept is as it was
 abbrev pub as_it_was : Option SegmentState → Segment → Segment

@@ -4,7 +4,7 @@ use Rattle.rc_types.specs.declared.ids.ServerId.{ServerId}
 use Rattle.rc_types.specs.declared.kept.Phase.{Phase}
 use Rattle.rc_model.specs.Segment.{Segment}
 use Rattle.rc_model.specs.Log.{Log}
-use Rattle.rc_segment.specs.Lists.{segment_at}
+use Rattle.rc_config.specs.Lists.{segment_at}
 use Rattle.rc_headroll.specs.declared.durable.Counted.{Counted}
 use Rattle.rc_headroll.specs.Before.{Mark, segments_before}
 use Rattle.rc_headroll.specs.Watching.{Watched}

@@ -8,7 +8,7 @@ use Rattle.rc_model.specs.ServerList.{ServerList}
 use Rattle.rc_model.specs.Segment.{Segment}
 use Rattle.rc_model.specs.Log.{Log, head_of, is_writing}
 use Rattle.rc_headroll.specs.Before.{CanGoBack}
-use Rattle.rc_segment.specs.Lists.{segment_at, newest_of, previous_of}
+use Rattle.rc_config.specs.Lists.{segment_at, newest_of, previous_of}
 use Rattle.rc_headroll.specs.LogData.{LogData, log_of, before_of}
 use Rattle.rc_headroll.specs.Watching.{AreWatched, AreRoused}
 

@@ -10,8 +10,8 @@ use Rattle.rc_model.specs.Ids.{same_id}
 use Rattle.rc_model.specs.ServerList.{ServerList, has_crashed}
 use Rattle.rc_model.specs.Config.{Config, substitutes_for}
 use Rattle.rc_model.specs.Segment.{Segment}
-use Rattle.rc_segment.specs.Concerned.{is_concerned}
-use Rattle.rc_segment.specs.Resting.{wants_nothing}
+use Rattle.rc_config.specs.Concerned.{is_concerned}
+use Rattle.rc_config.specs.Resting.{wants_nothing}
 
 -- the number is one of these
 abbrev pub has_number : List ℕ → ℕ → Bool

@@ -2,13 +2,13 @@
 
 ghost use Rattle.std.specs.Prelude.{◌≡◌, ◌+◌, ◌^◌, ◌<◌, ◌≤◌, Some, length, OnOk};
 ghost use Rattle.std.specs.Option.{option_copied};
-ghost use Rattle.rc_segment.specs.States.{state_of};
+ghost use Rattle.rc_config.specs.States.{state_of};
 ghost use Rattle.rc_headroll.specs.Before.{first_mark, mark_of, state_at, kept_of, with_kept};
 ghost use Rattle.rc_headroll.specs.Before.{segments_before, others_back, other_back, one_back};
-ghost use Rattle.rc_segment.specs.Lists.{segment_at};
+ghost use Rattle.rc_config.specs.Lists.{segment_at};
 
 use crate::others::Others;
-use rc_segment::{Segment, SegmentState};
+use rc_config::{Segment, SegmentState};
 use rc_types::Phase;
 use std::alloc::{AllocError, Global};
 use std::marker::Model;

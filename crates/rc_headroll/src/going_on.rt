@@ -14,7 +14,7 @@ ghost use Rattle.rc_headroll.specs.LogData.{log_of, before_of};
 
 use crate::log::LogHead;
 use crate::opening::has_number;
-use rc_segment::heads;
+use rc_config::heads;
 use rc_types::Phase;
 use std::alloc::{AllocError, Global};
 

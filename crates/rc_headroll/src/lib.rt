@@ -21,4 +21,4 @@ mod watching;
 pub use alive::AliveEntry;
 pub use durable::Place;
 pub use log::LogHead;
-pub use rc_segment::Segment;
+pub use rc_config::Segment;

@@ -8,7 +8,7 @@ use crate::alive::AliveEntry;
 use crate::before::Before;
 use crate::durable::Counted;
 use crate::watch::Watch;
-use rc_segment::{Segment, heads};
+use rc_config::{Segment, heads};
 use rc_types::{Phase, ServerId};
 use std::alloc::Global;
 use std::marker::Model;

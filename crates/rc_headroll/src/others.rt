@@ -5,7 +5,7 @@ ghost use Rattle.std.specs.Prelude.{option_to_list};
 ghost use Rattle.std.specs.Option.{option_copied};
 ghost use Rattle.rc_headroll.specs.Before.{other_of};
 
-use rc_segment::SegmentState;
+use rc_config::SegmentState;
 use std::alloc::{AllocError, Global};
 use std::marker::Model;
 

@@ -4,7 +4,7 @@ ghost use Rattle.std.specs.Prelude.{◌≡◌, ◌<◌, ◌≤◌, ℕ, true, fa
 ghost use Rattle.rc_model.specs.Log.{has_segment};
 ghost use Rattle.rc_headroll.specs.LogData.{log_of, before_of};
 ghost use Rattle.rc_headroll.specs.Soundness.{IsRoused};
-ghost use Rattle.rc_segment.specs.Resting.{wants_nothing};
+ghost use Rattle.rc_config.specs.Resting.{wants_nothing};
 ghost use Rattle.rc_headroll.specs.Watching.{is_awake, is_on_file};
 
 use crate::log::LogHead;

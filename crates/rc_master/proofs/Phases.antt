@@ -14,7 +14,7 @@ use Rattle.rc_model.proofs.Tests.{either, true_false}
 use Rattle.rc_model.proofs.LogParts.{marked, with_freed-marked, marked-alone}
 use Rattle.rc_headroll.specs.Advancing.{next_phase, advanced, advances}
 use Rattle.rc_headroll.proofs.LogSteps.{freed-newest, freed-previous}
-use Rattle.rc_segment.proofs.SegmentTables.{put-at}
+use Rattle.rc_config.proofs.SegmentTables.{put-at}
 use Rattle.rc_master.specs.Rules.{did, or_still, follows_phase, follows_rest, tells_phase}
 use Rattle.rc_master.proofs.Notes.{SamePlaces, same-log, same-starts, same-closes, same-writes_on}
 

@@ -7,7 +7,7 @@ ghost use Rattle.rc_model.specs.ServerList.{from_rows};
 ghost use Rattle.rc_model.specs.Log.{has_segment, numbers_to};
 ghost use Rattle.rc_model.specs.ListRules.{replaces_lost, replaces_lost_of, tries_first, obeys_list, takes_list};
 ghost use Rattle.rc_headroll.specs.LogData.{log_of};
-ghost use Rattle.rc_segment.specs.Concerned.{is_concerned};
+ghost use Rattle.rc_config.specs.Concerned.{is_concerned};
 ghost use Rattle.rc_headroll.specs.Soundness.{IsRoused};
 ghost use Rattle.rc_master.specs.View.{state_view, before_step, IsNoted, IsAtStart};
 

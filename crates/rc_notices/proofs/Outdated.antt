@@ -7,7 +7,7 @@ use Rattle.std.proofs.lemmas.Bool.{and_parts, eqb-true}
 use Rattle.std.proofs.lemmas.Bool.Decides.{nat_tests}
 use Rattle.rc_model.specs.Model.{Entry, Segment, no_segment, has_segment, is_of, is_outdated, is_dead, Master}
 use Rattle.rc_model.specs.Model.{durable_entries, is_dead_segment}
-use Rattle.rc_segment.specs.Lists.{segment_at}
+use Rattle.rc_config.specs.Lists.{segment_at}
 use Rattle.rc_ownership.specs.Groups.{group_of, IsQuiet}
 use Rattle.rc_ownership.specs.Slots.{slot_of}
 use Rattle.rc_headroll.specs.Alive.{has_alive, IsFound}

@@ -6,7 +6,7 @@ use Rattle.std.proofs.lemmas.List.{append-nil}
 use Rattle.rc_model.specs.Model.{Member, Message, Commit, between, to_coordinator, all_placed, Log, numbers_to}
 use Rattle.rc_model.specs.Model.{place_of, stood, standing, reminds_shut_members, reminds_open, reminds_shut, awaits_commit}
 use Rattle.rc_headroll.proofs.WatchLemmas.{wants-parts}
-use Rattle.rc_segment.specs.Resting.{have_told, wants_nothing}
+use Rattle.rc_config.specs.Resting.{have_told, wants_nothing}
 use Rattle.rc_notices.specs.Reminders.{reminds_if_open, reminds_if_shut, commit_again}
 
 -- what is added after what was added before

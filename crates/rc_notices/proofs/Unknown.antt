@@ -2,7 +2,7 @@
 use Rattle.std.proofs.Common.{◌≡◌, ℕ, zero, suc, Bool, true, false, cond, Some, None, [], arith, refl}
 use Rattle.std.proofs.lemmas.List.{get_or_past}
 use Rattle.rc_model.specs.Model.{Body, no_segment, has_segment, to_unlost}
-use Rattle.rc_segment.specs.Lists.{segment_at}
+use Rattle.rc_config.specs.Lists.{segment_at}
 use Rattle.rc_headroll.specs.LogData.{LogData, log_of}
 
 -- such a segment is as one that was never opened

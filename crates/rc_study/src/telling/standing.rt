@@ -2,7 +2,7 @@
 
 use rc_backup::Held;
 use rc_master::Master;
-use rc_segment::Segment;
+use rc_config::Segment;
 use rc_story::JsonWriter;
 use rc_types::limits::MAX_HOSTS;
 use rc_types::{Member, Phase, ServerId};

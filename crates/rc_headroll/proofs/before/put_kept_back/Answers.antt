@@ -1,6 +1,6 @@
 use Rattle.std.proofs.Common.{sym, ap, ◌∙◌, Option}
-use Rattle.rc_segment.specs.declared.state.SegmentState.{SegmentState}
-use Rattle.rc_segment.specs.Lists.{segment_at}
+use Rattle.rc_config.specs.declared.state.SegmentState.{SegmentState}
+use Rattle.rc_config.specs.Lists.{segment_at}
 use Rattle.rc_headroll.specs.Before.{one_back}
 use Rattle.rc_headroll.proofs.GoingBack.{one_back-none}
 use Rattle.rc_headroll.proofs.before.put_kept_back.Goals as goal

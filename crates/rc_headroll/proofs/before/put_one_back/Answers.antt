@@ -1,7 +1,7 @@
 use Rattle.std.proofs.Common.{◌-◌, ◌<◌, length, get_or, arith}
 use Rattle.std.proofs.lemmas.List.{get_or_default}
 use Rattle.rc_model.specs.Segment.{Segment}
-use Rattle.rc_segment.specs.Lists.{segment_at}
+use Rattle.rc_config.specs.Lists.{segment_at}
 use Rattle.rc_headroll.proofs.GoingBack.{put_back-is, one_back-zero}
 use Rattle.rc_headroll.proofs.before.put_one_back.Goals as goal
 

@@ -1,5 +1,5 @@
 use Rattle.std.proofs.Common.{◌∙◌, arith}
-use Rattle.rc_segment.specs.Lists.{segment_at}
+use Rattle.rc_config.specs.Lists.{segment_at}
 use Rattle.rc_headroll.proofs.GoingBack.{other_back-then, other_back-last, other_back-zero}
 use Rattle.rc_headroll.proofs.before.put_other_back.Goals as goal
 use Rattle.rc_headroll.proofs.before.put_other_back.Goals.{else-seg-gt0-via-then-seg-gt0+else-seg-head, else-seg-gt0-via-else-seg-gt0}

@@ -1,6 +1,6 @@
 use Rattle.std.proofs.Common.{ℕ, List, sym, ap, ◌∙◌}
-use Rattle.rc_segment.specs.declared.state.SegmentState.{SegmentState}
-use Rattle.rc_segment.specs.Lists.{segment_at}
+use Rattle.rc_config.specs.declared.state.SegmentState.{SegmentState}
+use Rattle.rc_config.specs.Lists.{segment_at}
 use Rattle.rc_headroll.specs.Before.{other_back, others_back}
 use Rattle.rc_headroll.proofs.GoingBack.{others_back-push, others_back-none, nothing-left}
 use Rattle.rc_headroll.proofs.before.put_others_back.Goals as goal

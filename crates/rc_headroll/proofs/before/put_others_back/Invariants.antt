@@ -1,6 +1,6 @@
 use Rattle.std.proofs.Common.{◌≡◌, length}
 use Rattle.rc_headroll.specs.Before.{others_back}
-use Rattle.rc_segment.specs.Lists.{segment_at}
+use Rattle.rc_config.specs.Lists.{segment_at}
 use Rattle.rc_headroll.proofs.before.put_others_back.Given as goal
 
 -- once the others are put back too, all of them are

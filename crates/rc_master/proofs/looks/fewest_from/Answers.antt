@@ -1,5 +1,5 @@
 use Rattle.std.proofs.Common.{length, sym}
-use Rattle.rc_segment.specs.Lists.{segment_at}
+use Rattle.rc_config.specs.Lists.{segment_at}
 use Rattle.rc_master.proofs.OpenSegments.{below-first}
 use Rattle.rc_master.proofs.looks.fewest_from.Goals as goal
 

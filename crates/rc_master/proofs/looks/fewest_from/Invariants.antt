@@ -1,5 +1,5 @@
 use Rattle.std.proofs.Common.{◌≡◌}
-use Rattle.rc_segment.specs.Lists.{segment_at}
+use Rattle.rc_config.specs.Lists.{segment_at}
 use Rattle.rc_master.specs.Looks.{fewest_to}
 use Rattle.rc_master.proofs.looks.fewest_from.Given as goal
 

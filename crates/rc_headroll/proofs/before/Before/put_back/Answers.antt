@@ -1,5 +1,5 @@
 use Rattle.std.proofs.Common.{◌≡◌, ◌∙◌, ◌-◌, ℕ, ap, length}
-use Rattle.rc_segment.specs.Lists.{segment_at}
+use Rattle.rc_config.specs.Lists.{segment_at}
 use Rattle.rc_headroll.specs.Before.{one_back}
 use Rattle.rc_headroll.specs.contracts.before.Before.{the_view}
 use Rattle.rc_headroll.proofs.GoingBack.{put_back-all}

@@ -1,10 +1,10 @@
 use Rattle.std.proofs.Common.{◌≡◌, true, sym, ap, ◌∙◌}
 use Rattle.std.proofs.lemmas.Result.{IfOk-weaker}
 use Rattle.rc_model.specs.Model.{has_segment, Segment}
-use Rattle.rc_segment.specs.Lists.{segment_at}
+use Rattle.rc_config.specs.Lists.{segment_at}
 use Rattle.rc_headroll.specs.LogData.{log_of}
 use Rattle.rc_headroll.specs.contracts.log.LogHead.{the_view}
-use Rattle.rc_segment.proofs.SegmentTables.{segment_at-read}
+use Rattle.rc_config.proofs.SegmentTables.{segment_at-read}
 use Rattle.rc_headroll.proofs.LogChanges.{seg_place}
 use Rattle.rc_headroll.proofs.WatchLemmas.{IsMore, sound-watch, watched-woken, on-file-freed, on-file-found}
 use Rattle.rc_headroll.proofs.log.LogHead.file.Goals as goal

@@ -1,5 +1,5 @@
 use Rattle.std.proofs.Common.{◌≡◌, ◌+◌, ◌<◌, ◌≤◌, ℕ, true, false, length, sym, arith}
-use Rattle.rc_segment.specs.Lists.{segment_at}
+use Rattle.rc_config.specs.Lists.{segment_at}
 use Rattle.rc_headroll.specs.LogData.{log_of}
 use Rattle.rc_headroll.specs.contracts.log.LogHead.{the_view}
 use Rattle.rc_headroll.proofs.LogTables.{data-segments}

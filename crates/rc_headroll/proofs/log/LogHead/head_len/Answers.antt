@@ -1,7 +1,7 @@
 use Rattle.std.proofs.Common.{◌≡◌, length, ap, sym, arith}
 use Rattle.std.proofs.lemmas.Bool.{eqb-true}
 use Rattle.rc_model.specs.Segment.{Segment}
-use Rattle.rc_segment.proofs.SegmentTables.{head-none}
+use Rattle.rc_config.proofs.SegmentTables.{head-none}
 use Rattle.rc_headroll.proofs.log.LogHead.head_len.Goals as goal
 
 pub returns-then-is_empty : goal.returns-then-is_empty

@@ -1,9 +1,9 @@
 use Rattle.std.proofs.Common.{◌≡◌, true, length, sym, arith}
 use Rattle.rc_model.specs.Log.{has_segment}
-use Rattle.rc_segment.specs.Lists.{segment_at}
+use Rattle.rc_config.specs.Lists.{segment_at}
 use Rattle.rc_headroll.specs.LogData.{log_of}
 use Rattle.rc_headroll.specs.contracts.log.LogHead.{the_view}
-use Rattle.rc_segment.proofs.SegmentTables.{segment_at-read}
+use Rattle.rc_config.proofs.SegmentTables.{segment_at-read}
 use Rattle.rc_headroll.proofs.LogTables.{has-parts}
 use Rattle.rc_headroll.proofs.LogChanges.{seg_place}
 use Rattle.rc_headroll.proofs.KeptSegments.{keep-keeps, keep-kept, before_of-kept, sound-kept}

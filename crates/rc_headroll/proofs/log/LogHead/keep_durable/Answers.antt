@@ -1,6 +1,6 @@
 use Rattle.std.proofs.Common.{◌≡◌, ◌<◌, ◌≤◌, ℕ, true, length}
 use Rattle.rc_model.specs.Log.{durable_now}
-use Rattle.rc_segment.specs.Lists.{segment_at}
+use Rattle.rc_config.specs.Lists.{segment_at}
 use Rattle.rc_headroll.specs.LogData.{LogData, log_of}
 use Rattle.rc_headroll.specs.Soundness.{entries_to}
 use Rattle.rc_headroll.specs.contracts.log.LogHead.{the_view}

@@ -1,9 +1,9 @@
 use Rattle.std.proofs.Common.{◌≡◌, true, sym, ap, ◌∙◌}
 use Rattle.rc_model.specs.Log.{Log, has_segment}
 use Rattle.rc_headroll.specs.LogData.{log_of}
-use Rattle.rc_segment.specs.Resting.{wants_nothing}
+use Rattle.rc_config.specs.Resting.{wants_nothing}
 use Rattle.rc_headroll.specs.contracts.log.LogHead.{the_view}
-use Rattle.rc_segment.proofs.SegmentTables.{segment_at-read}
+use Rattle.rc_config.proofs.SegmentTables.{segment_at-read}
 use Rattle.rc_headroll.proofs.LogChanges.{seg_place}
 use Rattle.rc_headroll.proofs.log.LogHead.let_go.Goals as goal
 

@@ -1,11 +1,11 @@
 use Rattle.std.proofs.Common.{◌≡◌, ◌+◌, ◌-◌, ◌*◌, ◌<◌, ◌≤◌, ℕ, ◌++◌, Bool, List, map, min, length, take, drop, sym, ap, ◌∙◌, arith}
 use Rattle.rc_model.specs.Model.{MAX_SEGMENT, Entry, Segment, LogPlace, places_in}
-use Rattle.rc_segment.specs.Lists.{segment_at}
+use Rattle.rc_config.specs.Lists.{segment_at}
 use Rattle.rc_headroll.specs.LogData.{LogData, log_of}
 use Rattle.rc_headroll.specs.Soundness.{entries_to}
 use Rattle.rc_headroll.specs.Places.{log_place}
 use Rattle.rc_headroll.specs.contracts.log.LogHead.{the_view}
-use Rattle.rc_segment.proofs.SegmentTables.{segment_at-read}
+use Rattle.rc_config.proofs.SegmentTables.{segment_at-read}
 use Rattle.rc_headroll.proofs.LogTables.{data-segments}
 use Rattle.rc_headroll.proofs.DurableLogs.{entries_to-small, entries_to-more, sound_segment-read}
 use Rattle.rc_headroll.proofs.PlaceLemmas.{window-none, window-more}

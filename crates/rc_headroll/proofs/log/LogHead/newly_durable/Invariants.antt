@@ -1,6 +1,6 @@
 use Rattle.std.proofs.Common.{◌≡◌, take, drop, map}
 use Rattle.rc_model.specs.Log.{places_to}
-use Rattle.rc_segment.specs.Lists.{segment_at}
+use Rattle.rc_config.specs.Lists.{segment_at}
 use Rattle.rc_headroll.specs.Soundness.{entries_to}
 use Rattle.rc_headroll.specs.Places.{log_place}
 use Rattle.rc_headroll.proofs.log.LogHead.newly_durable.Given as goal

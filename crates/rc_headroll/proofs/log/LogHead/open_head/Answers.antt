@@ -3,7 +3,7 @@ use Rattle.std.specs.List.{list_any}
 use Rattle.std.specs.List.{All}
 use Rattle.std.proofs.lemmas.List.{length_push}
 use Rattle.rc_model.specs.Model.{Segment, Opening, LAST_SEGMENT, head_of}
-use Rattle.rc_segment.specs.Lists.{segment_at, newest_of}
+use Rattle.rc_config.specs.Lists.{segment_at, newest_of}
 use Rattle.rc_headroll.specs.LogData.{log_of}
 use Rattle.rc_headroll.specs.Soundness.{IsKnown}
 use Rattle.rc_headroll.specs.contracts.log.LogHead.{the_view}

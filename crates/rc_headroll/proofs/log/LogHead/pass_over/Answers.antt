@@ -1,6 +1,6 @@
 use Rattle.std.proofs.Common.{◌≡◌, true}
 use Rattle.rc_headroll.specs.LogData.{log_of, before_of}
-use Rattle.rc_segment.specs.Resting.{wants_nothing}
+use Rattle.rc_config.specs.Resting.{wants_nothing}
 use Rattle.rc_headroll.specs.Watching.{is_on_file}
 use Rattle.rc_headroll.specs.contracts.log.LogHead.{the_view}
 use Rattle.rc_headroll.proofs.WatchLemmas.{sound-watch, watched-let_go}

@@ -1,7 +1,7 @@
 use Rattle.std.proofs.Common.{◌≡◌, ◌-◌, ◌<◌, length, ap, ◌∙◌, arith, subst, sym}
 use Rattle.std.specs.List.{All}
 use Rattle.rc_model.specs.Segment.{Segment}
-use Rattle.rc_segment.specs.Lists.{previous_of}
+use Rattle.rc_config.specs.Lists.{previous_of}
 use Rattle.rc_headroll.specs.Soundness.{IsKnown}
 use Rattle.rc_headroll.proofs.log.LogHead.previous.Goals as goal
 

@@ -1,7 +1,7 @@
 use Rattle.std.proofs.Common.{◌≡◌, ℕ, length, take, List, refl, ap, ◌∙◌, sym, arith, length-take}
 use Rattle.std.proofs.lemmas.List.{with_items_is}
 use Rattle.rc_model.specs.Segment.{Segment}
-use Rattle.rc_segment.specs.Lists.{segment_at}
+use Rattle.rc_config.specs.Lists.{segment_at}
 use Rattle.rc_headroll.specs.Before.{mark_of, segments_before}
 use Rattle.rc_headroll.specs.contracts.log.LogHead.{the_view}
 use Rattle.rc_headroll.proofs.AliveLemmas.{found-none}

@@ -1,5 +1,5 @@
 use Rattle.std.proofs.Common.{length}
-use Rattle.rc_segment.specs.Lists.{segment_at}
+use Rattle.rc_config.specs.Lists.{segment_at}
 use Rattle.rc_headroll.specs.contracts.log.LogHead.{the_view}
 use Rattle.rc_headroll.proofs.StuckLemmas.{on-both}
 use Rattle.rc_headroll.proofs.WatchLemmas.{IsMore, sound-watch, watched-woken, roused-from}

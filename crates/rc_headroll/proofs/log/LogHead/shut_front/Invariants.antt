@@ -1,5 +1,5 @@
 use Rattle.std.proofs.Common.{◌≡◌, ◌<◌, ◌≤◌, ℕ, true}
-use Rattle.rc_segment.specs.Lists.{segment_at}
+use Rattle.rc_config.specs.Lists.{segment_at}
 use Rattle.rc_headroll.specs.Soundness.{entries_to}
 use Rattle.rc_headroll.proofs.log.LogHead.shut_front.Given as goal
 

@@ -3,7 +3,7 @@ use Rattle.std.specs.List.{list_any}
 use Rattle.std.proofs.lemmas.Bool.{eq-eqb, ne_eqb}
 use Rattle.rc_model.specs.Model.{same_id, Config}
 use Rattle.rc_headroll.specs.contracts.log.LogHead.{the_view}
-use Rattle.rc_segment.proofs.SegmentTables.{segment_at-read}
+use Rattle.rc_config.proofs.SegmentTables.{segment_at-read}
 use Rattle.rc_headroll.proofs.Stood.{stood-same, stood-kept}
 use Rattle.rc_headroll.proofs.log.LogHead.stood.Goals as goal
 
