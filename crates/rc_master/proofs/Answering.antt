@@ -4,7 +4,7 @@ use Rattle.std.proofs.Common.{is_some, option_map, refl, sym, ap}
 use Rattle.rc_model.specs.Model.{Entry, Ownership, PartState, is_to_answer, to_answer, after_answer, Master}
 use Rattle.rc_model.specs.Model.{durable_replayed, answers_part, follows_replay}
 use Rattle.rc_ownership.proofs.PartTables.{answered_in-none}
-use Rattle.rc_notices.specs.Telling.{told_of}
+use Rattle.rc_master.specs.Telling.{told_of}
 use Rattle.rc_master.specs.Rules.{did, or_still}
 
 mapped-none : (found : Option PartState) → None ≡ option_map (λ state. state.part.term) found → found ≡ None

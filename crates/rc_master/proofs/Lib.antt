@@ -9,3 +9,10 @@ pub mod Quiet
 pub mod Repeating
 pub mod Outer
 pub mod OpenSegments
+pub mod Outdated
+pub mod Beginnings
+pub mod Unknown
+pub mod SegmentLists
+pub mod Senders
+pub mod TaskPlaces
+pub mod TasksListed

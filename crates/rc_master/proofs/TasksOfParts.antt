@@ -1,7 +1,7 @@
 -- Notes beside other parts and tasks.
 use Rattle.std.proofs.Common.{ℕ, Bool, List, Option}
 use Rattle.rc_model.specs.Model.{Entry, Log, PartState, Task}
-use Rattle.rc_notices.specs.Tasks.{AreTasksOf}
+use Rattle.rc_master.specs.Tasks.{AreTasksOf}
 use Rattle.rc_master.specs.Notes.{AreNotes}
 
 -- the notes with these parts and tasks

@@ -6,3 +6,10 @@ pub mod Steps
 pub mod Rules
 pub mod Quiet
 pub mod Looks
+pub mod Keeper
+pub mod Telling
+pub mod Beginnings
+pub mod Sender
+pub mod Placed
+pub mod Reminders
+pub mod Tasks

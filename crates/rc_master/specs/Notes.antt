@@ -4,7 +4,7 @@ use Rattle.rc_types.specs.declared.entries.Entry.{Entry}
 use Rattle.rc_model.specs.Log.{Log, places_of, entries_of, is_writing}
 use Rattle.rc_model.specs.Ownership.{PartState}
 use Rattle.rc_model.specs.Master.{Task}
-use Rattle.rc_notices.specs.Tasks.{AreTasksOf}
+use Rattle.rc_master.specs.Tasks.{AreTasksOf}
 
 -- the entries of the log were noted, of each whether it was replayed, and how many of them are durable; what was
 -- handed out was noted; a log that is written to has a head, and each segment has replicas; and each part has its task

@@ -12,7 +12,7 @@ ghost use Rattle.rc_master.specs.Quiet.{IsQuiet};
 ghost use Rattle.rc_master.specs.View.{state_view, before_step, IsNoted};
 
 use crate::state::State;
-use rc_notices::{acknowledge, add_closes, add_frees, commit, ready};
+use crate::{acknowledge, add_closes, add_frees, commit, ready};
 use rc_types::{Message, Phase};
 use std::alloc::AllocError;
 

@@ -13,7 +13,7 @@ ghost use Rattle.rc_master.specs.View.{state_view, before_step, IsNoted, WereNot
 ghost use Rattle.rc_ownership.specs.Owner.{was_handed};
 
 use rc_headroll::LogHead;
-use rc_notices::{Task, add_append, refusal, roll};
+use crate::{Task, add_append, refusal, roll};
 use rc_ownership::Ownership;
 use rc_serverlist::ServerList;
 use rc_types::{Entry, Fault, MasterSetup, Message, ServerId};

@@ -12,7 +12,7 @@ ghost use Rattle.rc_master.specs.Quiet.{IsQuiet, is_quiet_message};
 ghost use Rattle.rc_master.specs.View.{state_view, now_of, before_step, IsNoted, IsAtStart};
 
 use crate::state::State;
-use rc_notices::{add_reminders, enlist, refusal};
+use crate::{add_reminders, enlist, refusal};
 use rc_types::{Addr, Body, Code, Fault, Message};
 use std::alloc::AllocError;
 

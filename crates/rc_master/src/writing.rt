@@ -10,7 +10,7 @@ ghost use Rattle.rc_master.specs.View.{state_view, before_step, IsNoted};
 ghost use Rattle.rc_master.specs.Numbers.{HasVersions};
 
 use crate::state::State;
-use rc_notices::{new_entry, read_ok, refusal};
+use crate::{new_entry, read_ok, refusal};
 use rc_types::limits::MAX_VALUE;
 use rc_types::{Fault, Message, Shared};
 use std::alloc::AllocError;

@@ -1,14 +1,14 @@
 use Rattle.std.proofs.Common.{◌≡◌, ◌++◌, Bool, List, is_some, OnOk, sym, ap, ◌∙◌, subst}
 use Rattle.std.specs.Prelude.{IfOk}
 use Rattle.rc_model.specs.Model.{ServerId, Entry, Message, Task, to_answer, after_answer}
-use Rattle.rc_notices.specs.Telling.{told_of}
+use Rattle.rc_master.specs.Telling.{told_of}
 use Rattle.rc_ownership.specs.Owner.{Owner, replayed_of}
 use Rattle.rc_master.specs.View.{state_view}
 use Rattle.rc_master.proofs.Quiet.{on_ok-then}
 use Rattle.rc_master.proofs.Outer.{durable-noted}
 use Rattle.rc_master.proofs.Answering.{answered-did, answered-sends, answered-state}
-use Rattle.rc_notices.specs.Tasks.{AreTasksOf}
-use Rattle.rc_notices.proofs.TasksOfParts.{tasks-answered}
+use Rattle.rc_master.specs.Tasks.{AreTasksOf}
+use Rattle.rc_master.proofs.TasksListed.{tasks-answered}
 use Rattle.rc_master.proofs.TasksOfParts.{notes-parts}
 use Rattle.rc_master.proofs.state.State.follow_replay.Goals as goal
 

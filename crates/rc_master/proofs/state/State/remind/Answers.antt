@@ -1,9 +1,9 @@
 use Rattle.std.proofs.Common.{◌++◌, List, sym, ap, ◌∙◌, subst}
 use Rattle.rc_model.specs.Model.{Message, Task, reminds}
 use Rattle.rc_headroll.specs.LogData.{log_of, before_of}
-use Rattle.rc_notices.specs.Sender.{sender}
-use Rattle.rc_notices.specs.Tasks.{AreTasksOf}
-use Rattle.rc_notices.proofs.Senders.{reminds-sender}
+use Rattle.rc_master.specs.Sender.{sender}
+use Rattle.rc_master.specs.Tasks.{AreTasksOf}
+use Rattle.rc_master.proofs.Senders.{reminds-sender}
 use Rattle.rc_master.specs.View.{state_view}
 use Rattle.rc_master.proofs.Notes.{replayed-same}
 use Rattle.rc_master.proofs.state.State.remind.Goals as goal

@@ -1,4 +1,4 @@
-use Rattle.rc_notices.proofs.TasksOfParts.{tasks-data}
+use Rattle.rc_master.proofs.TasksListed.{tasks-data}
 use Rattle.rc_master.proofs.TasksOfParts.{notes-parts}
 use Rattle.rc_master.proofs.state.State.take_data.Goals as goal
 

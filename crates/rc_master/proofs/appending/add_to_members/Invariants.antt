@@ -1,0 +1,14 @@
+use Rattle.std.proofs.Common.{◌≡◌, ◌++◌, ◌∷◌, [], drop}
+use Rattle.rc_model.specs.Model.{Append, to_ids, ids_of, not_lost}
+use Rattle.rc_master.specs.Beginnings.{IsBeginning}
+use Rattle.rc_master.proofs.appending.add_to_members.Given as goal
+
+-- the messages so far, and then those to the members that are left
+abbrev pub invariant-loop-member : goal.invariant-loop-member
+invariant-loop-member l = record {
+  rest :
+      l.sent.items
+      ++ to_ids l.own (ids_of (not_lost (drop l.member-index l.members))) (Append l.seg l.offset (l.entry ∷ []))
+      ≡ l.initial.sent.items ++ to_ids l.own (ids_of (not_lost l.members)) (Append l.seg l.offset (l.entry ∷ []));
+  begun : IsBeginning l.initial.sent.items l.sent.items;
+}
