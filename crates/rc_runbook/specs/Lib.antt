@@ -1,1 +1,2 @@
 pub mod Runbook
+pub mod Healing

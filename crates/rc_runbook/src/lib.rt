@@ -9,7 +9,17 @@
 
 mod asking;
 mod attempts;
+mod checking;
+mod course;
+mod deeds;
+mod healing;
+mod losses;
+mod rounds;
 mod seen;
+mod trying;
+mod views;
 
 pub use asking::{Due, dues};
+pub use deeds::{Deed, Dropped, Gone, Served, Why};
+pub use healing::{Healed, heal};
 pub use seen::Seen;

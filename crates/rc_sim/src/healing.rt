@@ -12,7 +12,7 @@ use crate::counted::Counted;
 use crate::outlets::read_all;
 use crate::simulating::write_answer;
 use crate::verdicts::{SimFault, Verdict};
-use rc_healing::{Deed, Gone, Healed, Served, Why};
+use rc_runbook::{Deed, Gone, Healed, Served, Why};
 use rc_reading::{ReadFault, Scenario, ScenarioEvent, read_scenario};
 use rc_runs::Run;
 use rc_study::{Left, saved_scenario};
@@ -82,7 +82,7 @@ fn answer_of<E: Write>(
             return Ok(Answer::nothing(alloc, verdict));
         }
     }
-    match rc_healing::heal(alloc, &setup, run.world().events(), power_cycle) {
+    match rc_runbook::heal(alloc, &setup, run.world().events(), power_cycle) {
         Ok(healed) => told(
             alloc,
             &setup,

@@ -10,9 +10,9 @@ use Rattle.rc_types.specs.declared.events.Event.{Event}
 use Rattle.rc_types.specs.declared.events.Event.TheVariants.{Start}
 use Rattle.rc_model.specs.Ids.{is_server}
 use Rattle.rc_model.specs.Backup.{is_kept}
-use Rattle.rc_healing.specs.declared.deeds.Served.{Served}
-use Rattle.rc_healing.specs.declared.deeds.Gone.{Gone}
-use Rattle.rc_healing.specs.declared.deeds.Dropped.{Dropped}
+use Rattle.rc_runbook.specs.declared.deeds.Served.{Served}
+use Rattle.rc_runbook.specs.declared.deeds.Gone.{Gone}
+use Rattle.rc_runbook.specs.declared.deeds.Dropped.{Dropped}
 
 -- it is the first key of the tablet, and its version
 abbrev pub is_first : Served → ℕ → ℕ → ℕ → Bool

@@ -2,7 +2,7 @@
 
 ghost use Rattle.std.specs.Prelude.{◌≡◌};
 ghost use Rattle.rc_model.specs.Ids.{is_server};
-ghost use Rattle.rc_healing.specs.Healing as spec;
+ghost use Rattle.rc_runbook.specs.Healing as spec;
 
 use crate::deeds::{Dropped, Gone, Served};
 use rc_types::{Addr, Body, Event, Message, ServerId};

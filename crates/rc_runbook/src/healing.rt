@@ -4,7 +4,7 @@ ghost use Rattle.std.specs.Prelude.{◌≡◌, ◌⊎◌, ◌≤◌, true, lengt
 ghost use Rattle.rc_types.specs.declared.faults.Fault.TheVariants.{OutOfMemory, BadEvent};
 ghost use Rattle.rc_world.specs.Happened.{AllHappen, opened, sent_in, with_events};
 ghost use Rattle.rc_world.specs.HostView.{IsWithinLimits};
-ghost use Rattle.rc_healing.specs.Healing.{are_shown, are_all_drops};
+ghost use Rattle.rc_runbook.specs.Healing.{are_shown, are_all_drops};
 
 use crate::checking::{are_all_drops, are_shown};
 use crate::course::Course;

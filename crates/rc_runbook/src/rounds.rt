@@ -4,7 +4,7 @@ use crate::course::Course;
 use crate::deeds::{Deed, Why};
 use crate::views::settle;
 use rc_attempts::numbers::{attempt_of, current_number};
-use rc_runbook::{Due, Seen, dues};
+use crate::{Due, Seen, dues};
 use rc_types::limits::MAX_HOSTS;
 use rc_types::{Event, Fault, Order, ServerId, Setup};
 use std::alloc::{AllocError, Global};
