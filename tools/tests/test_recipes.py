@@ -7,7 +7,7 @@ from pathlib import Path
 
 TOP = Path(__file__).resolve().parents[2]
 LIMIT = re.compile(r"\b1[,_]?024\b")
-FOLDERS = ("page/live", "tools/ramseg", "tools/story", "docs/schemas", "crates/rc_report/src", "crates/rc_story/src",
+FOLDERS = ("page/live", "tools/ramseg", "tools/story", "docs/schemas", "crates/rc_traces/src", "crates/rc_story/src",
            "crates/rc_study/src", "crates/rc_codec/src", "crates/rc_types/src")
 """Where the texts and the bytes of a kind of message stand."""
 

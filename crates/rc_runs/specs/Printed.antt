@@ -5,7 +5,7 @@ use Rattle.rc_types.specs.declared.faults.Code.TheVariants.{BadEvent}
 use Rattle.rc_model.specs.Report.{report}
 use Rattle.rc_reading.specs.declared.scenarios.Scenario.{Scenario}
 use Rattle.rc_reading.specs.Scenario.{reading}
-use Rattle.rc_report.specs.Ends.{stopped_line, error_line}
+use Rattle.rc_traces.specs.Ends.{stopped_line, error_line}
 use Rattle.rc_runs.specs.Runs.{Ended, scenario_run}
 
 abbrev pub stop_text : Code → Option ℕ → List ℕ

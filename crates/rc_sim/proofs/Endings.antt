@@ -13,7 +13,7 @@ use Rattle.rc_reading.specs.declared.scenarios.Scenario.{Scenario}
 use Rattle.rc_reading.specs.declared.scenarios.ScenarioEvent.{ScenarioEvent}
 use Rattle.rc_reading.specs.Scenario.{of_value, value_in}
 use Rattle.rc_traces.specs.Trace as trace
-use Rattle.rc_report.specs.Judged.{finding_of, text_of}
+use Rattle.rc_traces.specs.Judged.{finding_of, text_of}
 use Rattle.rc_runs.specs.Runs.{scenario_run, run_within}
 use Rattle.rc_world.specs.Happened.{Happened, replayed, sent_in}
 use Rattle.rc_draw.specs.Draw.{drawn_world}

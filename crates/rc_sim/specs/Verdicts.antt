@@ -10,13 +10,13 @@ use Rattle.rc_model.specs.Breach.{breach}
 use Rattle.rc_model.specs.Report.{report, count_line}
 use Rattle.rc_reading.specs.declared.scenarios.Scenario.{Scenario}
 use Rattle.rc_reading.specs.Scenario.{reading}
-use Rattle.rc_report.specs.Ends.{stopped_line, error_line}
+use Rattle.rc_traces.specs.Ends.{stopped_line, error_line}
 use Rattle.rc_runs.specs.Runs.{Ended, scenario_run, run_within}
 use Rattle.rc_traces.specs.Trace as trace
 use Rattle.rc_traces.specs.Written.{trace_text}
-use Rattle.rc_report.specs.declared.judging.Finding.{Finding}
-use Rattle.rc_report.specs.declared.judging.Finding.TheVariants as finding
-use Rattle.rc_report.specs.Judged.{finding_of, text_of}
+use Rattle.rc_traces.specs.declared.judging.Finding.{Finding}
+use Rattle.rc_traces.specs.declared.judging.Finding.TheVariants as finding
+use Rattle.rc_traces.specs.Judged.{finding_of, text_of}
 use Rattle.rc_world.specs.Happened.{Happened, sent_in}
 use Rattle.rc_draw.specs.Draw.{drawn_world, drawn}
 use Rattle.rc_wire.specs.Workload.{threads_setup, workload}

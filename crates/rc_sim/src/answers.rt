@@ -5,7 +5,7 @@ ghost use Rattle.rc_model.specs.Breach.{breach};
 ghost use Rattle.rc_model.specs.Report.{report};
 ghost use Rattle.rc_world.specs.Happened.{sent_in};
 ghost use Rattle.rc_world.specs.HostView.{IsWithinLimits};
-ghost use Rattle.rc_report.specs.Ends.{error_line};
+ghost use Rattle.rc_traces.specs.Ends.{error_line};
 ghost use Rattle.rc_reading.specs.Scenario.{reading};
 ghost use Rattle.rc_sim.specs.declared.verdicts.Verdict.TheVariants.{Bad, Stopped};
 ghost use Rattle.rc_sim.specs.Verdicts.{audited, verdict_of, printed_of, last_line, Comes, Judged};
@@ -15,7 +15,7 @@ use crate::scales::Scales;
 use crate::verdicts::{Output, Verdict};
 use rc_audit::audit;
 use rc_reading::{ReadFault, Scenario, read_scenario};
-use rc_report::{Finding, add_stopped, error_text, report_of};
+use rc_traces::{Finding, add_stopped, error_text, report_of};
 use rc_runs::Run;
 use rc_traces::write_trace;
 use rc_types::{Code, Message};
@@ -173,7 +173,7 @@ pub(crate) fn bad(alloc: Global, place: usize) -> Result<Answer, AllocError>
 pub fn judgement_of(alloc: Global, bytes: &mut Vec<u8>) -> Result<Answer, AllocError>
     ensures ok { IfOk result (λ answer. Judged bytes.old.items answer.verdict (string_bytes answer.text)) }
 {
-    let judged = rc_report::judge(alloc, bytes)?;
+    let judged = rc_traces::judge(alloc, bytes)?;
     let verdict = match judged.finding {
         Finding::Clean => Verdict::Clean,
         Finding::Breach => Verdict::Breach,

@@ -4,3 +4,5 @@ mod PartsFound
 mod Floats
 mod Outlined
 mod ListedCodes
+pub mod Joined
+mod Unentered

@@ -8,3 +8,5 @@ pub mod Parts
 pub mod Fields
 pub mod Whole
 pub mod Written
+pub mod Ends
+pub mod Judged

@@ -1,7 +1,7 @@
 //! The line that is kept, and how soon a run tells whether its report has it.
 
 use rc_audit::audit;
-use rc_report::{add_stopped, report_of};
+use rc_traces::{add_stopped, report_of};
 use rc_types::{Body, Code, Fault, Message};
 use std::alloc::Global;
 use std::slice;
