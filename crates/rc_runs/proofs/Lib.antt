@@ -7,3 +7,10 @@ pub mod Steppings
 pub mod Passes
 pub mod Scenes
 pub mod Stopped
+pub mod Gathering
+pub mod Played
+pub mod Counting
+pub mod StepsDrawn
+pub mod StoppedWorlds
+pub mod CutWorlds
+pub mod Keepings

@@ -16,3 +16,8 @@ pub mod Doubts
 pub mod Wrong
 pub mod RunHolds
 pub mod Steps
+pub mod Generator
+pub mod Words
+pub mod Draw
+pub mod Stops
+pub mod DrawClaims

@@ -9,7 +9,11 @@
 //! bytes; the definitions compute it, from the bytes to the report, and nothing of them runs.
 #![tactic(auto)]
 
+mod choosing;
+mod cutting;
 pub mod doubts;
+mod drawing;
+pub mod drawn_laws;
 pub mod epochs;
 pub mod first;
 pub mod laws;
@@ -18,13 +22,18 @@ mod mail;
 mod marks;
 mod onlookers;
 mod passing;
+mod playing;
 pub mod recoveries;
 pub mod rolls;
 mod runs;
+mod stopping;
+mod words;
 pub mod worked;
 pub mod wrong;
 
+pub use drawing::{draw, drawn_world};
 pub use mail::Mail;
 pub use onlookers::Onlooker;
 pub use passing::Passing;
 pub use runs::Run;
+pub use stopping::{cut_each, stops};

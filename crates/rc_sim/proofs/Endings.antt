@@ -16,7 +16,7 @@ use Rattle.rc_traces.specs.Trace as trace
 use Rattle.rc_traces.specs.Judged.{finding_of, text_of}
 use Rattle.rc_runs.specs.Runs.{scenario_run, run_within}
 use Rattle.rc_world.specs.Happened.{Happened, replayed, sent_in}
-use Rattle.rc_draw.specs.Draw.{drawn_world}
+use Rattle.rc_runs.specs.Draw.{drawn_world}
 use Rattle.rc_sim.specs.declared.verdicts.Verdict.{Verdict}
 use Rattle.rc_sim.specs.declared.verdicts.Verdict.TheVariants.{Stopped}
 use Rattle.rc_sim.specs.declared.verdicts.SimFault.{SimFault}

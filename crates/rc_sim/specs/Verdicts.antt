@@ -18,7 +18,7 @@ use Rattle.rc_traces.specs.declared.judging.Finding.{Finding}
 use Rattle.rc_traces.specs.declared.judging.Finding.TheVariants as finding
 use Rattle.rc_traces.specs.Judged.{finding_of, text_of}
 use Rattle.rc_world.specs.Happened.{Happened, sent_in}
-use Rattle.rc_draw.specs.Draw.{drawn_world, drawn}
+use Rattle.rc_runs.specs.Draw.{drawn_world, drawn}
 use Rattle.rc_wire.specs.Workload.{threads_setup, workload}
 use Rattle.rc_wire.specs.Worked.{AllHaveWorked, SomeWasStuck}
 use Rattle.rc_sim.specs.declared.verdicts.Output.{Output}

@@ -64,7 +64,7 @@ fn events_answer(
     requires few { length events.now ≤ MAX_EVENTS }
     ensures ok { IfOk result (λ answer. CutEach (length events.now) answer.verdict (string_bytes answer.text)) }
 {
-    match rc_draw::cut_each(alloc, setup, hosts, events) {
+    match rc_runs::cut_each(alloc, setup, hosts, events) {
         Ok(breaches) => cuts_answer(alloc, 3 * events.len(), breaches),
         Err(_) => Err(AllocError),
     }

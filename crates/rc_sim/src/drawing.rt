@@ -12,7 +12,7 @@ use crate::answers::{Answer, ended};
 use crate::counted::Counted;
 use crate::simulating::write_answer;
 use crate::verdicts::{Output, SimFault, Verdict};
-use rc_draw::drawn_world;
+use rc_runs::drawn_world;
 use std::alloc::{AllocError, Global};
 use std::io::Write;
 
@@ -80,7 +80,7 @@ pub fn cut_powers<W: Write>(
 fn stops_answer(alloc: Global, seed: u64, steps: usize) -> Result<Answer, AllocError>
     ensures ok { IfOk result (λ answer. PowerCut seed steps answer.verdict (string_bytes answer.text)) }
 {
-    match rc_draw::stops(alloc, seed, steps) {
+    match rc_runs::stops(alloc, seed, steps) {
         Ok((cuts, breaches)) => cuts_answer(alloc, cuts, breaches),
         Err(_) => Err(AllocError),
     }

@@ -26,7 +26,7 @@ pub use counted::Counted;
 pub use drawing::{cut_powers, fuzz};
 pub use exploring::explore;
 pub use narrating::Telling;
-pub use rc_draw::{draw, stops};
+pub use rc_runs::{draw, stops};
 pub use seeking::{Search, seek};
 pub use simulating::simulate;
 pub use surveying::survey;

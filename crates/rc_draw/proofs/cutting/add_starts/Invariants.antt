@@ -1,8 +1,0 @@
-use Rattle.std.proofs.Common.{◌≡◌, ◌++◌}
-use Rattle.rc_world.specs.Happened.{replayed}
-use Rattle.rc_draw.specs.Stops.{gathered, start_of}
-use Rattle.rc_draw.proofs.cutting.add_starts.Given as goal
-
--- the hosts so far
-abbrev pub invariant-loop-host : goal.invariant-loop-host
-invariant-loop-host l = l.scene.items ≡ l.initial.scene.items ++ gathered (start_of l.keeping (replayed l.world)) l.host

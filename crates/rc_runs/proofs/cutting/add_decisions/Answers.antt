@@ -1,0 +1,15 @@
+use Rattle.std.proofs.Common.{◌++◌, ◌∙◌, ap}
+use Rattle.rc_world.specs.Happened.{replayed}
+use Rattle.rc_runs.specs.Stops.{gathered, decision_of, decisions_of}
+use Rattle.rc_runs.proofs.Gathering.{begins, goes_on}
+use Rattle.rc_runs.proofs.cutting.add_decisions.Goals as goal
+
+pub loop-host-init : goal.loop-host-init
+loop-host-init c = begins (decisions_of (replayed c.args.world.now)) c.args.scene.now.items
+
+pub loop-host-preserved : goal.loop-host-preserved
+loop-host-preserved c =
+    goes_on (decisions_of (replayed c.args.world.now)) c.loop-host.host c.args.scene.now.items c.loop-host.scene.items
+    c.add_decisions_of.new.scene.items
+    c.loop-host.invariant
+    (c.in_ok-add_decisions_of.ensures ∙ ap (λ n. c.loop-host.scene.items ++ gathered (decision_of c.loop-host.host) n) c.newest.ensures)
