@@ -33,7 +33,7 @@ class Explaining(unittest.TestCase):
         self.assertEqual(sorted(Words().names("rules")), rules)
 
     def test_the_counted_rules_are_those_of_explore(self) -> None:
-        source = (TOP / "crates/rc_survey/src/rules.rt").read_text()
+        source = (TOP / "crates/rc_study/src/rules.rt").read_text()
         names = re.findall(r'^    "([a-z-]+)",$', source, re.M)
         self.assertEqual(list(Words().counted), names)
         self.assertLessEqual(set(names), set(explain(None).text.split()))

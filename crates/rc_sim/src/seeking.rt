@@ -16,7 +16,7 @@ use crate::simulating::write_answer;
 use crate::surveying::tell_seed;
 use crate::verdicts::{SimFault, Verdict};
 use rc_study::{Exploration, Options, saved_events};
-use rc_survey::Goal;
+use rc_study::Goal;
 use rc_types::{Event, EventKind, Kind, Message, Seq};
 use std::alloc::{AllocError, Global};
 use std::io::Write;

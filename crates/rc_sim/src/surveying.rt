@@ -15,7 +15,7 @@ use crate::simulating::write_answer;
 use crate::verdicts::{SimFault, Verdict};
 use rc_audit::audit;
 use rc_study::{Exploration, Options};
-use rc_survey::Sum;
+use rc_study::Sum;
 use rc_world::World;
 use std::alloc::{AllocError, Global};
 use std::io::Write;

@@ -5,10 +5,27 @@
 //! each call is safe and ends: which events are drawn, how small a scenario becomes and what a story has is tested.
 #![tactic(auto)]
 
+mod answers;
+mod backups;
+mod coordinators;
+mod counted_lines;
+mod counts;
 mod exploring;
+mod goals;
+mod logs;
+mod masters;
+mod recoveries;
+mod replicas;
+mod rules;
+mod servers;
 mod shrinking;
+mod surveying;
 mod telling;
 
+pub use counted_lines::Sum;
+pub use counts::Counts;
 pub use exploring::{Exploration, Options};
+pub use goals::Goal;
 pub use shrinking::{Left, saved_events, saved_scenario, shrink};
+pub use surveying::Survey;
 pub use telling::{Played, story_json};

@@ -5,7 +5,7 @@ use crate::exploring::mail::Mail;
 use crate::exploring::options::Options;
 use crate::exploring::roster::Roster;
 use rand_pcg::Pcg32;
-use rc_survey::{Counts, Goal, Survey};
+use crate::{Counts, Goal, Survey};
 use rc_types::{Addr, Body, Event, Fault, Order, Seq, ServerId, Shared};
 use rc_world::World;
 use std::alloc::Global;
