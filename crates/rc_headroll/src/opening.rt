@@ -11,8 +11,7 @@ ghost use Rattle.rc_headroll.specs.LogData.{log_of, before_of};
 ghost use Rattle.rc_headroll.specs.Soundness.{IsKnown};
 
 use crate::log::LogHead;
-use rc_config::{MAX_MEMBERS, choose};
-use rc_config::Segment;
+use rc_config::{MAX_MEMBERS, Segment, choose};
 use rc_serverlist::ServerList;
 use rc_types::limits::LAST_SEGMENT;
 use rc_types::{Entry, Fault, Phase, ServerId, Shared};

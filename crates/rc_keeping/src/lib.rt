@@ -18,7 +18,9 @@
 //! To be read in this order. Journals: `specs/Keeping.antt` and `keeping`, which works are kept; `specs/Spelling.antt`,
 //! the bytes; `specs/Claims.antt`, what is promised of a journal; `works`, `records` and `journals`, the calls; `laws`.
 //! Saves: `specs/Saved.antt`, the bytes; `specs/Order.antt`, what all saves have in common; `specs/SaveClaims.antt`,
-//! what is promised; `saves`, the two calls; `save_laws`.
+//! what is promised; `saves`, the two calls; `save_laws`. Files by which a process comes back, a save and behind it a
+//! record for each work that was written down since: `specs/Files.antt`, the bytes, and what a crash leaves of them;
+//! `specs/Standing.antt`, for which works of a life a file stands, and which node is made of it; `files`, the laws.
 #![tactic(auto)]
 
 mod book_putting;

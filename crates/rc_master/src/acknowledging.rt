@@ -13,7 +13,7 @@ use std::alloc::{AllocError, Global};
 
 /// Places that all members have are durable for good, and each client's write among those that have become so
 /// is acknowledged.
-pub fn acknowledge(
+pub(crate) fn acknowledge(
     alloc: Global,
     log: &mut LogHead,
     ownership: &mut Ownership,

@@ -47,7 +47,7 @@ fn add_to_members(
 
 /// Adds an Append of an entry that is to be the head's next one to each of the head's members that
 /// isn't lost.
-pub fn add_append(
+pub(crate) fn add_append(
     alloc: Global,
     log: &LogHead,
     entry: &Entry,
@@ -90,7 +90,7 @@ fn write_ok(own: ServerId, place: &Place<'_>) -> Message
 }
 
 /// Acknowledges each client's write among the places that have become durable.
-pub fn add_write_oks(
+pub(crate) fn add_write_oks(
     alloc: Global,
     log: &LogHead,
     sent: &mut Vec<Message>,

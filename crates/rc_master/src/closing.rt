@@ -38,7 +38,7 @@ fn add_closes_of(
 
 /// Adds a Close of the old head, with its final length, to each of its members to which none was sent
 /// under their epoch, lost or not.
-pub fn add_closes(log: &LogHead, sent: &mut Vec<Message>) -> Result<(), AllocError>
+pub(crate) fn add_closes(log: &LogHead, sent: &mut Vec<Message>) -> Result<(), AllocError>
     requires { 1 < (log_of log.now).head }
     ensures ok { OnOk result (sent.new.items ≡ sent.old.items ++ to_ids log.now.own
         (ids_of (filter (is_unclosed (old_head_of (log_of log.now))) (old_head_of (log_of log.now)).config.members))
@@ -79,7 +79,7 @@ fn add_frees_of(log: &LogHead, seg: u16, sent: &mut Vec<Message>) -> Result<(), 
 }
 
 /// Adds a Free of each of these segments to each of its members that isn't lost.
-pub fn add_frees(log: &LogHead, segs: &[u16], sent: &mut Vec<Message>) -> Result<(), AllocError>
+pub(crate) fn add_frees(log: &LogHead, segs: &[u16], sent: &mut Vec<Message>) -> Result<(), AllocError>
     ensures ok { OnOk result (sent.new.items ≡ sent.old.items ++ frees_segments (log_of log.now) segs.now) }
     ensures begun { OnErr result (IsBeginning sent.old.items sent.new.items) }
 {

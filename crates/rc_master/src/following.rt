@@ -11,8 +11,10 @@ ghost use Rattle.rc_master.specs.Rules.{tells_phase, tells_ready};
 ghost use Rattle.rc_master.specs.Quiet.{IsQuiet};
 ghost use Rattle.rc_master.specs.View.{state_view, before_step, IsNoted};
 
+use crate::acknowledging::acknowledge;
+use crate::closing::{add_closes, add_frees};
+use crate::single::{commit, ready};
 use crate::state::State;
-use crate::{acknowledge, add_closes, add_frees, commit, ready};
 use rc_types::{Message, Phase};
 use std::alloc::AllocError;
 

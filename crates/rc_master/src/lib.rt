@@ -1,7 +1,15 @@
-//! A master: it keeps a log, owns ranges of tables, takes clients' writes and reads, and recovers
-//! parts of crashed masters' logs. "The master" in `docs/PROTOCOL.md` has its rules; the words of the
-//! contracts are those of `rc_model`'s `Master`, `Writing`, `ListRules`, `FollowUps`, `MasterStep`
-//! and `MasterTick`.
+//! A master: it keeps a log, owns ranges of tables, takes clients' writes and reads, and recovers parts of crashed
+//! masters' logs. "The master" in `docs/PROTOCOL.md` has its rules.
+//!
+//! What it sends comes of lists, each made by one call, which adds them to the others and changes nothing else: Places
+//! and Appends (`placing`, `appending`), Closes and Frees (`closing`), what is sent again (`again`, `lacking`,
+//! `copies`), what a Tick reminds of (`timer`, `reminding`), the single messages (`single`). By log and notes together
+//! it acknowledges what has become durable (`acknowledging`), gives a client's write its version (`versions`), tells
+//! that a recovered part is durable (`told_parts`), and rolls to a new head whose digest leaves out the segments that
+//! are dead (`rolling`, `dead`).
+//!
+//! The words of the contracts are those of `rc_model`'s `Master`, `Heads`, `Versions`, `Writing`, `ListRules`,
+//! `FollowUps`, `MasterStep` and `MasterTick`.
 #![tactic(auto)]
 
 mod acknowledging;
@@ -30,14 +38,4 @@ mod told_parts;
 mod versions;
 mod writing;
 
-pub use acknowledging::acknowledge;
-pub use appending::add_append;
-pub use closing::{add_closes, add_frees};
 pub use master::Master;
-pub use placing::{add_head_places, add_places};
-pub use rolling::roll;
-pub use single::{commit, enlist, read_ok, ready, refusal};
-pub use tasks::{Task, add_fetches, attempt_of};
-pub use timer::add_reminders;
-pub use told_parts::tell_part;
-pub use versions::new_entry;

@@ -11,8 +11,8 @@ ghost use Rattle.rc_config.specs.Concerned.{is_concerned};
 ghost use Rattle.rc_headroll.specs.Soundness.{IsRoused};
 ghost use Rattle.rc_master.specs.View.{state_view, before_step, IsNoted, IsAtStart};
 
+use crate::placing::{add_head_places, add_places};
 use crate::state::State;
-use crate::{add_head_places, add_places};
 use rc_serverlist::ServerList;
 use rc_types::{Fault, Message, ServerId};
 use std::alloc::AllocError;

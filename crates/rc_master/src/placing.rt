@@ -76,7 +76,7 @@ fn add_to_members(
 }
 
 /// Adds a Place of the head to each of its members.
-pub fn add_head_places(
+pub(crate) fn add_head_places(
     alloc: Global,
     log: &LogHead,
     sent: &mut Vec<Message>,
@@ -91,7 +91,7 @@ pub fn add_head_places(
 }
 
 /// Adds a Place of a segment to each of these ids, closed where the segment is shut.
-pub fn add_places(
+pub(crate) fn add_places(
     alloc: Global,
     log: &LogHead,
     seg: u16,

@@ -5,7 +5,7 @@ ghost use Rattle.rc_model.specs.MasterStep.{task_of, begins_task, takes_plan};
 ghost use Rattle.rc_master.specs.View.{state_view, before_step, IsNoted};
 
 use crate::state::State;
-use crate::{Task, add_fetches};
+use crate::tasks::{Task, add_fetches};
 use rc_types::{Message, Part, PlanRow, Seq, ServerId, TryClone};
 use std::alloc::AllocError;
 

@@ -24,7 +24,7 @@ use std::alloc::Global;
 ///
 /// F6 exactly where the head is the last segment, else F4 exactly where `choose` finds too few: then nothing has
 /// changed. Else only memory can be refused (F1).
-pub fn roll(
+pub(crate) fn roll(
     alloc: Global,
     servers: &ServerList,
     free: bool,

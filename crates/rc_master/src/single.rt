@@ -47,14 +47,14 @@ pub(crate) fn to_outside(own: ServerId, body: Body) -> Message
 }
 
 /// The refusal of a client's demand.
-pub fn refusal(own: ServerId, fault: Fault) -> Message
+pub(crate) fn refusal(own: ServerId, fault: Fault) -> Message
     ensures { result ≡ refuses own fault }
 {
     to_outside(own, Body::Refused { code: fault.code() })
 }
 
 /// The answer to a read, with the version and the value that were found.
-pub fn read_ok(own: ServerId, table: u32, key: u64, found: (u64, Option<Shared<u8>>)) -> Message
+pub(crate) fn read_ok(own: ServerId, table: u32, key: u64, found: (u64, Option<Shared<u8>>)) -> Message
     ensures { result ≡ to_outside own (ReadOk table key found.0 found.1) }
 {
     let (version, value) = found;
@@ -70,21 +70,21 @@ pub fn read_ok(own: ServerId, table: u32, key: u64, found: (u64, Option<Shared<u
 }
 
 /// The message that the master can take tablets.
-pub fn ready(own: ServerId) -> Message
+pub(crate) fn ready(own: ServerId) -> Message
     ensures { result ≡ to_coordinator own Ready }
 {
     to_coordinator(own, Body::Ready)
 }
 
 /// The message that the server is there.
-pub fn enlist(own: ServerId) -> Message
+pub(crate) fn enlist(own: ServerId) -> Message
     ensures { result ≡ to_coordinator own Enlist }
 {
     to_coordinator(own, Body::Enlist)
 }
 
 /// The Commit of a segment's present epoch.
-pub fn commit(log: &LogHead, seg: u16) -> Message
+pub(crate) fn commit(log: &LogHead, seg: u16) -> Message
     requires { has_segment (log_of log.now) seg ≡ true }
     ensures { result ≡ to_coordinator log.now.own (Commit seg ((log_of log.now).segments seg).config.epoch) }
 {
@@ -96,7 +96,7 @@ pub fn commit(log: &LogHead, seg: u16) -> Message
 }
 
 /// The message that the part of this term is durable, in the attempt in which it was given.
-pub fn recovered(own: ServerId, ownership: &Ownership, tasks: &[Task], term: u32) -> Message
+pub(crate) fn recovered(own: ServerId, ownership: &Ownership, tasks: &[Task], term: u32) -> Message
     requires { AreTasksOf ownership.now.own.parts tasks.now }
     ensures { result ≡ to_coordinator own (Recovered (attempt_of term tasks.now) term) }
 {

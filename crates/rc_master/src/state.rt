@@ -12,8 +12,11 @@ ghost use Rattle.rc_master.specs.Quiet.{IsQuiet};
 ghost use Rattle.rc_master.specs.View.{state_view, before_step, IsNoted, WereNoted};
 ghost use Rattle.rc_ownership.specs.Owner.{was_handed};
 
+use crate::appending::add_append;
+use crate::rolling::roll;
+use crate::single::refusal;
+use crate::tasks::Task;
 use rc_headroll::LogHead;
-use crate::{Task, add_append, refusal, roll};
 use rc_ownership::Ownership;
 use rc_serverlist::ServerList;
 use rc_types::{Entry, Fault, MasterSetup, Message, ServerId};

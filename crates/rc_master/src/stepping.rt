@@ -11,8 +11,9 @@ ghost use Rattle.rc_master.specs.Numbers.{HasVersions};
 ghost use Rattle.rc_master.specs.Quiet.{IsQuiet, is_quiet_message};
 ghost use Rattle.rc_master.specs.View.{state_view, now_of, before_step, IsNoted, IsAtStart};
 
+use crate::single::{enlist, refusal};
 use crate::state::State;
-use crate::{add_reminders, enlist, refusal};
+use crate::timer::add_reminders;
 use rc_types::{Addr, Body, Code, Fault, Message};
 use std::alloc::AllocError;
 

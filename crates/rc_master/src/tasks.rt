@@ -16,7 +16,7 @@ use std::marker::Model;
 
 /// A part that a master is to recover: in which attempt, of whose log, and in which rows that log is.
 #[derive(Drop)]
-pub struct Task {
+pub(crate) struct Task {
     attempt: u32,
     master: ServerId,
     rows: Seq<PlanRow>,
@@ -33,7 +33,7 @@ impl Model for Task {
 
 impl Task {
     /// The task of this part, in this attempt of the crashed master, whose log is in these rows.
-    pub fn new(attempt: u32, master: ServerId, rows: Seq<PlanRow>, part: Part) -> Task
+    pub(crate) fn new(attempt: u32, master: ServerId, rows: Seq<PlanRow>, part: Part) -> Task
         ensures { result ≡ task_of attempt master rows part }
     {
         Task {
@@ -44,29 +44,22 @@ impl Task {
         }
     }
 
-    /// The attempt in which it was given.
-    pub fn attempt(&self) -> u32
-        ensures { result ≡ self.now.attempt }
-    {
-        self.attempt
-    }
-
     /// The part.
-    pub fn part(&self) -> Part
+    pub(crate) fn part(&self) -> Part
         ensures { result ≡ self.now.part }
     {
         self.part
     }
 
     /// The rows of the crashed master's log.
-    pub fn rows(&self) -> &[PlanRow]
+    pub(crate) fn rows(&self) -> &[PlanRow]
         ensures { result.now ≡ self.now.rows }
     {
         self.rows.as_slice()
     }
 
     /// Of each row its segment and its holder.
-    pub fn holders(&self, alloc: Global) -> Result<Vec<(u16, ServerId)>, AllocError>
+    pub(crate) fn holders(&self, alloc: Global) -> Result<Vec<(u16, ServerId)>, AllocError>
         ensures { IfOk result (λ names. names.items ≡ map (λ row. (row.seg, row.holder)) self.now.rows) }
     {
         self.rows()
@@ -101,7 +94,7 @@ fn attempt_at(tasks: &[Task], place: usize) -> u32
 }
 
 /// The attempt in which the part of this term was given, 0 where none was: by one look-up of the part.
-pub fn attempt_of(term: u32, ownership: &Ownership, tasks: &[Task]) -> u32
+pub(crate) fn attempt_of(term: u32, ownership: &Ownership, tasks: &[Task]) -> u32
     requires { AreTasksOf ownership.now.own.parts tasks.now }
     ensures { result ≡ attempt_of term tasks.now }
 {
@@ -112,7 +105,7 @@ pub fn attempt_of(term: u32, ownership: &Ownership, tasks: &[Task]) -> u32
 }
 
 /// Adds a Fetch of each row of a task, to its holder.
-pub fn add_fetches(own: ServerId, task: &Task, sent: &mut Vec<Message>) -> Result<(), AllocError>
+pub(crate) fn add_fetches(own: ServerId, task: &Task, sent: &mut Vec<Message>) -> Result<(), AllocError>
     ensures ok { OnOk result (sent.new.items ≡ sent.old.items ++ map (fetch_of own task.now) task.now.rows) }
     ensures begun { OnErr result (IsBeginning sent.old.items sent.new.items) }
 {

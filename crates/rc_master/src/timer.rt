@@ -17,7 +17,7 @@ use rc_types::Message;
 use std::alloc::{AllocError, Global};
 
 /// Adds all that was not answered, but for what the list rules have just sent.
-pub fn add_reminders(
+pub(crate) fn add_reminders(
     alloc: Global,
     log: &LogHead,
     ownership: &Ownership,

@@ -13,7 +13,7 @@ use rc_types::{Message, ServerId};
 use std::alloc::AllocError;
 
 /// The end of the first part that is complete is told, once. The answer says whether there was one.
-pub fn tell_part(
+pub(crate) fn tell_part(
     own: ServerId,
     ownership: &mut Ownership,
     tasks: &[Task],

@@ -8,7 +8,7 @@ use rc_types::{Entry, Shared, TryClone};
 use std::alloc::{AllocError, Global};
 
 /// The entry of a client's write: its version is one above the greatest of its key under its term that was noted.
-pub fn new_entry(
+pub(crate) fn new_entry(
     alloc: Global,
     ownership: &Ownership,
     term: u32,

@@ -9,8 +9,9 @@ ghost use Rattle.rc_headroll.specs.LogData.{log_of};
 ghost use Rattle.rc_master.specs.View.{state_view, before_step, IsNoted};
 ghost use Rattle.rc_master.specs.Numbers.{HasVersions};
 
+use crate::single::{read_ok, refusal};
 use crate::state::State;
-use crate::{new_entry, read_ok, refusal};
+use crate::versions::new_entry;
 use rc_types::limits::MAX_VALUE;
 use rc_types::{Fault, Message, Shared};
 use std::alloc::AllocError;

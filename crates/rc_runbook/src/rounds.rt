@@ -3,8 +3,8 @@
 use crate::course::Course;
 use crate::deeds::{Deed, Why};
 use crate::views::settle;
-use rc_attempts::numbers::{attempt_of, current_number};
 use crate::{Due, Seen, dues};
+use rc_attempts::numbers::{attempt_of, current_number};
 use rc_types::limits::MAX_HOSTS;
 use rc_types::{Event, Fault, Order, ServerId, Setup};
 use std::alloc::{AllocError, Global};

@@ -8,11 +8,11 @@ ghost use Rattle.rc_world.specs.Happened.{replayed};
 ghost use Rattle.rc_runs.specs.Draw.{beginning, played, begun, tried, drawn_step, drawn_from, drawn_world, drawn};
 ghost use Rattle.rc_runs.specs.Generator.{generator};
 
+use crate::Run;
 use crate::choosing::event_of;
 use crate::playing::{drawing_setup, play, settled};
 use crate::words::{Words, generator_of};
 use rc_reading::ScenarioEvent;
-use crate::Run;
 use rc_types::{Event, Fault, Order, Seq, ServerId, copied};
 use rc_world::World;
 use std::alloc::{AllocError, Global};

@@ -5,8 +5,13 @@
 //! what a pass leaves alone; `mail`, the calls, over `marks` and `lines`. A `Run` takes events in a world.
 //!
 //! What the run of a scenario is, and what is printed of it, are definitions: `specs/Runs.antt`, `specs/Printed.antt`.
-//! `laws` are laws on them. All other modules are worked scenarios, whose contracts say what is printed for these
-//! bytes; the definitions compute it, from the bytes to the report, and nothing of them runs.
+//! `laws` are laws on them. `doubts`, `epochs`, `first`, `recoveries`, `rolls`, `worked` and `wrong` are worked
+//! scenarios, whose contracts say what is printed for these bytes; the definitions compute it, from the bytes to the
+//! report, and nothing of them runs.
+//!
+//! Drawn events are worlds whose events come from a seed. After a beginning that is the same for all, three words of a
+//! generator choose each event (`drawing`, over `words`, `choosing` and `playing`). And there is power failure after
+//! each event of such a world (`stopping`, over `cutting`). `drawn_laws` are the laws of both.
 #![tactic(auto)]
 
 mod choosing;

@@ -4,8 +4,8 @@ ghost use Rattle.std.specs.Prelude.{◌≡◌, OnOk};
 ghost use Rattle.rc_world.specs.Happened.{replayed};
 ghost use Rattle.rc_runs.specs.Draw.{drawing_setup, settled, played};
 
-use rc_reading::{Hosts, Kinds, ScenarioEvent};
 use crate::Run;
+use rc_reading::{Hosts, Kinds, ScenarioEvent};
 use rc_types::{Fault, Seq, Setup};
 use std::alloc::{AllocError, Global};
 

@@ -8,13 +8,13 @@ ghost use Rattle.rc_world.specs.HostView.{IsWithinLimits};
 ghost use Rattle.rc_runs.specs.Draw.{drawn, played};
 ghost use Rattle.rc_runs.specs.Stops.{cut_world, breaks, breaches_at, breaches_below, breaches_of};
 
+use crate::Run;
 use crate::choosing::HOSTS;
 use crate::cutting::{Keeping, cut_scene};
 use crate::drawing::draw;
 use crate::playing::{drawing_setup, play};
 use rc_audit::audit;
 use rc_reading::ScenarioEvent;
-use crate::Run;
 use rc_types::{Event, Fault, Setup, TryClone};
 use std::alloc::{AllocError, Global};
 

@@ -10,9 +10,9 @@ ghost use Rattle.rc_traces.specs.Judged.{finding_of, finding_in, text_of};
 
 use crate::ends::error_text;
 use crate::reports::judgement_of;
+use crate::{read_outline, read_trace};
 use rc_audit::{audit, has_recovery};
 use rc_reading::ReadFault;
-use crate::{read_outline, read_trace};
 use rc_types::{Breach, Message};
 use std::alloc::{AllocError, Global};
 

@@ -1,5 +1,8 @@
-//! Traces: lists of messages as text, with what a judge asks of each. "Trace" in `docs/FORMATS.md` has the
-//! members.
+//! Traces: lists of messages as text, with what a judge asks of each. "Trace" in `docs/FORMATS.md` has the members.
+//!
+//! And what is printed of a list of messages: a line for each message of six kinds, counts, and what the audit found
+//! (`reports`, over `lines`, `counts` and `audited`). A trace is judged, from its bytes to what is printed (`judging`).
+//! "Report" in `docs/FORMATS.md` has the text of each line.
 #![tactic(auto)]
 
 mod audited;
