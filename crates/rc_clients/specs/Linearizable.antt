@@ -1,5 +1,5 @@
--- Linearizability, judged by versions. The words are those of `rc_promises`'s page: operation, invocation, response, the
--- order of time; here they are said of a history that clients wrote down, in place of messages.
+-- Linearizability, judged by versions. The words are those of `rc_promises`'s page: operation, invocation, response,
+-- the order of time; here they are said of a history that clients wrote down, in place of messages.
 --
 -- The store names with each answer a version of the key. So which linearization is meant need not be looked for: it is
 -- the order of versions, a read behind the write of its version. A history is linearizable by versions where this order

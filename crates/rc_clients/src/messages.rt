@@ -1,6 +1,6 @@
-//! The history of the messages that were sent in a run, by the definitions of `rc_promises`. A write of the history is an
-//! entry when it was first sent, with the request that it comes of; a Write that was delivered twice may be the request
-//! of two of them. A read is a ReadOk that is confirmed; other reads, and refusals, are no operations.
+//! The history of the messages that were sent in a run, by the definitions of `rc_promises`. A write of the history
+//! is an entry when it was first sent, with the request that it comes of; a Write that was delivered twice may be the
+//! request of two of them. A read is a ReadOk that is confirmed; other reads, and refusals, are no operations.
 
 use crate::births::{Birth, Births};
 use crate::events::{ClientEvent, Request};

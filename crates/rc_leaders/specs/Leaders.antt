@@ -11,8 +11,8 @@ use Rattle.rc_model.specs.World.{NodeName, TheCoordinator, same_node}
 use Rattle.rc_history.specs.Nodes.{node_can}
 use Rattle.rc_history.specs.Events.{StartsWith}
 use Rattle.rc_history.specs.Lives.{Life, new_life, life_next, remade}
-use Rattle.rc_history.specs.Processes.{Deed, Processes, Happening, Takes, Syncs, Leaves, Falls, new_processes, May, after}
-use Rattle.rc_history.specs.Processes.{IsAddressed, IsBrought, deed_of}
+use Rattle.rc_history.specs.Processes.{Deed, Processes, Happening, Takes, Syncs, Leaves, Falls}
+use Rattle.rc_history.specs.Processes.{IsAddressed, IsBrought, May, after, deed_of, new_processes}
 use Rattle.rc_history.specs.LifeClaims.{WasDone}
 use Rattle.rc_leaders.specs.Store.{Store, new_store, journal_in, taken_over, with_record, with_piece, swapped}
 use Rattle.rc_leaders.specs.Store.{without_epoch}

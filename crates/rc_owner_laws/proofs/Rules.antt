@@ -11,7 +11,8 @@ use Rattle.rc_model.specs.Model.{refills, loses, stored, commit_noted, In}
 use Rattle.rc_model.proofs.Tests.{either}
 use Rattle.rc_model.proofs.Tables.{put_each}
 use Rattle.rc_step_laws.proofs.MasterWorlds.{put-cases}
-use Rattle.rc_owner_laws.proofs.Placings.{IsNext, Some_placed, HasClosed, AllKnown, GoodPlacing, Placings, PlacedNow, good-later, placings-moved}
+use Rattle.rc_owner_laws.proofs.Placings.{IsNext, Some_placed, HasClosed, AllKnown, GoodPlacing, Placings, PlacedNow}
+use Rattle.rc_owner_laws.proofs.Placings.{good-later, placings-moved}
 use Rattle.rc_owner_laws.proofs.Placings.{placings-put, good-config, good-alike}
 use Rattle.rc_owner_laws.proofs.Members.{many-replaced, known-anew, known-chosen, known-lost, known-replaced, known-told}
 

@@ -17,7 +17,8 @@ use Rattle.rc_worked.proofs.Scenarios.{scenarios-are-replays, runs-append}
 use Rattle.rc_step_laws.specs.WordClaims.{sent_after}
 use Rattle.rc_promises.specs.Service.{Answer, HasRead}
 use Rattle.rc_promises.proofs.Tested.{all-from, where-from, else-from, same_value-from, acks-say, of-key, no-more}
-use Rattle.rc_promises.specs.Confirmed.{HasSentFor, IsConfirmed, MissesNothing, ConfirmedReadsMissNothing, ReadsFollowTime, WritesFollowReads}
+use Rattle.rc_promises.specs.Confirmed.{HasSentFor, IsConfirmed, MissesNothing, ConfirmedReadsMissNothing}
+use Rattle.rc_promises.specs.Confirmed.{ReadsFollowTime, WritesFollowReads}
 use Rattle.rc_promises.specs.Confirmed.{ReadsShowOneValue}
 use Rattle.rc_promises.specs.Linearizable.{HasReplicas}
 use Rattle.rc_promises.specs.OrderedRuns.{BrokenOrderRefutes, NoRunBreaksTheOrder}

@@ -1,4 +1,4 @@
--- Linearizability of processes that end at any moment, by the rules of `rc_history`. The words are those of rc_promises's
+-- Linearizability of processes that end at any moment, by the rules of `rc_history`. The words are those of
 -- `specs/Linearizable.antt`. But a moment is the number of a happening, and what clients see are messages that leave.
 --
 -- - What happened is a list of happenings. The processes of a moment are those before the happening of this number.

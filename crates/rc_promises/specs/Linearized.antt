@@ -1,5 +1,5 @@
--- Linearized, whatever a moment is: the words of rc_promises's `specs/Linearizable.antt`, where it is left open which the
--- operations are, and when a client had asked for a write.
+-- Linearized, whatever a moment is: the words of `specs/Linearizable.antt`, where it is left open which
+-- the operations are, and when a client had asked for a write.
 use Rattle.std.specs.Prelude.{◌≡◌, ◌≢◌, ◌⊎◌, ◌↔◌, ℕ, List, None}
 use Rattle.rc_types.specs.declared.messages.Message.{Message}
 use Rattle.rc_promises.specs.Linearizable.{Operation, ARead, Precedes, StandsBefore, IsOn, WasAskedFor, IsLinearized}

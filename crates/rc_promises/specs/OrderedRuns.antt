@@ -2,7 +2,8 @@
 use Rattle.std.specs.Prelude.{◌≡◌, true, false}
 use Rattle.rc_worked.specs.Sentences.{Run}
 use Rattle.rc_worked.specs.Ordered.{order_of}
-use Rattle.rc_promises.specs.Confirmed.{ConfirmedReadsMissNothing, ReadsFollowTime, WritesFollowReads, ReadsShowOneValue}
+use Rattle.rc_promises.specs.Confirmed.{ConfirmedReadsMissNothing, ReadsFollowTime, WritesFollowReads}
+use Rattle.rc_promises.specs.Confirmed.{ReadsShowOneValue}
 use Rattle.rc_promises.specs.Linearizable.{HasReplicas}
 
 abbrev pub BrokenOrderRefutes : Type 0

@@ -45,12 +45,12 @@ pub fn service_of_nodes_apart()
     ensures reads { ReadsApart }
 {}
 
-/// All of that of processes that end at any moment, by the rules of `rc_history`: whatever happens to them, all that has
-/// ever left them was sent in a history, which later ones go on from, and of each such history it holds. A version of
-/// a key of which an acknowledgement has left is one write, which was sent where segments have replicas. Where an
-/// acknowledgement had left by some moment, a write of its key that was asked for only afterwards has a greater
-/// version. An answer to a read that has left misses only what was acknowledged under a later term; and each answer,
-/// when it is made, only that of all of which an acknowledgement had left by then.
+/// All of that of processes that end at any moment, by the rules of `rc_history`: whatever happens to them, all that
+/// has ever left them was sent in a history, which later ones go on from, and of each such history it holds. A
+/// version of a key of which an acknowledgement has left is one write, which was sent where segments have replicas.
+/// Where an acknowledgement had left by some moment, a write of its key that was asked for only afterwards has a
+/// greater version. An answer to a read that has left misses only what was acknowledged under a later term; and each
+/// answer, when it is made, only that of all of which an acknowledgement had left by then.
 pub fn service_of_processes()
     ensures history { LivesAreAHistory }
     ensures stays { WhatHasLeftStays }

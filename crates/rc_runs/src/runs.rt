@@ -68,7 +68,7 @@ impl<A: Allocator + Clone> Run<A> {
     }
 
     /// The world alone: what waits is forgotten.
-    pub fn into_world(self) -> World<A>
+    pub(crate) fn into_world(self) -> World<A>
         ensures world { result ≡ self }
         ensures taken { (replayed self).events ≡ self.events }
     {
