@@ -79,7 +79,11 @@ fn add_frees_of(log: &LogHead, seg: u16, sent: &mut Vec<Message>) -> Result<(), 
 }
 
 /// Adds a Free of each of these segments to each of its members that isn't lost.
-pub(crate) fn add_frees(log: &LogHead, segs: &[u16], sent: &mut Vec<Message>) -> Result<(), AllocError>
+pub(crate) fn add_frees(
+    log: &LogHead,
+    segs: &[u16],
+    sent: &mut Vec<Message>,
+) -> Result<(), AllocError>
     ensures ok { OnOk result (sent.new.items ≡ sent.old.items ++ frees_segments (log_of log.now) segs.now) }
     ensures begun { OnErr result (IsBeginning sent.old.items sent.new.items) }
 {

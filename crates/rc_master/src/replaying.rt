@@ -7,7 +7,7 @@ ghost use Rattle.rc_master.specs.Rules.{did, or_still, full_replays};
 ghost use Rattle.rc_master.specs.View.{state_view, before_step, IsNoted};
 
 use crate::state::State;
-use crate::tell_part;
+use crate::told_parts::tell_part;
 use rc_types::{Fault, Message};
 use std::alloc::AllocError;
 

@@ -54,7 +54,12 @@ pub(crate) fn refusal(own: ServerId, fault: Fault) -> Message
 }
 
 /// The answer to a read, with the version and the value that were found.
-pub(crate) fn read_ok(own: ServerId, table: u32, key: u64, found: (u64, Option<Shared<u8>>)) -> Message
+pub(crate) fn read_ok(
+    own: ServerId,
+    table: u32,
+    key: u64,
+    found: (u64, Option<Shared<u8>>),
+) -> Message
     ensures { result ≡ to_outside own (ReadOk table key found.0 found.1) }
 {
     let (version, value) = found;

@@ -105,7 +105,11 @@ pub(crate) fn attempt_of(term: u32, ownership: &Ownership, tasks: &[Task]) -> u3
 }
 
 /// Adds a Fetch of each row of a task, to its holder.
-pub(crate) fn add_fetches(own: ServerId, task: &Task, sent: &mut Vec<Message>) -> Result<(), AllocError>
+pub(crate) fn add_fetches(
+    own: ServerId,
+    task: &Task,
+    sent: &mut Vec<Message>,
+) -> Result<(), AllocError>
     ensures ok { OnOk result (sent.new.items ≡ sent.old.items ++ map (fetch_of own task.now) task.now.rows) }
     ensures begun { OnErr result (IsBeginning sent.old.items sent.new.items) }
 {

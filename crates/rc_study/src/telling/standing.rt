@@ -1,8 +1,8 @@
 //! How the masters and the backups of a world stand.
 
 use rc_backup::Held;
-use rc_master::Master;
 use rc_config::Segment;
+use rc_master::Master;
 use rc_story::JsonWriter;
 use rc_types::limits::MAX_HOSTS;
 use rc_types::{Member, Phase, ServerId};
