@@ -11,7 +11,7 @@ from .markdown import html, inline, sections
 
 TOP = Path(__file__).resolve().parents[2]
 NAMED = TOP / "page" / "live" / "rules.json"
-LAW = re.compile(r"^\| ([^|]*) \| `([\w:]+)` \|", re.M)
+LAW = re.compile(r"^- ([^`]*):\s+`([\w:]+)`", re.M)
 
 
 class Unknown(ValueError):
@@ -25,8 +25,9 @@ def protocol() -> dict[str, tuple[str, str]]:
 
 
 def laws() -> dict[str, str]:
-    """What each law says, by its path, as the tables of PROMISES have it."""
-    return {path: words for words, path in LAW.findall((TOP / "docs" / "PROMISES-TABLES.md").read_text())}
+    """What each law says, by its path, as the lists of PROMISES-TABLES have it."""
+    page = (TOP / "docs" / "PROMISES-TABLES.md").read_text()
+    return {path: " ".join(words.split()) for words, path in LAW.findall(page)}
 
 
 def book() -> dict[str, Any]:
