@@ -6,7 +6,6 @@ glossary are read from its document.
 
 import json
 import pathlib
-import re
 from typing import NamedTuple
 
 from .nearest import question
@@ -15,9 +14,6 @@ HERE = pathlib.Path(__file__).resolve().parent
 DOCUMENTS = HERE.parents[1] / "docs"
 WIDTH = 80
 """How long a line gets, save where a word is longer."""
-
-ITEM = re.compile(r"\*\*([^*]+)\*\*: ([^*]*)\.(?: \*([^*]+)\*)?")
-"""A word of the glossary, what it is, and the field's usual terms."""
 
 KINDS = {"codes": "code", "messages": "message", "events": "event", "rules": "rule"}
 """Each group of the data file, with the name of its member in a JSON document."""
@@ -169,14 +165,23 @@ def _list(words: Words) -> str:
     )
 
 
-def _glossary() -> list[tuple[str, str, str]]:
-    """The words of the glossary, each with what it is and the field's usual terms; none, where it is not there."""
+def _rows(name: str, heading: str) -> list[list[str]]:
+    """The rows of the table of a document that begins with this heading; none, where the document is not there."""
     try:
-        text = (DOCUMENTS / "GLOSSARY.md").read_text()
-    except OSError:
+        lines = (DOCUMENTS / name).read_text().splitlines()
+        begin = lines.index(heading) + 2
+    except (OSError, ValueError):
         return []
-    items = [" ".join(item.split()) for item in re.findall(r"^- (.*(?:\n  .*)*)", text, re.M)]
-    return [(found[1], found[2], found[3] or "") for found in map(ITEM.fullmatch, items) if found]
+    rows = []
+    for line in lines[begin:]:
+        if not line.startswith("|"):
+            break
+        rows.append([cell.strip() for cell in line.strip("|").split("|")])
+    return rows
+
+
+def _glossary() -> list[list[str]]:
+    return _rows("GLOSSARY.md", "| Word | What it is | Usual terms |")
 
 
 def _from_glossary(word: str) -> list[str]:
