@@ -8,7 +8,7 @@ import { showColumns } from "./columns.mjs";
 import { hasLongAddresses } from "./program.mjs";
 import { readStory } from "./reading.mjs";
 import { listRules, showRule } from "./rules.mjs";
-import { Run } from "./run.mjs";
+import { isDrawn, MOST_DRAWN, Run } from "./run.mjs";
 import { logOf, saysOf } from "./saying.mjs";
 import { scriptUntil, textUntil } from "./scenario.mjs";
 import { placeOf } from "./spelling.mjs";
@@ -18,7 +18,10 @@ import { Turns } from "./turns.mjs";
 import { scriptOf } from "./unscript.mjs";
 import { byId, isPartShown, parts, say, setAddress, showPart, shown, unpacked } from "./view.mjs";
 
-const FIRST_RULE = "stores_after_gather", MOST_UNDONE = 50, MOST_TEXT = 4_000_000, MOST_DRAWN = 50_000, MOST_HINTS = 6;
+const FIRST_RULE = "stores_after_gather", MOST_UNDONE = 50, MOST_TEXT = 4_000_000, MOST_HINTS = 6;
+// what is in each folder of examples
+const FOLDERS = { "": "The protocol", broken: "Where a broken rule shows", codes: "For each code of a refusal",
+  hints: "Something may not have been meant", stuck: "What does not come back by itself", wrong: "Mistakes" };
 const undone = [], broken = {};
 // the story that is to be drawn, and what was not made of it yet
 const stale = { told: "", isLogStale: false, isDrawnStale: false };
@@ -35,11 +38,22 @@ async function run(note = "") {
     return;
   }
   const begun = performance.now();
-  await show(await asking.order("play", { text, rule: "" }), text, note, begun);
+  await show(await asking.order("play", { text }, (report) => {
+    byId("report").textContent = report.told;
+    say(`${report.told.match(/^audit .*/m)?.[0] ?? ""}; the events are still read ..`);
+  }), text, note, begun);
 }
 
-async function show({ report, story, told, why, hints, scenario, lines }, text, note, begun) {
+async function show({ report, story, told, why, hints, scenario, lines, judged }, text, note, begun) {
   byId("report").textContent = report?.told ?? "";
+  shown.judged = judged ?? null;
+  if (judged) {
+    showPart("clients");
+    await refresh();
+    say(judged.why ?? `This is a history: ${judged.verdict}. The nodes and the picture are still of the run before.`,
+      judged.verdict !== "linearizable");
+    return;
+  }
   const notes = [note, why, ...(hints ?? []).slice(0, MOST_HINTS)].filter((line) => line);
   byId("notes").textContent = notes.join("\n");
   if (story === undefined) {
@@ -66,12 +80,12 @@ async function refresh() {
     byId("log").innerHTML = logOf(shown.run);
     stale.isLogStale = false;
   } else if (isPartShown("drawn") && stale.isDrawnStale) {
-    byId("drawn").srcdoc = shown.run.events.length > MOST_DRAWN ?
-      `<p>More than ${MOST_DRAWN} events are not drawn.</p>` :
+    byId("drawn").srcdoc = !isDrawn(shown.run) ? `<p>More than ${MOST_DRAWN} events are not drawn.</p>` :
       parts.frame.replace("NUMBER_OF_RUN", shown.number).replace("STORY", () => stale.told);
     stale.isDrawnStale = false;
   } else if (isPartShown("clients")) {
-    showClients(await asking.order("judge", { text: shown.scenario, rule: "" }));
+    byId("judged").disabled = shown.judged !== null;
+    showClients(shown.judged ?? await asking.order("judge", { text: shown.scenario, rule: byId("judged").value }));
   } else if (isPartShown("compared")) {
     await compare();
   }
@@ -256,6 +270,7 @@ function listen() {
   on("cards", "click", pick);
   on("acts", "click", ({ target }) => target.dataset.act && press(shown.choices[Number(target.dataset.act)]));
   on("without", "change", () => turns.take(refresh));
+  on("judged", "change", () => turns.take(refresh));
   on("drawn", "load", tellPicture);
   on("log", "click", (happening) => {
     const place = happening.target.closest("[data-event]");
@@ -280,7 +295,7 @@ function listen() {
 
 // How many events the run of a text has.
 async function countOf(text) {
-  const { story } = await asking.order("play", { text, rule: "" });
+  const { story } = await asking.order("play", { text });
   return story === undefined ? 0 : readStory(story).events.length;
 }
 
@@ -335,6 +350,19 @@ function lacking() {
     "This browser lacks WebAssembly with addresses of 64 bits (memory64), so the program can't run in it." : "";
 }
 
+// The examples, those of a folder together.
+function listExamples() {
+  byId("example").add(new Option("", ""));
+  const names = Object.keys(parts.examples), folderOf = (name) => name.split("/").slice(0, -1).join("/");
+  for (const folder of new Set(names.map(folderOf))) {
+    const group = document.createElement("optgroup");
+    group.label = FOLDERS[folder] ?? folder;
+    group.append(...names.filter((name) => folderOf(name) === folder)
+      .map((name) => new Option(parts.titles[name] ? `${name}: ${parts.titles[name]}` : name, name)));
+    byId("example").append(group);
+  }
+}
+
 async function load() {
   for (const element of document.querySelectorAll(".broken")) {
     broken[element.dataset.rule] = await unpacked(element);
@@ -343,11 +371,11 @@ async function load() {
   for (const rule of new Set([...Object.keys(broken), ...Object.keys(storedRuns)])) {
     byId("without").add(new Option(Object.hasOwn(broken, rule) ? rule : `${rule} (its example)`, rule));
   }
-  byId("without").value = Object.keys(broken)[0] ?? FIRST_RULE;
-  byId("example").add(new Option("", ""));
-  for (const name of Object.keys(parts.examples)) {
-    byId("example").add(new Option(name, name));
+  for (const rule of Object.keys(broken)) {
+    byId("judged").add(new Option(`without ${rule}`, rule));
   }
+  byId("without").value = Object.keys(broken)[0] ?? FIRST_RULE;
+  listExamples();
   asking = new Asking(parts.worker, await unpacked(byId("module")), broken);
 }
 
