@@ -4,7 +4,7 @@ import { operationsOf, orderOf, refutingIn } from "./operations.mjs";
 import { lettersOf } from "./spelling.mjs";
 import { byId, safe } from "./view.mjs";
 
-const LEFT = 250, RIGHT_SIDE = 20, ROW_HEIGHT = 22, MOST_OPERATIONS = 300, WIDTH = 900;
+const RIGHT_SIDE = 20, MOST_OPERATIONS = 300, NARROW = 600, LEAST_WIDE = 300, MOST_WIDE = 1000;
 
 // A value as letters, where it is hexadecimal digits of such.
 function valueIn(text) {
@@ -20,12 +20,20 @@ const labelOf = ({ process, f, value, version, isOpen }) => {
 
 const isRefutedBy = (refuting) => ({ lines }) => lines.some((at) => refuting.has(at));
 
+// How wide the bars and their labels are: a label stands before its bar, where the page is narrow above it.
+function spread() {
+  const wide = Math.max(LEAST_WIDE, Math.min(MOST_WIDE, byId("bars").clientWidth));
+  return wide < NARROW ? { wide, left: 4, row: 36, down: 24, label: { x: 4, up: 12, anchor: "start" } } :
+    { wide, left: 250, row: 22, down: 11, label: { x: 242, up: -4, anchor: "end" } };
+}
+
 function keyPart(key, operations, { first, last }, refuting) {
-  const x = (time) => LEFT + (time - first) / (last - first) * (WIDTH - LEFT - RIGHT_SIDE), height = (operations.length + 1) * ROW_HEIGHT;
-  const rowOf = new Map(operations.map((one, row) => [one, row * ROW_HEIGHT + ROW_HEIGHT / 2]));
+  const { wide, left, row, down, label: put } = spread(), height = operations.length * row + 6;
+  const x = (time) => left + (time - first) / (last - first) * (wide - left - RIGHT_SIDE);
+  const rowOf = new Map(operations.map((one, place) => [one, place * row + down]));
   const bars = operations.map((one) => {
     const kinds = `bar ${one.f}${one.isOpen ? " open" : ""}${isRefutedBy(refuting)(one) ? " refutes" : ""}`;
-    return `<text x="${LEFT - 8}" y="${rowOf.get(one) + 4}" text-anchor="end">${safe(labelOf(one))}</text>` +
+    return `<text x="${put.x}" y="${rowOf.get(one) - put.up}" text-anchor="${put.anchor}">${safe(labelOf(one))}</text>` +
       `<rect class="${kinds}" x="${x(one.from)}" y="${rowOf.get(one) - 7}" height="14" rx="3" ` +
       `width="${Math.max(4, x(one.until) - x(one.from))}"><title>${safe(labelOf(one))}, from time ${one.from} to ` +
       `${one.until}</title></rect>`;
@@ -36,7 +44,7 @@ function keyPart(key, operations, { first, last }, refuting) {
     `<text x="${x(moment) + 6}" y="${rowOf.get(one) + 4}">${place + 1}</text>`);
   const told = order.map(({ one }, place) => `${place + 1}. ${labelOf(one)}`).join("; ");
   const drawn = `${bars.join("")}${line}${numbers.join("")}`, label = safe(`Operations of key ${key}, in order: ${told}`);
-  return `<h3>Key ${safe(key)}</h3><svg viewBox="0 0 ${WIDTH} ${height}" role="img" aria-label="${label}">${drawn}</svg>`;
+  return `<h3>Key ${safe(key)}</h3><svg width="${wide}" height="${height}" role="img" aria-label="${label}">${drawn}</svg>`;
 }
 
 // Shows a history with its verdict, or why there is none.

@@ -70,9 +70,9 @@ const lastLineOf = (text) => text.trim().split("\n").at(-1);
 
 // How `check` judges a history; where it can't, why.
 function judgedOf(history) {
-  const { told: verdict, said } = answer(["check"], history);
-  return verdict.startsWith("error") ? { why: said.trim().split("\n")[0] || lastLineOf(verdict) } :
-    { history, verdict: lastLineOf(verdict) };
+  const judged = answer(["check"], history), [, line] = `${judged.told}${judged.said}`.match(/^error F17 at (\d+)$/m) ?? [];
+  return line === undefined ? { history, verdict: lastLineOf(judged.told) } :
+    { why: `line ${line} is none of a history, or does not fit the lines before it: ${history.split("\n")[line - 1]}` };
 }
 
 // What the clients of a scenario saw, and how that is judged.

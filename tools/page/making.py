@@ -18,7 +18,7 @@ from .rules import book
 
 TOP = Path(__file__).resolve().parents[2]
 LIVE = TOP / "page" / "live"
-HIDDEN = "\nh1, #details, body > p { display: none; }\n#view { height: 92vh; }\n"
+HIDDEN = "\nh1, #details, body > p, #previous, #next { display: none; }\n#ending { margin-top: 14px; }\n"
 """What the picture leaves out in the page, which shows it by itself."""
 STORY = re.compile(r'<script type="application/json" id="story">(.*?)</script>', re.S)
 TITLE = re.compile(r"\*\*`([\w-]+)`: ([^*]+?)\.?\*\*")
