@@ -45,7 +45,6 @@ function chooseEvent(event) {
     draw();
     showColumn(happened.kind === "deliver" ? messages[happened.message].to : happened.at);
     link(`event-${chosen.event}`);
-    redraw();
   }
 }
 
@@ -113,7 +112,6 @@ function chooseMessage(number) {
     draw();
     showColumn(message.from);
     link(`message-${number}`);
-    redraw();
   } else {
     byId("details").textContent = `There is no message ${number}.`;
   }

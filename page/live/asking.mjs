@@ -14,12 +14,12 @@ export class Asking {
     this.#rules = rules;
   }
 
-  // Gives what the worker answers.
-  order(order, more = {}) {
+  // Gives what the worker answers; `hears` is given what it tells of it before.
+  order(order, more = {}, hears = () => {}) {
     if (this.#worker === null) {
       this.#begin();
     }
-    return this.#send(order, more);
+    return this.#send(order, more, hears);
   }
 
   // Ends the worker; what waits for it fails.
@@ -35,8 +35,12 @@ export class Asking {
   #begin() {
     const address = URL.createObjectURL(new Blob([this.#source], { type: "text/javascript" }));
     this.#worker = new Worker(address);
-    this.#worker.addEventListener("message", ({ data: { number, answer, error } }) => {
+    this.#worker.addEventListener("message", ({ data: { number, before, answer, error } }) => {
       const waits = this.#waiting.get(number);
+      if (before !== undefined) {
+        waits?.hears(before);
+        return;
+      }
       this.#waiting.delete(number);
       if (error === undefined) {
         waits?.resolve(answer);
@@ -45,14 +49,14 @@ export class Asking {
       }
     });
     this.#worker.addEventListener("error", (error) => this.stop(error.message || "the worker failed"));
-    this.#send("load", { bytes: this.#bytes, rules: this.#rules }).catch(() => {});
+    this.#send("load", { bytes: this.#bytes, rules: this.#rules }, () => {}).catch(() => {});
   }
 
-  #send(order, more) {
+  #send(order, more, hears) {
     this.#number += 1;
     const number = this.#number;
     return new Promise((resolve, reject) => {
-      this.#waiting.set(number, { resolve, reject });
+      this.#waiting.set(number, { resolve, reject, hears });
       this.#worker.postMessage({ number, order, ...more });
     });
   }

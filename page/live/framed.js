@@ -24,3 +24,12 @@ addEventListener("click", (happening) => {
     chooseEvent(Number(place.hash.slice("#event-".length)));
   }
 }, true);
+// The events take what the frame has left below the findings and the marks.
+const LEAST_TALL = 240, BELOW = 14;
+function fit() {
+  view.style.height = `${Math.max(LEAST_TALL, innerHeight - view.offsetTop - BELOW)}px`;
+  redraw();
+}
+byId("marks").addEventListener("toggle", fit);
+addEventListener("resize", fit);
+fit();

@@ -8,7 +8,7 @@ import { showColumns } from "./columns.mjs";
 import { hasLongAddresses } from "./program.mjs";
 import { readStory } from "./reading.mjs";
 import { listRules, showRule } from "./rules.mjs";
-import { Run } from "./run.mjs";
+import { isDrawn, MOST_DRAWN, Run } from "./run.mjs";
 import { logOf, saysOf } from "./saying.mjs";
 import { scriptUntil, textUntil } from "./scenario.mjs";
 import { placeOf } from "./spelling.mjs";
@@ -18,10 +18,13 @@ import { Turns } from "./turns.mjs";
 import { scriptOf } from "./unscript.mjs";
 import { byId, isPartShown, parts, say, setAddress, showPart, shown, unpacked } from "./view.mjs";
 
-const FIRST_RULE = "stores_after_gather", MOST_UNDONE = 50, MOST_TEXT = 4_000_000, MOST_DRAWN = 50_000, MOST_HINTS = 6;
+const FIRST_RULE = "stores_after_gather", MOST_UNDONE = 50, MOST_TEXT = 4_000_000, MOST_IN_LOG = 500, MOST_HINTS = 6;
+// what is in each folder of examples
+const FOLDERS = { "": "The protocol", broken: "Where a broken rule shows", codes: "For each code of a refusal",
+  hints: "Something may not have been meant", stuck: "What does not come back by itself", wrong: "Mistakes" };
 const undone = [], broken = {};
 // the story that is to be drawn, and what was not made of it yet
-const stale = { told: "", isLogStale: false, isDrawnStale: false };
+const stale = { told: "", isLogStale: false, logFrom: 0, isDrawnStale: false };
 const turns = new Turns((isBusy) => {
   byId("stop").hidden = !isBusy;
 }, (error) => say(`The program did not end: ${error.message}`, true));
@@ -35,11 +38,22 @@ async function run(note = "") {
     return;
   }
   const begun = performance.now();
-  await show(await asking.order("play", { text, rule: "" }), text, note, begun);
+  await show(await asking.order("play", { text }, (report) => {
+    byId("report").textContent = report.told;
+    say(`${report.told.match(/^audit .*/m)?.[0] ?? ""}; the events are still read ..`);
+  }), text, note, begun);
 }
 
-async function show({ report, story, told, why, hints, scenario, lines }, text, note, begun) {
+async function show({ report, story, told, why, hints, scenario, lines, judged }, text, note, begun) {
   byId("report").textContent = report?.told ?? "";
+  shown.judged = judged ?? null;
+  if (judged) {
+    showPart("clients");
+    await refresh();
+    say(judged.why ?? `This is a history: ${judged.verdict}. The nodes and the picture are still of the run before.`,
+      judged.verdict !== "linearizable");
+    return;
+  }
   const notes = [note, why, ...(hints ?? []).slice(0, MOST_HINTS)].filter((line) => line);
   byId("notes").textContent = notes.join("\n");
   if (story === undefined) {
@@ -60,18 +74,37 @@ async function show({ report, story, told, why, hints, scenario, lines }, text, 
   await refresh();
 }
 
+// The log of the run, at the event of the cursor: all of it, or of a long one the events around that.
+function fillLog() {
+  const { run: played, event } = shown, log = byId("log"), last = played.events.length;
+  if (stale.isLogStale || event < stale.logFrom || event >= stale.logFrom + MOST_IN_LOG) {
+    const from = Math.max(0, Math.min(event - MOST_IN_LOG / 2, last - MOST_IN_LOG)), until = from + MOST_IN_LOG;
+    const more = last > MOST_IN_LOG ? `<p>Events ${from} to ${until - 1} of ${last}: the others are shown where the cursor is.</p>` : "";
+    log.innerHTML = `<div>${logOf(played, from, until)}</div>${more}`;
+    Object.assign(stale, { isLogStale: false, logFrom: from });
+  }
+  log.querySelector(".at")?.classList.remove("at");
+  const block = log.firstChild.children[event - stale.logFrom];
+  if (block) {
+    block.classList.add("at");
+    const { top, bottom } = block.getBoundingClientRect(), seen = log.getBoundingClientRect();
+    if (top < seen.top || bottom > seen.bottom) {
+      log.scrollTop += top - seen.top - seen.height / 3;
+    }
+  }
+}
+
 // What takes long, or a question to the program, is made where it is in sight.
 async function refresh() {
-  if (isPartShown("log") && stale.isLogStale) {
-    byId("log").innerHTML = logOf(shown.run);
-    stale.isLogStale = false;
+  if (isPartShown("log")) {
+    fillLog();
   } else if (isPartShown("drawn") && stale.isDrawnStale) {
-    byId("drawn").srcdoc = shown.run.events.length > MOST_DRAWN ?
-      `<p>More than ${MOST_DRAWN} events are not drawn.</p>` :
+    byId("drawn").srcdoc = !isDrawn(shown.run) ? `<p>More than ${MOST_DRAWN} events are not drawn.</p>` :
       parts.frame.replace("NUMBER_OF_RUN", shown.number).replace("STORY", () => stale.told);
     stale.isDrawnStale = false;
   } else if (isPartShown("clients")) {
-    showClients(await asking.order("judge", { text: shown.scenario, rule: "" }));
+    byId("judged").disabled = shown.judged !== null;
+    showClients(shown.judged ?? await asking.order("judge", { text: shown.scenario, rule: byId("judged").value }));
   } else if (isPartShown("compared")) {
     await compare();
   }
@@ -96,6 +129,9 @@ function choose(event, isTold = true) {
   const actor = actorOf(played, shown.event) ?? placeOf(happened, played.turns[shown.event].started);
   showCards(cards(played, states, shown.event, actor));
   offer();
+  if (isPartShown("log") && !stale.isLogStale) {
+    fillLog();
+  }
   if (isTold) {
     tellPicture();
   }
@@ -121,8 +157,9 @@ function offer() {
   for (const card of document.querySelectorAll(".card")) {
     card.classList.toggle("picked", card.dataset.node === shown.node);
   }
-  byId("acts").innerHTML = (isPicked ? "" : "<span>Pick a node or a message, or:</span>") + shown.choices
-    .map(({ name }, place) => `<button type="button" data-act="${place}">${name}</button>`).join("");
+  byId("acts").innerHTML = shown.choices
+    .map(({ name }, place) => `<button type="button" data-act="${place}">${name}</button>`).join("") +
+    (isPicked ? "" : "<span>or pick a node, or a message</span>");
 }
 
 // What is pressed is done at the cursor; where it waits for a run, at the end of that one.
@@ -202,7 +239,6 @@ async function compare() {
   const wrong = isThere ? await asking.order("compare", { text, rule }) : { told: storedRuns[rule] };
   if (right.told && wrong.told) {
     showColumns(right.told, wrong.told, rule);
-    document.getElementById("first-other")?.scrollIntoView({ block: "nearest" });
   } else {
     byId("breaks").textContent = right.why || wrong.why;
   }
@@ -235,7 +271,7 @@ function follow(happening) {
   if (dataset.break) {
     byId("without").value = dataset.break;
     showPart("compared");
-    turns.take(refresh);
+    turns.take(refresh).then(() => byId("told").scrollIntoView({ block: "nearest" }));
   } else {
     showRule(dataset, canBreak);
   }
@@ -256,6 +292,7 @@ function listen() {
   on("cards", "click", pick);
   on("acts", "click", ({ target }) => target.dataset.act && press(shown.choices[Number(target.dataset.act)]));
   on("without", "change", () => turns.take(refresh));
+  on("judged", "change", () => turns.take(refresh));
   on("drawn", "load", tellPicture);
   on("log", "click", (happening) => {
     const place = happening.target.closest("[data-event]");
@@ -268,7 +305,7 @@ function listen() {
   on("rules", "click", follow);
   document.querySelectorAll("[data-shows]").forEach((button) => button.addEventListener("click", () => {
     showPart(button.dataset.shows);
-    turns.take(refresh);
+    turns.take(refresh).then(() => byId("told").scrollIntoView({ block: "nearest" }));
   }));
   addEventListener("keydown", pressed);
   addEventListener("message", ({ source, data }) => {
@@ -280,7 +317,7 @@ function listen() {
 
 // How many events the run of a text has.
 async function countOf(text) {
-  const { story } = await asking.order("play", { text, rule: "" });
+  const { story } = await asking.order("play", { text });
   return story === undefined ? 0 : readStory(story).events.length;
 }
 
@@ -317,7 +354,7 @@ function heard({ event, message }) {
 const KEYS = { ArrowLeft: () => choose(Math.max(0, shown.event - 1)), ArrowRight: () => choose(shown.event + 1),
   Home: () => choose(0), End: () => choose(Infinity) };
 function pressed(happening) {
-  if (happening.key === "Enter" && happening.ctrlKey) {
+  if (happening.key === "Enter" && (happening.ctrlKey || happening.metaKey)) {
     happening.preventDefault();
     turns.take(() => run());
   } else if (!happening.target.closest("input, select, textarea, pre") && !happening.ctrlKey && KEYS[happening.key]) {
@@ -335,6 +372,19 @@ function lacking() {
     "This browser lacks WebAssembly with addresses of 64 bits (memory64), so the program can't run in it." : "";
 }
 
+// The examples, those of a folder together.
+function listExamples() {
+  byId("example").add(new Option("choose one ..", ""));
+  const names = Object.keys(parts.examples), folderOf = (name) => name.split("/").slice(0, -1).join("/");
+  for (const folder of new Set(names.map(folderOf))) {
+    const group = document.createElement("optgroup");
+    group.label = FOLDERS[folder] ?? folder;
+    group.append(...names.filter((name) => folderOf(name) === folder)
+      .map((name) => new Option(parts.titles[name] ? `${name}: ${parts.titles[name]}` : name, name)));
+    byId("example").append(group);
+  }
+}
+
 async function load() {
   for (const element of document.querySelectorAll(".broken")) {
     broken[element.dataset.rule] = await unpacked(element);
@@ -343,11 +393,11 @@ async function load() {
   for (const rule of new Set([...Object.keys(broken), ...Object.keys(storedRuns)])) {
     byId("without").add(new Option(Object.hasOwn(broken, rule) ? rule : `${rule} (its example)`, rule));
   }
-  byId("without").value = Object.keys(broken)[0] ?? FIRST_RULE;
-  byId("example").add(new Option("", ""));
-  for (const name of Object.keys(parts.examples)) {
-    byId("example").add(new Option(name, name));
+  for (const rule of Object.keys(broken)) {
+    byId("judged").add(new Option(`without ${rule}`, rule));
   }
+  byId("without").value = Object.keys(broken)[0] ?? FIRST_RULE;
+  listExamples();
   asking = new Asking(parts.worker, await unpacked(byId("module")), broken);
 }
 

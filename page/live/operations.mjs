@@ -1,21 +1,30 @@
 // The operations of a history, and the order that shows it linearizable.
 
-// The operations of a history, of which each has its own process: a bar goes from its request to its answer.
+// The lines of a history, each with its place in the text, from 0, and its time: that, where it tells none.
+function linesOf(history) {
+  return history.split("\n").flatMap((text, at) => text.trim() === "" ? [] :
+    [{ time: at, ...JSON.parse(text), at }]);
+}
+
+// The operations of a history, and when it begins and ends: a bar goes from a request to its answer, or to the end. One
+// that failed did nothing, and has none.
 export function operationsOf(history) {
-  const lines = history.split("\n").filter((line) => line !== "").map((line) => JSON.parse(line));
-  const last = Math.max(1, ...lines.map(({ time }) => time)), open = new Map(), found = [];
-  for (const line of lines) {
-    if (line.type === "invoke") {
-      const one = { ...line, lines: [line.index], from: line.time, until: last, isOpen: true, version: null };
-      open.set(line.process, one);
-      found.push(one);
-    } else if (line.type === "ok") {
-      Object.assign(open.get(line.process), { until: line.time, isOpen: false, version: BigInt(line.version),
-        value: line.value });
-      open.get(line.process).lines.push(line.index);
+  const lines = linesOf(history), open = new Map(), found = [];
+  const first = lines.reduce((least, { time }) => Math.min(least, time), Infinity);
+  const last = lines.reduce((most, { time }) => Math.max(most, time), first + 1);
+  for (const { at, time, process, type, version, value, ...line } of lines) {
+    const one = open.get(process);
+    if (type === "invoke") {
+      open.set(process, { ...line, process, value, lines: [at], from: time, until: last, isOpen: true, version: null });
+      found.push(open.get(process));
+    } else if (type === "ok") {
+      one.lines.push(at);
+      Object.assign(one, { until: time, isOpen: false, version: BigInt(version), value: value ?? null });
+    } else if (type === "fail") {
+      one.hasFailed = true;
     }
   }
-  return { operations: found, last };
+  return { operations: found.filter(({ hasFailed }) => !hasFailed), first, last };
 }
 
 // The order by versions of those that were answered, each read behind the write of its version, and for each a moment

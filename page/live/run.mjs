@@ -3,6 +3,11 @@
 import { Servers } from "./servers.mjs";
 import { Known, NOT_RUNNING } from "./silences.mjs";
 
+export const MOST_DRAWN = 50_000;
+
+// Whether a run is not too long for a picture.
+export const isDrawn = ({ events }) => events.length <= MOST_DRAWN;
+
 export class Run {
   constructor(story) {
     this.story = story;

@@ -3,7 +3,7 @@ import { eventText, messageText } from "./spelling.mjs";
 import { parts, safe } from "./view.mjs";
 
 // The range of all keys, as it is spelt, reads so.
-const shortened = (text) => text.replaceAll("keys 0..18446744073709551615", "all keys");
+export const shortened = (text) => text.replaceAll("keys 0..18446744073709551615", "all keys");
 
 // An event in words, and why it came to nothing, where it did.
 export function whatOf(played, number) {
@@ -13,14 +13,14 @@ export function whatOf(played, number) {
   return silence === null ? text : `${text}, no effect: ${silence}`;
 }
 
-// A line for each event, which leads to it, and below it one for each message that it sent.
-export function logOf(played) {
+// These events of a run, each in a block: a line which leads to it, and below it one for each message that it sent.
+export function logOf(played, from, until) {
   const sends = (number) => safe(shortened(`    ${messageText(number, played.messages[number])}`));
-  return played.events.map((event, number) => [
-    `<a href="#event-${number}" data-event="${number}">event ${number} at ${event.place}: ` +
-      `${safe(whatOf(played, number))}</a>`,
-    ...event.sent.map(sends), ...event.phase === undefined ? [] : [`    ${event.master} is now ${event.phase}`]]
-    .join("\n")).join("\n");
+  return played.events.slice(from, until).map((event, at) => {
+    const number = from + at, line = `event ${number} at ${event.place}: ${safe(whatOf(played, number))}`;
+    const more = [...event.sent.map(sends), ...event.phase === undefined ? [] : [`    ${event.master} is now ${event.phase}`]];
+    return `<div>${[`<a href="#event-${number}" data-event="${number}">${line}</a>`, ...more].join("\n")}</div>`;
+  }).join("");
 }
 
 const link = (what, name, text) => `<a href="#rules" data-${what}="${name}">${safe(text)}</a>`;

@@ -3,10 +3,11 @@ import { ask, patched } from "./program.mjs";
 import { hintsOf } from "./hints.mjs";
 import { readStory } from "./reading.mjs";
 import { faultText, stopText } from "./reasons.mjs";
-import { Run } from "./run.mjs";
+import { isDrawn, Run } from "./run.mjs";
 import { spansOf, spellingOf } from "./scenario.mjs";
 import { isScript, made, Wrong } from "./script.mjs";
 import { told, toldJson } from "./telling.mjs";
+import { textKindOf } from "./kinds.mjs";
 import { waitingIn } from "./waiting.mjs";
 
 const MOST_ROUNDS = 40; // a recovery has some ten
@@ -25,9 +26,23 @@ const answer = (words, text, rule = "") => ask(moduleOf(rule), words, encoded(te
 
 const waitingOf = (rule) => (text) => waitingIn(answer(["log", "--json"], text, rule));
 
+// What comes of a text, by what it is: of a history of clients the verdict, of a trace the audit, of a scenario or a script
+// its run. `tells` is given the report of a run before the rest is made.
+function answerTo(text, tells) {
+  const kind = textKindOf(text);
+  if (kind === "history") {
+    return { judged: judgedOf(text) };
+  }
+  if (kind === "trace") {
+    const report = answer(["audit"], text);
+    return { report, why: `This is a trace, of which \`audit\` says: ${lastLineOf(report.told)}` };
+  }
+  return play(text, "", tells);
+}
+
 // What a scenario or a script does: the report, and, where it could be played, the story and the story with its words;
 // and why it could not be played, or why it stopped.
-function play(text, rule = "") {
+function play(text, rule = "", tells = () => {}) {
   let scenario = text, lines = null;
   if (isScript(text)) {
     try {
@@ -44,17 +59,24 @@ function play(text, rule = "") {
   if (!PLAYED.includes(report.status) || fault !== null) {
     return { report, why: fault ?? `${report.told}${report.said}`.trim() };
   }
+  tells(report);
   const log = answer(["log", "--json"], scenario, rule), run = new Run(readStory(log.told));
   const hints = run.story.stopped === null ? hintsOf(run.story) : [];
-  return { report, lines, scenario, hints, story: log.told, told: toldJson(run),
+  return { report, lines, scenario, hints, story: log.told, told: isDrawn(run) ? toldJson(run) : "",
     why: stopText(run.story, scenario, lines) };
 }
 
-// What the clients of a scenario saw, and how `check` judges that.
-function judge(text, rule = "") {
-  const history = answer(["history"], text, rule), verdict = answer(["check"], history.told);
-  return { history: history.told, verdict: verdict.told, said: history.said };
+const lastLineOf = (text) => text.trim().split("\n").at(-1);
+
+// How `check` judges a history; where it can't, why.
+function judgedOf(history) {
+  const judged = answer(["check"], history), [, line] = `${judged.told}${judged.said}`.match(/^error F17 at (\d+)$/m) ?? [];
+  return line === undefined ? { history, verdict: lastLineOf(judged.told) } :
+    { why: `line ${line} is none of a history, or does not fit the lines before it: ${history.split("\n")[line - 1]}` };
 }
+
+// What the clients of a scenario saw, and how that is judged.
+const judge = (text, rule = "") => judgedOf(answer(["history"], text, rule).told);
 
 // The deliveries of all that waits behind a scenario, and of what comes of it, but of one message.
 function othersThan(text, lost) {
@@ -76,7 +98,7 @@ const ORDERS = {
     [base, broken] = [bytes, rules];
     return {};
   },
-  play: ({ text, rule }) => play(text, rule),
+  play: ({ text }, tells) => answerTo(text, tells),
   // the same by a program in which a rule is broken, as a value
   compare: ({ text, rule }) => {
     const played = play(text, rule);
@@ -88,8 +110,9 @@ const ORDERS = {
 };
 
 addEventListener("message", ({ data }) => {
+  const tells = (before) => postMessage({ number: data.number, before });
   try {
-    postMessage({ number: data.number, answer: ORDERS[data.order](data) });
+    postMessage({ number: data.number, answer: ORDERS[data.order](data, tells) });
   } catch (error) {
     postMessage({ number: data.number, error: String(error) });
   }

@@ -18,17 +18,25 @@ from .rules import book
 
 TOP = Path(__file__).resolve().parents[2]
 LIVE = TOP / "page" / "live"
-HIDDEN = "\nh1, #details, body > p { display: none; }\n#view { height: 92vh; }\n"
+HIDDEN = "\nh1, #details, body > p, #previous, #next { display: none; }\n#ending { margin-top: 14px; }\n"
 """What the picture leaves out in the page, which shows it by itself."""
 STORY = re.compile(r'<script type="application/json" id="story">(.*?)</script>', re.S)
+TITLE = re.compile(r"\*\*`([\w-]+)`: ([^*]+?)\.?\*\*")
 STEP = re.compile(r"^```script\n(.*?)^```$", re.S | re.M)
 
 
+def titles() -> dict[str, str]:
+    """What the page of the examples says of each that it tells of, in its order."""
+    return dict(TITLE.findall((TOP / "examples" / "README.md").read_text()))
+
+
 def examples() -> dict[str, str]:
-    """The texts of all examples, by the names of their files: of a script where there is one, else of the scenario. One
-    that is no UTF-8 can't stand in a text field."""
-    found = {}
-    for file in sorted((TOP / "examples").rglob("*.json"), key=lambda file: (len(file.parts), file)):
+    """The texts of all examples, by the names of their files: of a script where there is one, else of the scenario; those
+    first that have titles. One that is no UTF-8 can't stand in a text field."""
+    found, told = {}, [*titles()]
+    order = {name: place for place, name in enumerate(told)}
+    for file in sorted((TOP / "examples").rglob("*.json"),
+                       key=lambda file: (len(file.parts), order.get(file.stem, len(told)), file)):
         script = file.with_suffix(".txt")
         try:
             text = script.read_text() if script.exists() else spread(file.read_text())
@@ -92,7 +100,7 @@ def page(base: tuple[Path, bool], broken: dict[str, tuple[Path, bool]]) -> str:
     right = module.read_bytes()
     others = "\n".join(f'<script type="text/plain" class="broken" data-rule="{rule}">'
                        f"{packed(difference(right, file.read_bytes()))}</script>" for rule, (file, _) in broken.items())
-    parts = {"examples": examples(), "steps": steps(), "book": book(), "worker": bundle(LIVE, "worker.mjs"),
+    parts = {"examples": examples(), "titles": titles(), "steps": steps(), "book": book(), "worker": bundle(LIVE, "worker.mjs"),
              "frame": frame()}
     runs = packed(held(stored()).encode())
     return Template((LIVE / "live.html").read_text()).substitute(

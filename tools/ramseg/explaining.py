@@ -9,6 +9,7 @@ import pathlib
 from typing import NamedTuple
 
 from .nearest import question
+from .scripting import FORMS
 
 HERE = pathlib.Path(__file__).resolve().parent
 DOCUMENTS = HERE.parents[1] / "docs"
@@ -21,10 +22,16 @@ KINDS = {"codes": "code", "messages": "message", "events": "event", "rules": "ru
 SECTIONS = {
     "codes": {"when": "When it comes", "remedy": "What to do"},
     "messages": {"has": "What it has", "says": "What it says", "then": "What comes of it"},
-    "events": {"example": "How it is written", "says": "What happens"},
+    "events": {"example": "In a scenario", "says": "What happens"},
     "rules": {"keeps": "The rule", "without": "Without it", "example": "The example"},
 }
 """The texts of each group below their titles, in order."""
+
+GLOSSARY = (
+    ("Word", "What it is", "Usual terms"),
+    ("Number", "Of what", "Who gives it", "When it rises", "What it is held against", "Usual terms"),
+)
+"""The headings of the glossary's tables."""
 
 Texts = dict[str, str | int]
 """What there is to say of one word: its name and its texts."""
@@ -125,10 +132,13 @@ def _told(group: str, texts: Texts) -> str:
     heading = {
         "codes": f"F{texts.get('number')} {name}: {texts.get('short')}",
         "messages": f"{name}, a message {texts.get('way')}",
-        "events": f"{name}, an event of a scenario",
+        "events": f"{name}, an event",
         "rules": f"{name}, a rule that can be broken",
     }[group]
     told = heading + "\n"
+    if group == "events":
+        forms = [FORMS[str(name)], *([FORMS["delete"]] if name == "write" else [])]
+        told += f"\nIn a script\n  {'  or  '.join(forms)}\n"
     for member, title in SECTIONS[group].items():
         if texts[member]:
             told += f"\n{title}\n{_wrapped(str(texts[member]).split())}\n"
@@ -181,17 +191,20 @@ def _rows(name: str, heading: str) -> list[list[str]]:
 
 
 def _glossary() -> list[list[str]]:
-    return _rows("GLOSSARY.md", "| Word | What it is | Usual terms |")
+    """A row for each word of the glossary: its names, and what stands below each heading."""
+    return [[row[0], *map(_below, headings[1:], row[1:])] for headings in GLOSSARY
+            for row in _rows("GLOSSARY.md", f"| {' | '.join(headings)} |")]
+
+
+def _below(heading: str, cell: str) -> str:
+    """A text below its heading; nothing, where there is none."""
+    return f"\n{heading}\n{_wrapped(cell.split())}\n" if cell else ""
 
 
 def _from_glossary(word: str) -> list[str]:
     """What the glossary says of a word."""
-    told = []
-    for names, says, usual in _glossary():
-        if any(_is_form(word, name) for name in names.split(", ")):
-            also = f"\nUsual terms\n{_wrapped(usual.split())}\n" if usual else ""
-            told.append(f"{names}, in the glossary\n\nWhat it is\n{_wrapped(says.split())}\n{also}")
-    return told
+    return [f"{names}, in the glossary\n{''.join(told)}" for names, *told in _glossary()
+            if any(_is_form(word, name) for name in names.split(", "))]
 
 
 def _of_counted(words: Words, word: str) -> list[str]:

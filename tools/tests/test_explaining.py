@@ -46,13 +46,14 @@ class Explaining(unittest.TestCase):
     def test_a_word_of_several_kinds_is_told_of_each(self) -> None:
         told = explain("write").text
         self.assertIn("Write, a message from outside to a master\n", told)
-        self.assertIn("\n\nwrite, an event of a scenario\n", told)
+        self.assertIn("\n\nwrite, an event\n\nIn a script\n  write ID ", told)
 
     def test_words_of_the_glossary_and_counted_rules_are_explained(self) -> None:
         self.assertIn("a master that was replaced", explain("zombie").text)
         self.assertIn("a master from which a backup takes nothing", explain("fence").text)
         self.assertIn("a master opens a head after its first", explain("roll").text)
         self.assertIn("a new head is opened", explain("roll").text)
+        self.assertIn("Who gives it\n  the coordinator\n", explain("term").text)
 
     def test_what_is_no_word_is_asked_for(self) -> None:
         meaning = explain("BadEvnt")

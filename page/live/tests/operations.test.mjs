@@ -12,10 +12,18 @@ const HISTORY = [line(0, 1, 0, "invoke", "write", { value: "61" }), line(1, 2, 1
   line(4, 7, 2, "invoke", "write", { value: "62" }), line(5, 9, 2, "info", "write", { value: "62" })].join("\n");
 
 test("each operation is a bar from its request to its answer, or to the end", () => {
-  const { operations, last } = operationsOf(HISTORY);
+  const { operations, first, last } = operationsOf(HISTORY);
   assert.deepEqual(operations.map(({ f, from, until, isOpen }) => [f, from, until, isOpen]),
     [["write", 1, 5, false], ["read", 2, 6, false], ["write", 7, 9, true]]);
-  assert.equal(last, 9);
+  assert.deepEqual([first, last], [1, 9]);
+});
+
+test("what failed has no bar, and a history without times is in the order of its lines", () => {
+  const text = [line(0, 1, 0, "invoke", "write", { value: "61" }), "", line(1, 2, 0, "fail", "write", { value: "61" }),
+    line(2, 3, 0, "invoke", "read"), line(3, 4, 0, "ok", "read", { version: 0 })].join("\n").replace(/"time":\d,/g, "");
+  const { operations, first, last } = operationsOf(text);
+  assert.deepEqual(operations.map(({ f, lines, from, until }) => [f, lines, from, until]), [["read", [3, 4], 3, 4]]);
+  assert.deepEqual([first, last], [0, 4]);
 });
 
 test("the order is that of versions, each read behind its write, at moments within the bars", () => {
