@@ -12,7 +12,6 @@ mod connector;
 mod greeting;
 mod key;
 mod queues;
-mod secret;
 mod session;
 #[cfg(test)]
 mod tests;
@@ -21,6 +20,6 @@ mod unproved;
 pub use acceptor::Acceptor;
 pub use connector::{begin, connect};
 pub use greeting::{Greeted, Greeting, greet};
-pub use secret::{LEAST, Secret, SecretFile};
+pub use crate::secret::{LEAST, Secret, SecretFile};
 pub use session::Session;
 pub use unproved::Unproved;

@@ -27,12 +27,12 @@ mod etcd;
 mod events;
 mod faults;
 mod guard;
-mod handshake;
 mod hearing;
 mod histogram;
 mod host;
 mod http;
 mod journal;
+mod line;
 mod listening;
 mod log;
 mod metrics;
@@ -62,11 +62,11 @@ mod version;
 mod waits;
 mod wire;
 
-use handshake::NotLetIn;
+use hello::NotLetIn;
 use options::{Command, Options};
 use secret::Secret;
 use sevunthi_client::addresses::MOST_COORDINATORS;
-use sevunthi_client::{self as client, addresses, protocol, refusal as reasons};
+use sevunthi_client::{self as client, addresses, hello, protocol, refusal as reasons};
 use sevunthi_client::{Client, Error, Found, Missing, Refusal, STANDS_BY, Target};
 use std::path::Path;
 use std::process::ExitCode;
@@ -123,7 +123,7 @@ fn main() -> ExitCode {
     let command = words.remove(0);
     let asks_for_help = words.iter().take_while(|word| *word != "--").any(|word| word == "--help");
     if ["version", "--version", "-V"].contains(&command.as_str()) {
-        say!("sevunthi {}, of which peers speak version {}", env!("CARGO_PKG_VERSION"), handshake::VERSION);
+        say!("sevunthi {}, of which peers speak version {}", env!("CARGO_PKG_VERSION"), hello::VERSION);
         return ExitCode::SUCCESS;
     }
     if ["help", "--help", "-h"].contains(&command.as_str()) || asks_for_help {
@@ -159,6 +159,11 @@ fn target(options: &Options) -> Result<Target, String> {
     Ok(Target::on(&address, port, hosts).with_coordinators(coordinators))
 }
 
+/// The cluster that a client's program asks.
+fn asked(options: &Options) -> Result<Target, String> {
+    Ok(Target { secret: secret::of_client(options), ..target(options)? })
+}
+
 fn run(command: &str, words: Vec<String>) -> Result<bool, String> {
     let options = &Options::read(Command::named(command)?, words)?;
     match command {
@@ -168,8 +173,8 @@ fn run(command: &str, words: Vec<String>) -> Result<bool, String> {
         "up" => up::up(options).map(|()| true),
         "put" | "get" | "delete" => ask(command, options),
         "create" | "split" => change(command, options),
-        "status" => status(&target(options)?),
-        "bench" => bench::run(options, &target(options)?),
+        "status" => status(&asked(options)?),
+        "bench" => bench::run(options, &asked(options)?),
         "trace" => trace::run(options),
         _ => storm::run(options),
     }
@@ -196,7 +201,7 @@ fn key_of(options: &Options) -> Result<u64, String> {
 }
 
 fn ask(command: &str, options: &Options) -> Result<bool, String> {
-    let target = target(options)?;
+    let target = asked(options)?;
     let mut client = Client::new(target.clone());
     client.patience = Duration::from_millis(options.between("--patience", 10_000, 1, 3_600_000)?);
     client.wait = client.wait.min(client.patience);
@@ -254,20 +259,24 @@ fn tell_error(target: &Target, table: u32, error: &Error) -> Result<bool, String
     not_done(&match error {
         Error::Unasked(missing) => target.told(*missing, table),
         Error::NotLetIn(NotLetIn::Secret) => "refused: the secret of --operator is another one".to_string(),
-        Error::NotLetIn(why) => format!("refused: the coordinator says: {why}"),
+        Error::NotLetIn(NotLetIn::InClear) => "refused: a proof is wanted there: without --insecure it is given".to_string(),
+        Error::NotLetIn(NotLetIn::NoSecurity) => {
+            "refused: the coordinator has no file --operator, or no security: --insecure asks it in clear then".to_string()
+        }
+        Error::NotLetIn(why) => format!("refused: {why}"),
         other => other.to_string(),
     })
 }
 
 /// What who operates the cluster has: `up` draws it.
 fn operator_secret(options: &Options) -> Result<Secret, String> {
-    let file = options.get("--operator", format!("cluster-data/{}", supervisor::OPERATOR))?;
+    let file = options.get("--operator", format!("cluster-data/{}", secret::OPERATOR))?;
     let hint = "; --operator names the file `operator` in the folder of `up`";
     Secret::read(Path::new(&file)).map_err(|why| format!("{why}{hint}"))
 }
 
 fn change(command: &str, options: &Options) -> Result<bool, String> {
-    let target = target(options)?;
+    let target = asked(options)?;
     let mut client = Client::new(target.clone());
     let table = table_of(options)?;
     let host = match options.word(1).filter(|_| command == "create") {
@@ -278,6 +287,11 @@ fn change(command: &str, options: &Options) -> Result<bool, String> {
     if let Some(host) = host.filter(|host| target.hosts <= *host) {
         return Err(format!("there is no host {host}: they are 0 to {}", target.hosts - 1));
     }
+    if options.has("--insecure") {
+        client.operate_in_clear();
+    } else {
+        client.operate_with(operator_secret(options)?);
+    }
     // a host would say of either that it is no request
     if let Err(missing) = client.owner(table, 0)
         && missing.stays()
@@ -285,7 +299,6 @@ fn change(command: &str, options: &Options) -> Result<bool, String> {
     {
         return not_done(&target.told(missing, table));
     }
-    client.operate_with(operator_secret(options)?.bytes());
     let done = if command == "create" { client.create(table, host) } else { client.split(table, key) };
     match (done, host) {
         (Ok(()), _) => Ok(true),
@@ -320,9 +333,10 @@ fn status(target: &Target) -> Result<bool, String> {
             Ok(_) => {
                 format!("  who is at {} is another; {}", target.at(place), target.hint())
             }
+            Err(Error::Unasked(missing @ Missing::NotLetIn(..))) => format!("  {}", target.told(missing, 0)),
             Err(_) => "  does not answer".to_string(),
         };
-        all &= !text.starts_with("  who ") && text != "  does not answer";
+        all &= !["  who ", "  not let in", "  does not answer"].iter().any(|why| text.starts_with(why));
         say!("{name}\n{text}");
     }
     if !leads && 1 < target.coordinators {

@@ -1,0 +1,46 @@
+//! Connecting to whoever has a place of a cluster.
+
+use crate::addresses;
+use crate::channel::Channel;
+use crate::hello::{Refused, Role};
+use crate::secret::Secret;
+use crate::target::Target;
+use std::io::{self, Write};
+use std::net::TcpStream;
+use std::time::Duration;
+
+/// How long a connection is waited for, and then a proof.
+pub(crate) const CONNECTING: Duration = Duration::from_secs(2);
+
+/// Connects to whoever has this place. Where there is a secret both sides prove that they have it.
+pub(crate) fn dial(
+    target: &Target,
+    place: u8,
+    role: Role,
+    secret: Option<&Secret>,
+) -> Result<Channel<TcpStream>, Refused> {
+    let stream = addresses::connect(&target.at(place), CONNECTING)?;
+    stream.set_nodelay(true)?;
+    match secret {
+        None => Ok(Channel::plain(stream)),
+        Some(secret) => secured(stream, place, role, secret),
+    }
+}
+
+#[cfg(feature = "security")]
+fn secured(stream: TcpStream, place: u8, role: Role, secret: &Secret) -> Result<Channel<TcpStream>, Refused> {
+    Ok(crate::security::connect(stream, role, place, secret, CONNECTING)?)
+}
+
+#[cfg(not(feature = "security"))]
+fn secured(_: TcpStream, _: u8, _: Role, _: &Secret) -> Result<Channel<TcpStream>, Refused> {
+    Err(io::Error::new(io::ErrorKind::Unsupported, "this client was built without security").into())
+}
+
+/// Connects as a client to whoever has this place.
+pub(crate) fn connect(target: &Target, place: u8) -> Result<Channel<TcpStream>, Refused> {
+    let secret = target.secret.as_ref().map(|file| file.shown()).transpose().map_err(io::Error::other)?;
+    let mut channel = dial(target, place, Role::Client, secret.as_ref())?;
+    channel.write_all(&[Role::Client.code()])?;
+    Ok(channel)
+}
