@@ -221,7 +221,7 @@ impl Door {
             Refused::NotLetIn(NotLetIn::NoSecurity | NotLetIn::Stranger) => "no security",
         };
         let who = line.stream().peer_addr().map_or("somebody".to_string(), |address| address.to_string());
-        self.seldom.tell(what, format_args!("who connected from {who} was not let in: {refused}"));
+        self.seldom.tell_of(what, line.from(), format_args!("who connected from {who} was not let in: {refused}"));
     }
 
     fn serve_page(&self, first: &[u8], line: &Line) -> io::Result<()> {
