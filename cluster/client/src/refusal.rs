@@ -84,7 +84,8 @@ const ROWS: [Row; 18] = [
 const SOON: &str = "ask again soon: it passes";
 const OWNER: &str = "ask the coordinator who owns the key now, and then that host";
 const SECRET: &str = "give the client the file `operator` of the cluster";
-const CLIENTS: &str = "give the client the file `client-secret` of the cluster; one without security has to be on its machine";
+const CLIENTS: &str =
+    "give the client the file `client-secret` of the cluster; one without security has to be on its machine";
 
 impl Refusal {
     /// The refusal of this code. [`Refusal::Other`] has all that are not known here.

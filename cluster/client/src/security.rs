@@ -20,10 +20,10 @@ mod session;
 mod tests;
 mod unproved;
 
+pub use crate::secret::{LEAST, Secret, SecretFile};
 pub use acceptor::Acceptor;
 pub use connector::{begin, connect};
 pub use greeting::{Greeted, Greeting, greet};
-pub use crate::secret::{LEAST, Secret, SecretFile};
 pub use session::Session;
 pub use unproved::Unproved;
 

@@ -272,13 +272,7 @@ impl Door {
 }
 
 impl<'a> Asker<'a> {
-    fn new(
-        door: &Door,
-        number: u64,
-        line: &'a Line,
-        channel: Channel<&'a Line>,
-        place: &'a Place,
-    ) -> Asker<'a> {
+    fn new(door: &Door, number: u64, line: &'a Line, channel: Channel<&'a Line>, place: &'a Place) -> Asker<'a> {
         let account = Arc::new(Account::new(&door.budget));
         Asker { number, line, channel, place, account, may_operate: false, writer: None }
     }

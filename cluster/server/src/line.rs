@@ -156,7 +156,9 @@ mod tests {
             Ok(say(&mut stream, hello).map_or_else(|refused| refused.to_string(), |()| "let in".to_string()))
         });
         let line = Line::new(Arc::new(listener.accept()?.0), Duration::from_secs(5));
-        let (mut channel, proved) = line.join(line.first()?.expect("it speaks"), None).map_err(|refused| io::Error::other(refused.to_string()))?;
+        let (mut channel, proved) = line
+            .join(line.first()?.expect("it speaks"), None)
+            .map_err(|refused| io::Error::other(refused.to_string()))?;
         assert_eq!((byte(&mut channel)?, byte(&mut channel)?, proved), (hello.role.code(), VERSION, None));
         let answered = answer(&mut channel, hello.role, VERSION, 2, is_taken);
         let said = answered.map_or_else(|refused| refused.to_string(), |from| format!("{from} is let in"));

@@ -229,7 +229,8 @@ pub fn run(options: &Options) -> Result<bool, String> {
     let safety = Safety::of(options, &target)?;
     let mut storm = Storm::begin(seed, target, folder.clone(), safety, deck)?;
     let target = storm.cluster.target.clone();
-    let orders = (1 < target.coordinators).then(|| operating(&target, &folder, safety).map(Orders::begin)).transpose()?;
+    let orders =
+        (1 < target.coordinators).then(|| operating(&target, &folder, safety).map(Orders::begin)).transpose()?;
     let (ends, history) = (Arc::new(AtomicBool::new(false)), Arc::new(Mutex::new(String::new())));
     let machine = Machine::new(&folder).map_err(|error| error.to_string())?;
     let clients: Vec<_> = (0..CLIENTS)
@@ -285,13 +286,7 @@ struct Storm {
 
 impl Storm {
     /// A cluster in this folder, with its table.
-    fn begin(
-        seed: u64,
-        target: Target,
-        folder: PathBuf,
-        safety: Safety,
-        deck: Vec<Fault>,
-    ) -> Result<Storm, String> {
+    fn begin(seed: u64, target: Target, folder: PathBuf, safety: Safety, deck: Vec<Fault>) -> Result<Storm, String> {
         // every other cluster leaves all its syncs to threads
         let beside = if seed.is_multiple_of(2) { "24" } else { "0" };
         // and in two of four each journal is replaced by a save again and again, over the file of an older one

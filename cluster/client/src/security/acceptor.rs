@@ -2,9 +2,9 @@
 
 use super::greeting::{Greeting, Learned, Side, context};
 use super::key::{Key, LENGTH, name_of, role_of};
-use crate::secret::SecretFile;
 use super::unproved::NO_SECURITY;
 use crate::hello::Role;
+use crate::secret::SecretFile;
 use openssl::error::ErrorStack;
 use openssl::ex_data::Index;
 use openssl::ssl::{NameType, SniError, Ssl, SslAlert, SslContext, SslMethod, SslRef};
@@ -40,11 +40,14 @@ impl Acceptor {
             let name = name.unwrap_or_default();
             let of_role = role_of(name).and_then(|role| files.iter().find(|(other, _)| *other == role));
             let found = of_role.map(|(role, file)| known(place, *role, file, name)).transpose()?.flatten();
-            tls.set_ex_data(learned, match (of_role, &found) {
-                (None, _) => Learned::Closed,
-                (Some(_), None) => Learned::Unknown,
-                (Some((role, _)), Some(_)) => Learned::Known(*role),
-            });
+            tls.set_ex_data(
+                learned,
+                match (of_role, &found) {
+                    (None, _) => Learned::Closed,
+                    (Some(_), None) => Learned::Unknown,
+                    (Some((role, _)), Some(_)) => Learned::Known(*role),
+                },
+            );
             let Some(key) = found else { return Ok(0) };
             to[..LENGTH].copy_from_slice(&key.bytes);
             Ok(LENGTH)
@@ -74,6 +77,6 @@ impl Acceptor {
 
 /// The key of this name and role, if the file has a secret of which it is made.
 fn known(place: u8, role: Role, file: &SecretFile, name: &[u8]) -> Result<Option<Key>, ErrorStack> {
-    let keys = file.taken().map(|secret| Key::of(role, place, &secret));
-    keys.filter(|key| key.as_ref().map_or(true, |key| key.name.as_bytes() == name)).next().transpose()
+    let mut keys = file.taken().map(|secret| Key::of(role, place, &secret));
+    keys.find(|key| key.as_ref().map_or(true, |key| key.name.as_bytes() == name)).transpose()
 }

@@ -1,7 +1,7 @@
 //! The key of TLS that is made of a secret: for one role, and one place.
 
-use crate::secret::Secret;
 use crate::hello::Role;
+use crate::secret::Secret;
 use openssl::error::ErrorStack;
 use openssl::hash::MessageDigest;
 use openssl::pkey::PKey;
