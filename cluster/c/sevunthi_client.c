@@ -449,6 +449,7 @@ const char *sevunthi_client_reason(int answer) {
     case SEVUNTHI_CLIENT_WRONG: return "the request is none, or who answers is another";
     case SEVUNTHI_CLIENT_NO_ROOM: return "too few hosts have room on their disks";
     case SEVUNTHI_CLIENT_MISMATCH: return "not done: another version is there";
+    case SEVUNTHI_CLIENT_IN_CLEAR: return "a proof of the secret is wanted, and this client has no security";
     case SEVUNTHI_CLIENT_NOBODY: return "nobody was asked: who should be does not answer";
     default: return "a refusal that this client does not know";
   }

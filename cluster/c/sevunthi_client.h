@@ -1,6 +1,7 @@
 /* sevunthi_client.h: a client of a cluster of Sevunthi, for C. It needs sockets alone, and no other library;
  * docs/WIRE.md has the bytes. A client asks one thing after another, and is used by one thread at a time. It finds the
- * owner of each key, and waits where that is of use.
+ * owner of each key, and waits where that is of use. All is said in clear, so the cluster has to take clients of this
+ * machine so.
  *
  * Each call answers a number: SEVUNTHI_CLIENT_DONE; SEVUNTHI_CLIENT_UNKNOWN, where nobody knows; or, with any other
  * number, that it was not done. A write that is unknown may have been done, or may still be done, once. It is not asked
@@ -27,6 +28,7 @@ enum {
   SEVUNTHI_CLIENT_WRONG = 102,    /* a key above 2^63 - 1, or whoever answers is another */
   SEVUNTHI_CLIENT_NO_ROOM = 103,  /* too few hosts have room on their disks */
   SEVUNTHI_CLIENT_MISMATCH = 105, /* the condition did not hold: *found is what is there, confirmed */
+  SEVUNTHI_CLIENT_IN_CLEAR = 108, /* a proof of the clients' secret is wanted, and this client has none to give */
   SEVUNTHI_CLIENT_NOBODY = 200    /* nobody was asked: who should be does not answer */
 };
 

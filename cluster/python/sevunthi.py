@@ -10,6 +10,10 @@ A call returns where it was done. Else it raises an `Error`: `Refused`, `Mismatc
 was not done. `Unknown` says that nobody knows: the answer of a write was lost, which may have been done, or may still
 be done, once. It is not asked again by itself. A read is. docs/WIRE.md has the bytes.
 
+All is said in clear, so the cluster has to take clients of this machine so: this client has no security, and raises
+`Refused` with `Refusal.IN_CLEAR` where that is wanted. Tables are made by `sevunthi create`, or by a client that
+`operates`, in a cluster without any security.
+
 A `Client` is used by one thread at a time. A `Connection` has many requests under way at one host. `Names` is a table
 whose keys are byte strings. The module sevunthi_large keeps values of up to 1 MiB in pieces.
 """
@@ -18,7 +22,6 @@ from __future__ import annotations
 
 import enum
 import hashlib
-import hmac
 import socket
 import struct
 import time
@@ -27,13 +30,14 @@ from typing import Iterator
 
 PUT, DELETE, GET, GET_FAST, CREATE, SPLIT, OWNER, STATUS = range(8)
 PUT_IF, PUT_IF_ABSENT, DELETE_IF = 9, 10, 11
-DONE, NO_VALUE, UNKNOWN, WRONG, MISMATCH, MISMATCH_NO_VALUE, NOT_LEADING = 0, 100, 101, 102, 105, 106, 107
+DONE, NO_VALUE, UNKNOWN, WRONG, MISMATCH, MISMATCH_NO_VALUE = 0, 100, 101, 102, 105, 106
+NOT_LEADING, IN_CLEAR = 107, 108
 NO_HINT = 2**64 - 1
 ANY_HOST = 2**64 - 1
 MOST_VALUE = 1024
 MOST_NAME = 256
 TRIES = 1000
-VERSION = 1
+VERSION = 2
 
 
 class Refusal(enum.Enum):
@@ -54,8 +58,13 @@ class Refusal(enum.Enum):
     RECOVERING = (16, "the tablet's owner has crashed", "ask again soon: it passes")
     WRONG = (102, "the request is none", "look at the addresses, and at the versions of both")
     NO_ROOM = (103, "too few hosts have room on their disks", "make room, or add hosts")
-    NOT_ALLOWED = (104, "only who has the operator's secret may ask for that", "give the client the file `operator`")
+    NOT_ALLOWED = (104, "only who has the operator's secret may ask for that", "say `sevunthi create`, which has that")
     NOT_LEADING = (107, "no coordinator leads just now", "ask again soon: it passes")
+    IN_CLEAR = (
+        108,
+        "a proof of the secret is wanted, and none was given",
+        "use a client with security: this one is for clusters that take clients of this machine in clear",
+    )
     OTHER = (255, "a refusal that this client does not know", "look at the versions of the client and of the cluster")
 
     def __init__(self, code: int, reason: str, advice: str) -> None:
@@ -271,15 +280,15 @@ def _judge(op: int, reply: _Reply) -> Found:
 
 class Client:
     """A client. It finds the owner of each key, and waits where that is of use, for `patience` seconds in all, and for
-    `wait` seconds for one answer. `operator` has the bytes of the file `operator`, for who makes and splits tables."""
+    `wait` seconds for one answer. One that `operates` makes and splits tables, in a cluster without security."""
 
     def __init__(
-        self, target: Target, patience: float = 10.0, wait: float = 3.0, operator: bytes | None = None
+        self, target: Target, patience: float = 10.0, wait: float = 3.0, operates: bool = False
     ) -> None:
         self.target = target
         self.patience = patience
         self.wait = wait
-        self.operator = operator
+        self.operates = operates
         self._lines: dict[int, _Line] = {}
         self._owners: dict[int, int] = {}
         self._doubted: set[int] = set()
@@ -425,6 +434,8 @@ class Client:
             raise Unasked(f"there is no table {table}", passes=False)
         if reply.code == WRONG:
             raise Unasked("who answers in the coordinator's place is none", passes=False)
+        if reply.code == IN_CLEAR:
+            raise Refused(Refusal.IN_CLEAR)
         raise Unasked("who owns the key has crashed, and nobody owns it since")
 
     def _leading(self) -> int:
@@ -501,7 +512,7 @@ class Client:
 
     def _operate_at(self, place: int, op: int, table: int, key: int) -> None:
         """Asks the coordinator of this place for that."""
-        if self.operator is None:
+        if not self.operates:
             raise Refused(Refusal.NOT_ALLOWED)
         self._number += 1
         hello = bytes([ord("A"), VERSION, place, place])
@@ -511,8 +522,8 @@ class Client:
         except OSError as error:
             raise Unasked("the coordinator does not answer") from error
         try:
-            seal = _prove(line, self.operator, hello, end)
-            line.send(seal.batch(request(op, self._number, table, key)))
+            _await_verdict(line, end)
+            line.send(request(op, self._number, table, key))
             reply = self._await(line, self.wait)
         except OSError as error:
             raise Unknown("unknown: the coordinator has not answered, and it may have been done") from error
@@ -714,49 +725,16 @@ class Names:
         return stored
 
 
-class Seal:
-    """Batches that only who has the secret can make."""
-
-    def __init__(self, secret: bytes, challenge: bytes) -> None:
-        self.secret = secret
-        self.challenge = challenge
-        self.key = _mac(secret, challenge)
-        self.number = 0
-
-    def batch(self, content: bytes) -> bytes:
-        """The next batch, with this content."""
-        number = struct.pack("<Q", self.number)
-        self.number += 1
-        total = _mac(self.secret, self.challenge + number + _poly1305(self.key, content))
-        return struct.pack("<I", 40 + len(content)) + number + total + content
-
-
-def _mac(key: bytes, text: bytes) -> bytes:
-    return hmac.new(key, text, hashlib.sha256).digest()
-
-
-def _poly1305(key: bytes, text: bytes) -> bytes:
-    """RFC 8439, 2.5."""
-    place = int.from_bytes(key[:16], "little") & 0x0FFFFFFC0FFFFFFC0FFFFFFC0FFFFFFF
-    value = 0
-    for at in range(0, len(text), 16):
-        value = (value + int.from_bytes(text[at : at + 16] + b"\1", "little")) * place % (2**130 - 5)
-    return ((value + int.from_bytes(key[16:], "little")) % 2**128).to_bytes(16, "little")
-
-
-def _prove(line: _Line, secret: bytes, hello: bytes, end: float) -> Seal:
+def _await_verdict(line: _Line, end: float) -> None:
+    """What became of a hello."""
     try:
-        answer = line.exactly(18, end)
-        if answer[:1] != b"S":
-            raise NotLetIn("who listens there is no process of a cluster")
-        if answer[1] != VERSION:
-            raise NotLetIn(f"it has version {answer[1]}, and this is version {VERSION}")
-        seal = Seal(secret, answer[2:])
-        line.send(seal.batch(hello))
-        verdict = line.exactly(1, end)[0]
+        first, version, verdict = line.exactly(3, end)
     except OSError as error:
         raise Unasked("the coordinator does not answer") from error
+    if first != ord("S"):
+        raise NotLetIn("who listens there is no process of a cluster")
+    if version != VERSION:
+        raise NotLetIn(f"it has version {version}, and this is version {VERSION}")
     if verdict:
-        reasons = {1: "the secret is another one", 2: "the place is another one", 3: "nobody may operate there"}
+        reasons = {2: "the place is another one", 4: "the cluster has security, as `sevunthi create` has"}
         raise NotLetIn(reasons.get(verdict, "who listens there is no process of a cluster"))
-    return seal

@@ -50,15 +50,16 @@ class Wire(unittest.TestCase):
         condition = struct.pack("<Q", 3) + b"hello"
         name = 'put "hello" at table 1, key 5, if its version is 3; number 7'
         self.assertEqual(page[name], request(sevunthi.PUT_IF, 7, 1, 5, condition))
-        seal = sevunthi.Seal(b"0123456789abcdefghijklmnopqrstuv", bytes(range(16)))
-        self.assertEqual(page["the proof"], seal.batch(page["hello"]))
-        create = seal.batch(request(sevunthi.CREATE, 1, 3, sevunthi.ANY_HOST))
+        hello = page["who operates the cluster, to the coordinator at place 4"]
+        self.assertEqual(hello, bytes([65, sevunthi.VERSION, 4, 4]))
+        create = request(sevunthi.CREATE, 1, 3, sevunthi.ANY_HOST)
         self.assertEqual(page["create table 3 at any host; number 1"], create)
 
     def test_the_refusals_are_those_of_the_crate(self):
         crate = (HERE.parent / "client/src/refusal.rs").read_text()
         rows = set(re.findall(r'\(Refusal::\w+, (\d+), "\w+", "([^"]+)"', crate))
         named = {("102", "WRONG"), ("103", "NO_ROOM"), ("104", "NOT_ALLOWED"), ("107", "NOT_LEADING")}
+        named.add(("108", "IN_CLEAR"))
         for code, name in named:
             reason = re.search(rf'Refusal::\w+, {name}, "\w+", "([^"]+)"', crate)[1]
             rows.add((code, reason))
@@ -139,6 +140,28 @@ class Wire(unittest.TestCase):
             with self.assertRaises(ValueError):
                 Target.of_file(file.name)
 
+    def test_where_security_is_wanted_that_is_said(self):
+        with socket.create_server(("127.0.0.1", 0)) as listener:
+            at = listener.getsockname()[:2]
+
+            def answer():
+                for said in (b"S\2\4", struct.pack("<IBQQ", 17, 108, 1, 0)):
+                    stream = listener.accept()[0]
+                    with stream:
+                        stream.recv(100)
+                        stream.sendall(said)
+
+            thread = threading.Thread(target=answer)
+            thread.start()
+            target = Target((at, at))
+            with self.assertRaises(NotLetIn) as not_let_in:
+                Client(target, operates=True).create(8)
+            self.assertIn("has security", str(not_let_in.exception))
+            with self.assertRaises(Refused) as refused:
+                Client(target).put(1, 5, b"x")
+            self.assertIs(refused.exception.refusal, Refusal.IN_CLEAR)
+            thread.join()
+
     def test_where_nobody_listens_that_is_said(self):
         with self.assertRaises(Unasked):
             Client(Target.on(port=1), patience=0.1).put(1, 5, b"x")
@@ -150,15 +173,13 @@ class Cluster(unittest.TestCase):
     @classmethod
     def setUpClass(cls):
         cls.folder = tempfile.mkdtemp()
-        words = [PROGRAM, "up", "--hosts", "4", "--port", str(PORT), "--folder", f"{cls.folder}/data"]
+        words = [PROGRAM, "up", "--insecure", "--hosts", "4", "--port", str(PORT), "--folder", f"{cls.folder}/data"]
         cls.said = open(f"{cls.folder}/said", "w+")
         cls.up = subprocess.Popen(words, stdout=cls.said, stderr=cls.said)
-        secret = pathlib.Path(cls.folder, "data/operator")
         end = time.monotonic() + 20
         while True:
             try:
-                cls.operator = secret.read_bytes()
-                Client(TARGET, operator=cls.operator).create(1, 0)
+                Client(TARGET, operates=True).create(1, 0)
                 return
             except (OSError, Unasked, Refused, Unknown) as error:
                 if isinstance(error, Refused) and error.refusal is Refusal.TABLE_EXISTS:
@@ -245,7 +266,7 @@ class Cluster(unittest.TestCase):
             self.assertEqual(names.put(b"mine", b"x"), 4)
 
     def test_values_are_kept_in_pieces(self):
-        with Client(TARGET, operator=self.operator) as client:
+        with Client(TARGET, operates=True) as client:
             client.create(11)
             client.create(12)
             large = Large(client, 11, 12)
@@ -270,8 +291,8 @@ class Cluster(unittest.TestCase):
             with self.assertRaises(Unasked):
                 client.get(9, 5)
 
-    def test_tables_are_made_and_split_by_who_has_the_secret(self):
-        with Client(TARGET, operator=self.operator) as client:
+    def test_tables_are_made_and_split_by_who_operates_the_cluster(self):
+        with Client(TARGET, operates=True) as client:
             client.create(7)
             with self.assertRaises(Refused) as said:
                 client.create(7)
@@ -280,8 +301,6 @@ class Cluster(unittest.TestCase):
             client.put(7, 99, b"below")
             client.put(7, 100, b"above")
             self.assertEqual(client.get(7, 99).value, b"below")
-        with self.assertRaises(NotLetIn):
-            Client(TARGET, operator=bytes(32)).create(8)
         with self.assertRaises(Refused):
             Client(TARGET).create(8)
         with self.assertRaises(Unasked), Client(TARGET) as client:

@@ -31,6 +31,9 @@ impl Session {
 /// So much is read of the stream at once.
 const ROOM: usize = 32 << 10;
 
+/// What is sealed may leave so much room behind.
+const MOST_ROOM: usize = 1 << 18;
+
 /// A connection: a stream, and a session over it, or none where the connection is plain. Who reads and who writes have
 /// one each, and lock the session only to open or to seal.
 pub struct Channel<S> {
@@ -117,6 +120,8 @@ impl<S: Write> Write for Channel<S> {
         self.room.clear();
         lock(session)?.seal(bytes, &mut self.room)?;
         self.stream.write_all(&self.room)?;
+        self.room.clear();
+        self.room.shrink_to(MOST_ROOM);
         Ok(bytes.len())
     }
 

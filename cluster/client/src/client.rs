@@ -2,15 +2,17 @@
 
 use crate::addresses;
 use crate::bytes::framed;
+use crate::channel::Channel;
 use crate::connection::Connection;
+use crate::dial::{CONNECTING, connect, dial};
 use crate::error::{Error, Found, Missing};
-use crate::handshake::{self, Hello, Refused, Role};
+use crate::hello::{self, Hello, NotLetIn, Refused, Role};
 use crate::protocol::{
-    ANY_HOST, DONE, MISMATCH, MISMATCH_NO_VALUE, MOST_VALUE, NO_HINT, NO_VALUE, NOT_LEADING, Op, Reply, Request,
-    UNKNOWN, WRONG,
+    ANY_HOST, DONE, IN_CLEAR, MISMATCH, MISMATCH_NO_VALUE, MOST_VALUE, NO_HINT, NO_VALUE, NOT_LEADING, Op, Reply,
+    Request, UNKNOWN, WRONG,
 };
 use crate::refusal::{NO_TABLE, RECOVERING, Refusal};
-use crate::seal::HEAD;
+use crate::secret::Secret;
 use crate::target::Target;
 use std::collections::HashMap;
 use std::io::{self, ErrorKind, Read, Write};
@@ -23,9 +25,6 @@ const PATIENCE_WITH_COORDINATOR: Duration = Duration::from_millis(300);
 
 /// How the state begins of a coordinator that does not lead.
 pub const STANDS_BY: &str = "stands by";
-
-/// How long a connection is waited for.
-const CONNECTING: Duration = Duration::from_secs(2);
 
 /// After so long one asks again: who has refused; and the coordinator, where nobody owns the key.
 const PAUSE: Duration = Duration::from_millis(10);
@@ -42,15 +41,26 @@ struct Owner {
     is_doubted: bool,
 }
 
+/// How a client operates the cluster.
+#[derive(Clone)]
+enum Operates {
+    /// It does not.
+    Not,
+    /// It proves that it has this secret.
+    Proves(Secret),
+    /// In clear, where the cluster has no security at all.
+    InClear,
+}
+
 /// A client. It asks one thing at a time, finds the owner of each key, and waits where that is of use: while a head is
 /// rolled, or an owner is recovered from. A write that is asked again is a new write: so a write whose answer is lost
 /// is not asked again, and is [`Error::Unknown`]. A read is asked again.
 pub struct Client {
     target: Target,
-    connections: HashMap<u8, TcpStream>,
+    connections: HashMap<u8, Channel<TcpStream>>,
     owners: HashMap<u32, Owner>,
     number: u64,
-    operator: Option<Vec<u8>>,
+    operates: Operates,
     /// The coordinator that has led last, as far as it has answered.
     leads: u8,
     /// The host that is tried next, where the coordinator does not answer, and no owner is known.
@@ -69,7 +79,7 @@ impl Client {
             connections: HashMap::new(),
             owners: HashMap::new(),
             number: 0,
-            operator: None,
+            operates: Operates::Not,
             leads: 0,
             guess: 0,
             patience: Duration::from_secs(10),
@@ -82,9 +92,14 @@ impl Client {
         &self.target
     }
 
-    /// From now on it operates the cluster, by this secret: the bytes of the file `operator` in the folder of `up`.
-    pub fn operate_with(&mut self, secret: &[u8]) {
-        self.operator = Some(secret.to_vec());
+    /// From now on it operates the cluster, by this secret: that of the file `operator` in the folder of `up`.
+    pub fn operate_with(&mut self, secret: Secret) {
+        self.operates = Operates::Proves(secret);
+    }
+
+    /// From now on it operates the cluster, which has no security: who is on its machine may.
+    pub fn operate_in_clear(&mut self) {
+        self.operates = Operates::InClear;
     }
 
     /// Writes a value, and gives its version.
@@ -171,14 +186,20 @@ impl Client {
     ///
     /// That nobody answers there.
     pub fn status(&mut self, place: u8) -> Result<String, Error> {
-        let text = |reply: Reply| String::from_utf8_lossy(&reply.value).into_owned();
-        self.call(place, Op::Status, 0, 0, &[]).map(text).map_err(|_| self.missing(place))
+        match self.call(place, Op::Status, 0, 0, &[]) {
+            Ok(Reply { code: IN_CLEAR, .. }) => Err(Error::Unasked(Missing::NotLetIn(place, NotLetIn::InClear))),
+            Ok(reply) => Ok(String::from_utf8_lossy(&reply.value).into_owned()),
+            Err(lost) => Err(self.missing(place, lost)),
+        }
     }
 
     /// Who was asked in vain.
-    fn missing(&self, place: u8) -> Error {
-        let is_coordinator = self.target.hosts <= place;
-        Error::Unasked(if is_coordinator { Missing::Coordinator } else { Missing::Host(place) })
+    fn missing(&self, place: u8, lost: Lost) -> Error {
+        Error::Unasked(match lost {
+            Lost::NotLetIn(why) => Missing::NotLetIn(place, why),
+            Lost::Before | Lost::After if self.target.hosts <= place => Missing::Coordinator,
+            Lost::Before | Lost::After => Missing::Host(place),
+        })
     }
 
     /// A connection to the host that owns this key now, for many requests at once.
@@ -192,7 +213,7 @@ impl Client {
             owner.is_doubted = true;
         }
         let owner = self.await_owner(table, key).map_err(Error::Unasked)?;
-        Connection::open(&self.target, owner).map_err(|_| Error::Unasked(Missing::Host(owner)))
+        Connection::open(&self.target, owner).map_err(|refused| self.missing(owner, Lost::of(&refused)))
     }
 
     /// Asks the owner, and whoever is the owner then, until it is done, is unknown, or one has waited long enough.
@@ -255,9 +276,10 @@ impl Client {
     fn ask_at(&mut self, owner: u8, op: Op, table: u32, key: u64, value: &[u8]) -> Result<Found, Error> {
         match self.call(owner, op, table, key, value) {
             Ok(Reply { code: WRONG, .. }) => Err(Error::Unasked(Missing::NoHost(owner))),
+            Ok(Reply { code: IN_CLEAR, .. }) => Err(Error::Unasked(Missing::NotLetIn(owner, NotLetIn::InClear))),
             Ok(reply) => judge(op, reply),
-            Err(Lost::Before) => Err(Error::Unasked(Missing::Host(owner))),
             Err(Lost::After) => Err(Error::Unknown),
+            Err(lost @ (Lost::Before | Lost::NotLetIn(_))) => Err(self.missing(owner, lost)),
         }
     }
 
@@ -280,6 +302,7 @@ impl Client {
             }
             Ok((NO_TABLE, _)) => Err(Missing::Table),
             Ok((WRONG, _)) => Err(Missing::NoCoordinator),
+            Ok((IN_CLEAR, _)) => Err(Missing::NotLetIn(self.leading(), NotLetIn::InClear)),
             Ok((NOT_LEADING, _)) => known.map(|owner| owner.index).ok_or(Missing::Leader),
             Ok(_) => Err(Missing::Owner),
             Err(lost) => match known {
@@ -306,8 +329,10 @@ impl Client {
 
     /// What is known where the coordinator does not answer. Where nobody listens at its port it may have another one.
     fn silent(&mut self, lost: Lost) -> Missing {
-        if lost == Lost::After {
-            return Missing::Coordinator;
+        match lost {
+            Lost::After => return Missing::Coordinator,
+            Lost::NotLetIn(why) => return Missing::NotLetIn(self.leading(), why),
+            Lost::Before => {}
         }
         let refuses = |place| {
             let stream = addresses::connect(&self.target.at(place), CONNECTING);
@@ -350,7 +375,7 @@ impl Client {
                 (Ok(reply), _) if reply.code != NOT_LEADING => return Ok(reply),
                 (Ok(reply), _) if reply.version != NO_HINT => last = Ok(Reply { code: DONE, ..reply }),
                 (Ok(reply), Err(_)) => last = Ok(reply),
-                (Err(Lost::After), Err(_)) => last = Err(Lost::After),
+                (Err(lost @ (Lost::After | Lost::NotLetIn(_))), Err(_)) => last = Err(lost),
                 (Ok(_), Ok(_)) | (Err(_), _) => {}
             }
             self.leads = (self.leads + 1) % self.target.coordinators;
@@ -393,26 +418,31 @@ impl Client {
 
     /// Asks the coordinator of this place for that.
     fn operate_at(&mut self, place: u8, op: Op, table: u32, key: u64) -> Result<(), Error> {
-        let Some(secret) = &self.operator else { return Err(Error::Refused(Refusal::NotAllowed)) };
+        let secret = match self.operates.clone() {
+            Operates::Not => return Err(Error::Refused(Refusal::NotAllowed)),
+            Operates::Proves(secret) => Some(secret),
+            Operates::InClear => None,
+        };
         self.number += 1;
-        let hello = Hello { role: Role::Operator, from: place, to: place };
-        let proved = dial(&self.target, place).map_err(Refused::Broken).and_then(|mut stream| {
-            stream.set_read_timeout(Some(self.wait))?;
-            handshake::prove(&mut stream, hello, secret).map(|seal| (stream, seal))
-        });
-        let (mut stream, mut seal) = match proved {
-            Ok(proved) => proved,
+        let mut channel = match self.dial_operator(place, secret.as_ref()) {
+            Ok(channel) => channel,
             Err(Refused::NotLetIn(why)) => return Err(Error::NotLetIn(why)),
             Err(Refused::Broken(_)) => return Err(Error::Unasked(Missing::Coordinator)),
         };
-        let mut batch = vec![0; HEAD];
-        Request { op, number: self.number, table, key, value: Default::default() }.put(&mut batch);
-        seal.close(&mut batch);
-        match exchange(&mut stream, &batch, self.number, self.wait) {
+        let mut request = Vec::new();
+        Request { op, number: self.number, table, key, value: Default::default() }.put(&mut request);
+        match exchange(&mut channel, &request, self.number, self.wait) {
             Ok(Reply { code: DONE, .. }) => Ok(()),
             Ok(Reply { code, .. }) => Err(Error::Refused(Refusal::of(code))),
             Err(_) => Err(Error::Unknown),
         }
+    }
+
+    fn dial_operator(&self, place: u8, secret: Option<&Secret>) -> Result<Channel<TcpStream>, Refused> {
+        let mut channel = dial(&self.target, place, Role::Operator, secret)?;
+        channel.stream().set_read_timeout(Some(self.wait))?;
+        hello::say(&mut channel, Hello { role: Role::Operator, from: place, to: place })?;
+        Ok(channel)
     }
 
     /// Asks whoever has this place, once: hosts first, and then the coordinators.
@@ -425,12 +455,12 @@ impl Client {
         let request = Request { op, number: self.number, table, key, value: value.into() };
         let mut bytes = Vec::new();
         request.put(&mut bytes);
-        let mut stream = match self.connections.remove(&place) {
-            Some(stream) if is_open(&stream) => stream,
-            _ => connect(&self.target, place).map_err(|_| Lost::Before)?,
+        let mut channel = match self.connections.remove(&place) {
+            Some(channel) if is_open(channel.stream()) && !channel.is_worn() => channel,
+            Some(_) | None => connect(&self.target, place).map_err(|refused| Lost::of(&refused))?,
         };
-        let reply = exchange(&mut stream, &bytes, self.number, self.wait).map_err(|_| Lost::After)?;
-        self.connections.insert(place, stream);
+        let reply = exchange(&mut channel, &bytes, self.number, self.wait).map_err(|_| Lost::After)?;
+        self.connections.insert(place, channel);
         Ok(reply)
     }
 }
@@ -442,6 +472,18 @@ pub enum Lost {
     Before,
     /// It was sent.
     After,
+    /// It was not sent: the other side does not let this one in, or is not believed.
+    NotLetIn(NotLetIn),
+}
+
+impl Lost {
+    /// What came of connecting.
+    fn of(refused: &Refused) -> Lost {
+        match refused {
+            Refused::Broken(_) => Lost::Before,
+            Refused::NotLetIn(why) => Lost::NotLetIn(*why),
+        }
+    }
 }
 
 /// What no host takes is not asked for: who asks for more than a request may have is not answered.
@@ -484,19 +526,6 @@ pub(crate) fn judge(op: Op, reply: Reply) -> Result<Found, Error> {
     }
 }
 
-fn dial(target: &Target, place: u8) -> io::Result<TcpStream> {
-    let stream = addresses::connect(&target.at(place), CONNECTING)?;
-    stream.set_nodelay(true)?;
-    Ok(stream)
-}
-
-/// Connects as a client to whoever has this place.
-pub(crate) fn connect(target: &Target, place: u8) -> io::Result<TcpStream> {
-    let mut stream = dial(target, place)?;
-    stream.write_all(b"C")?;
-    Ok(stream)
-}
-
 /// Whether a connection on which nothing is awaited has not been ended by its other side: one that asks nothing makes
 /// room for others.
 fn is_open(stream: &TcpStream) -> bool {
@@ -507,10 +536,10 @@ fn is_open(stream: &TcpStream) -> bool {
     peeked.unwrap_or(false) && stream.set_nonblocking(false).is_ok()
 }
 
-fn exchange(stream: &mut TcpStream, request: &[u8], number: u64, wait: Duration) -> io::Result<Reply> {
+fn exchange(channel: &mut Channel<TcpStream>, request: &[u8], number: u64, wait: Duration) -> io::Result<Reply> {
     let end = Instant::now() + wait;
-    stream.set_read_timeout(Some(wait))?;
-    stream.write_all(request)?;
+    channel.stream().set_read_timeout(Some(wait))?;
+    channel.write_all(request)?;
     let mut bytes = Vec::new();
     loop {
         for piece in framed(&bytes) {
@@ -519,7 +548,7 @@ fn exchange(stream: &mut TcpStream, request: &[u8], number: u64, wait: Duration)
             }
         }
         let mut more = [0; 8192];
-        match stream.read(&mut more)? {
+        match channel.read(&mut more)? {
             0 => return Err(ErrorKind::UnexpectedEof.into()),
             count => bytes.extend_from_slice(&more[..count]),
         }
@@ -533,7 +562,6 @@ fn exchange(stream: &mut TcpStream, request: &[u8], number: u64, wait: Duration)
 mod tests {
     use super::*;
     use crate::refusal::NOT_OWNER;
-    use crate::seal::Seal;
     use std::net::TcpListener;
     use std::sync::Arc;
     use std::sync::atomic::{AtomicUsize, Ordering};
@@ -664,32 +692,44 @@ mod tests {
     }
 
     #[test]
-    fn who_has_the_secret_operates() -> io::Result<()> {
+    fn who_operates_says_so() -> io::Result<()> {
         let target = target(5, 1);
         let listener = TcpListener::bind(target.at(1))?;
         let server = thread::spawn(move || -> io::Result<Vec<u8>> {
-            let (mut stream, _) = listener.accept()?;
-            stream.read_exact(&mut [0; 4])?;
-            stream.write_all(b"S\x01................")?;
-            let mut seal = Seal::new(b"a secret", [b'.'; 16]);
-            let mut proof = [0; HEAD + 4];
-            stream.read_exact(&mut proof)?;
-            assert_eq!(seal.open(&proof), Some(&b"A\x01\x01\x01"[..]));
-            stream.write_all(&[handshake::TAKEN])?;
-            let mut batch = [0; HEAD + 25];
-            stream.read_exact(&mut batch)?;
-            let mut out = Vec::new();
-            Reply::bare(DONE, 1).put(&mut out);
-            stream.write_all(&out)?;
-            Ok(seal.open(&batch).unwrap_or_default().to_vec())
+            for verdict in [hello::IN_CLEAR, hello::TAKEN] {
+                let (mut stream, mut said) = (listener.accept()?.0, [0; 4]);
+                stream.read_exact(&mut said)?;
+                assert_eq!(said, [b'A', hello::VERSION, 1, 1]);
+                stream.write_all(&[hello::ANSWER, hello::VERSION, verdict])?;
+                if verdict == hello::TAKEN {
+                    let mut request = vec![0; 25];
+                    stream.read_exact(&mut request)?;
+                    let mut out = Vec::new();
+                    Reply::bare(DONE, 2).put(&mut out);
+                    stream.write_all(&out)?;
+                    return Ok(request);
+                }
+            }
+            Ok(Vec::new())
         });
         let mut client = Client::new(target);
         assert_eq!(client.create(3, None), Err(Error::Refused(Refusal::NotAllowed)));
-        client.operate_with(b"a secret");
+        client.operate_in_clear();
+        assert_eq!(client.create(3, None), Err(Error::NotLetIn(NotLetIn::InClear)));
         assert_eq!(client.create(3, Some(2)), Ok(()));
         let asked = server.join().expect("it has not panicked")?;
         let request = Request::read(&asked[4..]).expect("it is one");
         assert_eq!((request.op, request.table, request.key), (Op::Create, 3, 2));
+        Ok(())
+    }
+
+    #[test]
+    fn a_client_in_clear_is_told_that_a_proof_is_wanted() -> io::Result<()> {
+        let target = target(11, 1);
+        (0..2).try_for_each(|place| answer(&target, place, IN_CLEAR))?;
+        assert_eq!(get(&target), Err(Error::Unasked(Missing::NotLetIn(1, NotLetIn::InClear))));
+        let told = target.told(Missing::NotLetIn(1, NotLetIn::InClear), 9);
+        assert!(told.contains(":7301: a proof of the secret is wanted") && told.contains("--client-secret"), "{told}");
         Ok(())
     }
 

@@ -1,8 +1,11 @@
 //! A connection to one host, on which many requests are under way at once.
 
 use crate::bytes::u32_at;
-use crate::client::{check, connect, judge};
+use crate::channel::Channel;
+use crate::client::{check, judge};
+use crate::dial::connect;
 use crate::error::{Error, Found};
+use crate::hello::Refused;
 use crate::protocol::{Op, Reply, Request};
 use crate::target::Target;
 use std::collections::VecDeque;
@@ -45,7 +48,7 @@ pub struct Answer {
 /// # Ok::<(), Error>(())
 /// ```
 pub struct Connection {
-    stream: TcpStream,
+    channel: Channel<TcpStream>,
     out: Vec<u8>,
     came: Came,
     asked: Asked,
@@ -59,20 +62,24 @@ impl Connection {
     /// # Errors
     ///
     /// Why it is not reached.
-    pub fn open(target: &Target, host: u8) -> io::Result<Connection> {
-        Connection::of(connect(target, host)?)
+    pub fn open(target: &Target, host: u8) -> Result<Connection, Refused> {
+        Ok(Connection::over(connect(target, host)?)?)
     }
 
-    /// The same over a stream on which it was said that this is a client.
+    /// The same over a stream on which it was said that this is a client, in clear.
     ///
     /// # Errors
     ///
     /// What the stream says.
     pub fn of(stream: TcpStream) -> io::Result<Connection> {
-        stream.set_read_timeout(Some(WAIT))?;
-        stream.set_write_timeout(Some(WAIT))?;
+        Connection::over(Channel::plain(stream))
+    }
+
+    fn over(channel: Channel<TcpStream>) -> io::Result<Connection> {
+        channel.stream().set_read_timeout(Some(WAIT))?;
+        channel.stream().set_write_timeout(Some(WAIT))?;
         Ok(Connection {
-            stream,
+            channel,
             out: Vec::new(),
             came: Came { room: vec![0; 2 * ROOM], from: 0, to: 0 },
             asked: Asked::default(),
@@ -86,8 +93,8 @@ impl Connection {
     ///
     /// What the stream says.
     pub fn set_wait(&mut self, wait: Duration) -> io::Result<()> {
-        self.stream.set_read_timeout(Some(wait))?;
-        self.stream.set_write_timeout(Some(wait))
+        self.channel.stream().set_read_timeout(Some(wait))?;
+        self.channel.stream().set_write_timeout(Some(wait))
     }
 
     /// Asks for a value to be written, and gives the request's number: 0, 1, 2 and so on. It leaves with the next
@@ -152,7 +159,7 @@ impl Connection {
     ///
     /// That the connection is lost.
     pub fn send(&mut self) -> io::Result<()> {
-        self.stream.write_all(&self.out)?;
+        self.channel.write_all(&self.out)?;
         self.out.clear();
         Ok(())
     }
@@ -168,7 +175,7 @@ impl Connection {
         let before = answers.len();
         answers.append(&mut self.said);
         while answers.len() == before && 0 < self.asked.open {
-            self.came.read(&mut self.stream)?;
+            self.came.read(&mut self.channel)?;
             self.take(answers)?;
         }
         Ok(())
@@ -229,7 +236,7 @@ struct Came {
 
 impl Came {
     /// Adds what comes.
-    fn read(&mut self, stream: &mut TcpStream) -> io::Result<()> {
+    fn read(&mut self, stream: &mut impl Read) -> io::Result<()> {
         self.room.copy_within(self.from..self.to, 0);
         (self.from, self.to) = (0, self.to - self.from);
         if self.room.len() < self.to + ROOM {

@@ -1,6 +1,6 @@
 //! What has become of a request that was not done, or of which nobody knows.
 
-use crate::handshake::NotLetIn;
+use crate::hello::NotLetIn;
 use crate::refusal::Refusal;
 use std::fmt::{self, Display, Formatter};
 
@@ -50,15 +50,20 @@ pub enum Missing {
     Owner,
     /// The host that owns the key does not answer.
     Host(u8),
+    /// Who has this place does not let this client in, or is not believed.
+    NotLetIn(u8, NotLetIn),
 }
 
 impl Missing {
     /// Whether it is of no use to wait.
     pub fn stays(self) -> bool {
         match self {
-            Missing::Cluster | Missing::NoCoordinator | Missing::Elsewhere(_) | Missing::NoHost(_) | Missing::Table => {
-                true
-            }
+            Missing::Cluster
+            | Missing::NoCoordinator
+            | Missing::Elsewhere(_)
+            | Missing::NoHost(_)
+            | Missing::Table
+            | Missing::NotLetIn(..) => true,
             Missing::Coordinator | Missing::Leader | Missing::Owner | Missing::Host(_) => false,
         }
     }
@@ -76,6 +81,7 @@ impl Display for Missing {
             Missing::Table => write!(out, "there is no such table"),
             Missing::Owner => write!(out, "who owns the key has crashed, and nobody owns it since"),
             Missing::Host(index) => write!(out, "host {index}, which owns the key, does not answer"),
+            Missing::NotLetIn(place, why) => write!(out, "who has place {place} has not let this client in: {why}"),
         }
     }
 }

@@ -20,21 +20,23 @@
 //!
 //! Over these stand [`names`], a table whose keys are byte strings, and [`large`], values of up to 1 MiB.
 //!
-//! What goes over the wire stands in [`protocol`], [`handshake`] and [`seal`]; `docs/WIRE.md` has it byte by byte.
+//! What goes over the wire stands in [`protocol`] and [`hello`]; `docs/WIRE.md` has it byte by byte. Where the cluster's
+//! processes want security, [`Target::with_secret`] names the file of the clients' secret: all is said over
+//! [`security`] then.
 
 pub mod addresses;
 mod bytes;
 mod channel;
 mod client;
 mod connection;
+mod dial;
 mod error;
-pub mod handshake;
+pub mod hello;
 pub mod large;
 pub mod names;
-mod poly1305;
 pub mod protocol;
 pub mod refusal;
-pub mod seal;
+pub mod secret;
 #[cfg(feature = "security")]
 pub mod security;
 mod sha256;
@@ -46,7 +48,8 @@ pub use channel::Channel;
 pub use client::{Client, Lost, STANDS_BY};
 pub use connection::{Answer, Connection};
 pub use error::{Error, Found, Missing};
-pub use handshake::NotLetIn;
+pub use hello::NotLetIn;
 pub use refusal::Refusal;
+pub use secret::{Secret, SecretFile};
 pub use store::Store;
 pub use target::Target;

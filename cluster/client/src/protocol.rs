@@ -171,6 +171,8 @@ pub const MISMATCH_NO_VALUE: u8 = 106;
 /// It was not done: another coordinator leads, or may lead by now. The value says where it listens, if that is known; the
 /// version who owns the key, as far as this one knows, or [`NO_HINT`].
 pub const NOT_LEADING: u8 = 107;
+/// It was not done: clients prove here that they have the secret, or are on this machine. The connection ends.
+pub const IN_CLEAR: u8 = 108;
 /// Nothing is known of who owns the key.
 pub const NO_HINT: u64 = u64::MAX;
 

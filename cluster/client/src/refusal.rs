@@ -1,6 +1,8 @@
 //! Refusals: each with its code, its name, what it says, and what to do about it.
 
-use crate::protocol::{DONE, MISMATCH, MISMATCH_NO_VALUE, NO_ROOM, NO_VALUE, NOT_ALLOWED, NOT_LEADING, UNKNOWN, WRONG};
+use crate::protocol::{
+    DONE, IN_CLEAR, MISMATCH, MISMATCH_NO_VALUE, NO_ROOM, NO_VALUE, NOT_ALLOWED, NOT_LEADING, UNKNOWN, WRONG,
+};
 use std::fmt::{self, Display, Formatter};
 
 /// The host does not own the key.
@@ -49,6 +51,8 @@ pub enum Refusal {
     NotAllowed,
     /// 107: another coordinator leads, or none does just now.
     NotLeading,
+    /// 108: clients have to prove that they have the secret.
+    InClear,
     /// A code that this client does not know.
     Other(u8),
 }
@@ -56,7 +60,7 @@ pub enum Refusal {
 /// A refusal with its code, its name, what it says, and what to do.
 type Row = (Refusal, u8, &'static str, &'static str, &'static str);
 
-const ROWS: [Row; 17] = [
+const ROWS: [Row; 18] = [
     (Refusal::OutOfMemory, 1, "OutOfMemory", "memory was refused", "give the host's machine more memory"),
     (Refusal::NotOwner, 2, "NotOwner", "no range granted to the host holds the key", OWNER),
     (Refusal::Rolling, 3, "Rolling", "the host is not writing, or begins a new segment", SOON),
@@ -74,11 +78,14 @@ const ROWS: [Row; 17] = [
     (Refusal::NoRoom, NO_ROOM, "NoRoom", "too few hosts have room on their disks", "make room, or add hosts"),
     (Refusal::NotAllowed, NOT_ALLOWED, "NotAllowed", "only who has the operator's secret may ask for that", SECRET),
     (Refusal::NotLeading, NOT_LEADING, "NotLeading", "no coordinator leads just now", SOON),
+    (Refusal::InClear, IN_CLEAR, "InClear", "a proof of the secret is wanted, and none was given", CLIENTS),
 ];
 
 const SOON: &str = "ask again soon: it passes";
 const OWNER: &str = "ask the coordinator who owns the key now, and then that host";
 const SECRET: &str = "give the client the file `operator` of the cluster";
+const CLIENTS: &str =
+    "give the client the file `client-secret` of the cluster; one without security has to be on its machine";
 
 impl Refusal {
     /// The refusal of this code. [`Refusal::Other`] has all that are not known here.
@@ -140,6 +147,7 @@ pub fn name(code: u8) -> String {
         NO_ROOM => "no_room".to_string(),
         NOT_ALLOWED => "not_allowed".to_string(),
         NOT_LEADING => "not_leading".to_string(),
+        IN_CLEAR => "in_clear".to_string(),
         MISMATCH => "mismatch".to_string(),
         MISMATCH_NO_VALUE => "mismatch_no_value".to_string(),
         code => format!("F{code}"),

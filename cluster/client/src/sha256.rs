@@ -1,5 +1,4 @@
-//! SHA-256 (FIPS 180-4), and HMAC with it (RFC 2104): by these who operates a cluster proves that it has the
-//! secret, and names become keys.
+//! SHA-256 (FIPS 180-4): by it names become keys, and long values are looked at.
 
 /// The first 32 bits of what stands behind the point in the cube roots of the first 64 primes.
 const ROUNDS: [u32; 64] = [
@@ -55,18 +54,6 @@ fn compressed(state: [u32; 8], block: &[u8]) -> [u32; 8] {
     sum
 }
 
-/// HMAC with SHA-256 over a text, under this key.
-pub(crate) fn hmac(key: &[u8], text: &[u8]) -> [u8; 32] {
-    let mut block = [0; BLOCK];
-    if key.len() <= BLOCK {
-        block[..key.len()].copy_from_slice(key);
-    } else {
-        block[..32].copy_from_slice(&sha256(key));
-    }
-    let padded = |pad: u8, text: &[u8]| sha256(&[&block.map(|byte| byte ^ pad)[..], text].concat());
-    padded(0x5c, &padded(0x36, text))
-}
-
 #[cfg(test)]
 mod tests {
     use super::*;
@@ -88,26 +75,6 @@ mod tests {
             (&[b'a'; 1_000_000], "cdc76e5c9914fb9281a1c7e284d73e67f1809a48a497200e046d39ccc7112cd0"),
         ] {
             assert_eq!(hex(&sha256(text)), sum);
-        }
-    }
-
-    /// RFC 4231, 4.2, 4.3 and 4.7: a short key, a text, and a key that is longer than a block.
-    #[test]
-    fn codes_are_those_of_the_rfc() {
-        for (key, text, code) in [
-            (&[0x0b; 20][..], &b"Hi There"[..], "b0344c61d8db38535ca8afceaf0bf12b881dc200c9833da726e9376c2e32cff7"),
-            (
-                b"Jefe",
-                b"what do ya want for nothing?",
-                "5bdcc146bf60754e6a042426089575c75a003f089d2739839dec58b964ec3843",
-            ),
-            (
-                &[0xaa; 131],
-                b"Test Using Larger Than Block-Size Key - Hash Key First",
-                "60e431591ee0b67f0d8a26aacbf5b77f8e0bc6213728c5140546040f0ee37f54",
-            ),
-        ] {
-            assert_eq!(hex(&hmac(key, text)), code);
         }
     }
 }

@@ -2,7 +2,9 @@
 
 use crate::addresses::{self, Listed};
 use crate::error::Missing;
+use crate::hello::NotLetIn;
 use crate::refusal::Refusal;
+use crate::secret::SecretFile;
 use std::path::Path;
 
 /// Where a cluster is.
@@ -18,18 +20,25 @@ pub struct Target {
     pub coordinators: u8,
     /// Where each listens, by its place, where a file says that; else all do on the one address.
     pub listed: Vec<String>,
+    /// The file of the clients' secret, where its processes want a proof of it; else all is said in clear.
+    pub secret: Option<SecretFile>,
 }
 
 impl Target {
     /// A cluster of so many hosts that all listen on this address: host 0 at this port, the others at those that
     /// follow, and then the one coordinator.
     pub fn on(address: &str, port: u16, hosts: u8) -> Target {
-        Target { address: address.to_string(), port, hosts, coordinators: 1, listed: Vec::new() }
+        Target { address: address.to_string(), port, hosts, coordinators: 1, listed: Vec::new(), secret: None }
     }
 
     /// The same with so many coordinators, at least one, at ports one behind the other.
     pub fn with_coordinators(self, coordinators: u8) -> Target {
         Target { coordinators: coordinators.max(1), ..self }
+    }
+
+    /// The same, where clients prove that they have the secret of this file. It is read as often as one connects.
+    pub fn with_secret(self, file: SecretFile) -> Target {
+        Target { secret: Some(file), ..self }
     }
 
     /// How many processes there are: hosts first, and then the coordinators.
@@ -45,7 +54,7 @@ impl Target {
     pub fn of_file(file: &Path) -> Result<Target, String> {
         let Listed { all: listed, coordinators } = addresses::of_file(file)?;
         let hosts = listed.len() as u8 - coordinators;
-        Ok(Target { address: String::new(), port: 0, hosts, coordinators, listed })
+        Ok(Target { address: String::new(), port: 0, hosts, coordinators, listed, secret: None })
     }
 
     /// Where whoever has this place listens: hosts first, and then the coordinators.
@@ -85,6 +94,18 @@ impl Target {
             Missing::Table => format!("there is no table {table}"),
             Missing::Owner => format!("refused: {}", Refusal::Recovering),
             Missing::Host(index) => format!("host {index} at {} does not answer", self.at(index)),
+            Missing::NotLetIn(place, why) => format!("not let in at {}: {why}{}", self.at(place), of_secret(why)),
         }
+    }
+}
+
+/// What to look at where a client was not let in.
+fn of_secret(why: NotLetIn) -> &'static str {
+    match why {
+        NotLetIn::InClear | NotLetIn::Secret => {
+            "; --client-secret has to name the cluster's own file: `client-secret` in the folder of `up`"
+        }
+        NotLetIn::NoSecurity => "; without --client-secret clients are let in there",
+        NotLetIn::Version(_) | NotLetIn::Place | NotLetIn::Stranger => "",
     }
 }

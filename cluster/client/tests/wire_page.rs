@@ -1,9 +1,10 @@
 //! The worked bytes of docs/WIRE.md are those of the code.
 
-use sevunthi_client::handshake::{Hello, Role};
+use sevunthi_client::hello::{ANSWER, Hello, Role, TAKEN, VERSION};
 use sevunthi_client::names;
 use sevunthi_client::protocol::{ANY_HOST, DONE, MISMATCH, NO_VALUE, Op, Reply, Request};
-use sevunthi_client::seal::{HEAD, Seal};
+use sevunthi_client::secret::Secret;
+use sevunthi_client::security::key_of;
 use std::collections::BTreeMap;
 use std::path::Path;
 
@@ -40,13 +41,8 @@ fn reply(code: u8, number: u64, version: u64, value: &[u8]) -> Vec<u8> {
 /// What the code makes of each example.
 fn made() -> BTreeMap<String, Vec<u8>> {
     let hello = Hello { role: Role::Operator, from: 4, to: 4 }.code();
-    let mut seal = Seal::new(b"0123456789abcdefghijklmnopqrstuv", std::array::from_fn(|at| at as u8));
-    let mut batch = |content: &[u8]| {
-        let mut batch = [&[0; HEAD], content].concat();
-        seal.close(&mut batch);
-        batch
-    };
-    let (proof, create) = (batch(&hello), batch(&request(Op::Create, 1, 3, ANY_HOST, b"")));
+    let secret = Secret::of(b"0123456789abcdefghijklmnopqrstuv".to_vec()).expect("it is long enough");
+    let (identity, key) = key_of(Role::Client, 4, &secret).expect("there is one");
     let all = [
         ("put \"hello\" at table 1, key 5; number 7", request(Op::Put, 7, 1, 5, b"hello")),
         ("get of table 1, key 5; number 8", request(Op::Get, 8, 1, 5, b"")),
@@ -65,9 +61,11 @@ fn made() -> BTreeMap<String, Vec<u8>> {
             "put \"hello\" at the name \"greeting\" of table 1, if there is none; number 7",
             request(Op::PutIfAbsent, 7, 1, names::key_of(b"greeting"), b"\x07greetinghello"),
         ),
-        ("hello", hello.to_vec()),
-        ("the proof", proof),
-        ("create table 3 at any host; number 1", create),
+        ("the identity, in ASCII", identity.into_bytes()),
+        ("the key", key.to_vec()),
+        ("who operates the cluster, to the coordinator at place 4", hello.to_vec()),
+        ("let in", vec![ANSWER, VERSION, TAKEN]),
+        ("create table 3 at any host; number 1", request(Op::Create, 1, 3, ANY_HOST, b"")),
     ];
     all.into_iter().map(|(name, bytes)| (name.to_string(), bytes)).collect()
 }

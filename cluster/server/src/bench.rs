@@ -2,6 +2,7 @@
 
 use crate::client::{Answer, Client, Connection, Error, Missing, Refusal, Target};
 use crate::etcd::Etcd;
+use crate::hello::Refused;
 use crate::options::Options;
 use crate::protocol::{DONE, MISMATCH, Op, UNKNOWN};
 use crate::reasons::NOT_OWNER;
@@ -139,7 +140,10 @@ fn connect(target: &Target, table: u32) -> Result<Connection, Missing> {
         connection.set_wait(WAIT)?;
         Ok(connection)
     });
-    connection.map_err(|_| Missing::Host(owner))
+    connection.map_err(|refused| match refused {
+        Refused::Broken(_) => Missing::Host(owner),
+        Refused::NotLetIn(why) => Missing::NotLetIn(owner, why),
+    })
 }
 
 /// Tells what was measured, with the processor time that was used, and says whether it went to its end.

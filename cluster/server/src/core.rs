@@ -10,7 +10,7 @@ use crate::door::{self, Door, Opening};
 use crate::events::{self, Event, EventReceiver, EventSender};
 use crate::faults::{Failing, Mangle, Wrong};
 use crate::guard::{COORDINATOR, Guard, Position, Shown, Standing, WORD, Word};
-use crate::handshake::{Hello, Role};
+use crate::hello::{Hello, Role};
 use crate::journal::Synced;
 pub use crate::log::{failed, must_not_start, tell};
 use crate::metrics::{self, Kind, Metrics};
@@ -20,7 +20,7 @@ use crate::protocol::Reply;
 use crate::reasons::name;
 use crate::record::Record;
 use crate::room::Room;
-use crate::secret::Secret;
+use crate::secret::Secrets;
 use crate::segments::Segments;
 use crate::store::Store;
 use crate::superseded::without_superseded;
@@ -53,16 +53,16 @@ pub struct Config {
     pub coordinator: u8,
     /// Where etcd listens, if the coordinators' journal is there.
     pub store: Vec<String>,
+    /// And what keys of this cluster begin with there.
+    pub store_name: String,
     /// Where each listens, by its place, where a file says that.
     pub listed: Vec<String>,
     /// Where this process listens, where that is not where others reach it.
     pub listen: Option<String>,
     /// The node's folder.
     pub folder: PathBuf,
-    /// What the peers share.
-    pub secret: Secret,
-    /// What who operates the cluster has; where it is not there nobody operates it at this process.
-    pub operator: Option<Secret>,
+    /// Who has to prove what to this process.
+    pub secrets: Secrets,
     /// How many replicas each segment has.
     pub factor: u8,
     /// How many entries a segment takes.
@@ -121,8 +121,7 @@ impl Config {
             place: self.place() as u8,
             places: self.coordinator_places().end,
             name: self.label(self.place()),
-            secret: self.secret.clone(),
-            operator: self.operator.clone(),
+            secrets: self.secrets.clone(),
             folder: self.folder.clone(),
         };
         door::open(&self.listen.clone().unwrap_or_else(|| self.at(self.place())), opening, events)
@@ -130,7 +129,7 @@ impl Config {
 
     fn dialer(&self, place: usize) -> Dialer {
         let hello = Hello { role: Role::Peer, from: self.place() as u8, to: place as u8 };
-        Dialer::new(hello, self.hosts, self.at(place), self.secret.clone())
+        Dialer::new(hello, self.hosts, self.at(place), self.secrets.peers.clone())
     }
 }
 

@@ -2,9 +2,10 @@
 
 use crate::addresses;
 use crate::core::tell;
-use crate::handshake::{self, Hello, Refused};
-use crate::secret::Secret;
-use crate::wire::Seal;
+use crate::hello::{self, Hello, Refused};
+use crate::secret::SecretFile;
+use sevunthi_client::{Channel, security};
+use std::io;
 use std::net::TcpStream;
 use std::time::{Duration, Instant};
 
@@ -40,7 +41,8 @@ pub struct Dialer {
     hello: Hello,
     name: String,
     address: String,
-    secret: Secret,
+    /// The file of what peers share; none where all is said in clear.
+    secret: Option<SecretFile>,
     /// How often it was tried in vain since it was reached, and since when.
     tries: usize,
     /// Whether it was near when it was reached last.
@@ -54,7 +56,7 @@ pub struct Dialer {
 impl Dialer {
     /// One for who listens at this address, a name or a number with its port. There are so many hosts, and the places
     /// behind them are the coordinators'.
-    pub fn new(hello: Hello, hosts: u8, address: String, secret: Secret) -> Dialer {
+    pub fn new(hello: Hello, hosts: u8, address: String, secret: Option<SecretFile>) -> Dialer {
         let name = match hello.to.checked_sub(hosts) {
             None => format!("host {}", hello.to),
             Some(0) => "the coordinator".to_string(),
@@ -63,8 +65,8 @@ impl Dialer {
         Dialer { hello, name, address, secret, tries: 0, is_near: None, since: None, last: None, told: None }
     }
 
-    /// A connection, which does not block, and what its batches are made with, if the peer is reached now.
-    pub fn connect(&mut self) -> Option<(TcpStream, Seal)> {
+    /// A connection, which does not block, if the peer is reached now, and has proved itself.
+    pub fn connect(&mut self) -> Option<Channel<TcpStream>> {
         if self.last.is_some_and(|last| last.elapsed() < PAUSE) {
             return None;
         }
@@ -99,15 +101,23 @@ impl Dialer {
         if (self.tries + 1).is_multiple_of(every) { LONG } else { SHORT }
     }
 
-    fn try_once(&self, wait: Duration) -> Result<(TcpStream, Seal), Refused> {
-        let mut stream = addresses::connect(&self.address, wait)?;
+    fn try_once(&self, wait: Duration) -> Result<Channel<TcpStream>, Refused> {
+        let stream = addresses::connect(&self.address, wait)?;
         stream.set_nodelay(true)?;
         sevunthi_system::end_when_silent(&stream, SILENT)?;
         stream.set_read_timeout(Some(ANSWERING))?;
         stream.set_write_timeout(Some(WRITING))?;
-        let seal = handshake::prove(&mut stream, self.hello, self.secret.bytes())?;
-        stream.set_nonblocking(true)?;
-        Ok((stream, seal))
+        let mut channel = match &self.secret {
+            None => Channel::plain(stream),
+            Some(file) => {
+                let secret = file.shown().map_err(io::Error::other)?;
+                security::connect(stream, self.hello.role, self.hello.to, &secret, ANSWERING)?
+            }
+        };
+        channel.stream().set_read_timeout(Some(ANSWERING))?;
+        hello::say(&mut channel, self.hello)?;
+        channel.stream().set_nonblocking(true)?;
+        Ok(channel)
     }
 
     /// What is to be told of an attempt in vain: nothing while it may pass, or was told lately.
@@ -126,12 +136,11 @@ impl Dialer {
 #[cfg(test)]
 mod tests {
     use super::*;
-    use crate::handshake::{NotLetIn, Role};
-    use std::io;
+    use crate::hello::{NotLetIn, Role};
     use std::net::TcpListener;
 
     fn dialer(address: String) -> Dialer {
-        Dialer::new(Hello { role: Role::Peer, from: 0, to: 2 }, 2, address, Secret::default())
+        Dialer::new(Hello { role: Role::Peer, from: 0, to: 2 }, 2, address, None)
     }
 
     #[test]
@@ -145,7 +154,7 @@ mod tests {
         assert_eq!(said(&NotLetIn::Secret.into(), 2), None);
         assert!(
             said(&NotLetIn::Version(9).into(), 3)
-                .is_some_and(|line| line.ends_with("it has version 9, and this is version 1"))
+                .is_some_and(|line| line.ends_with("it has version 9, and this is version 2"))
         );
         assert!(said(&NotLetIn::Version(9).into(), 63).is_some());
     }

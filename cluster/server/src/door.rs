@@ -2,25 +2,27 @@
 
 use crate::budget::{Account, Budget};
 use crate::events::{Event, EventSender, part_of};
-use crate::handshake::{self, NotLetIn, Refused, Role};
+use crate::hello::{NotLetIn, Refused, Role};
 use crate::http::{self, Page};
+use crate::line::{self, Line, Out};
 use crate::metrics;
 use crate::net::{Writer, read_pieces};
 use crate::places::{Limits, Place, Places};
-use crate::protocol::{DONE, Op, Reply, Request};
-use crate::secret::Secret;
+use crate::protocol::{DONE, IN_CLEAR, Op, Reply, Request};
+use crate::secret::{Secrets, is_loopback};
 use crate::seldom::Seldom;
-use crate::wire::{MOST, Parted, Seal, parted, sound};
-use sevunthi::message::{framed, u32_at};
-use std::cell::Cell;
-use std::io::{self, ErrorKind, Read, Write};
+use crate::wire::{MOST, Parted, parted, sound};
+use sevunthi::message::framed;
+use sevunthi_client::Channel;
+use sevunthi_client::security::Acceptor;
+use std::io::{self, Write};
 use std::net::{Shutdown, TcpListener, TcpStream};
 use std::path::PathBuf;
 use std::sync::{Arc, Mutex};
 use std::thread;
 use std::time::{Duration, Instant};
 
-/// Who connects has so long to prove itself: as a peer or an operator by a secret, as a client by a whole request.
+/// Who connects has so long to prove itself, in all: by a secret, and as a client by a whole request too.
 const PATIENCE: Duration = Duration::from_secs(5);
 
 /// A connection whose other side is silent for so long is ended.
@@ -52,10 +54,8 @@ pub struct Opening {
     pub places: usize,
     /// The name that metrics have for this process.
     pub name: String,
-    /// What peers share.
-    pub secret: Secret,
-    /// What who operates the cluster has; where it is not there nobody operates it here.
-    pub operator: Option<Secret>,
+    /// Who has to prove what.
+    pub secrets: Secrets,
     /// The node's folder, of whose disk the metrics tell.
     pub folder: PathBuf,
 }
@@ -63,6 +63,8 @@ pub struct Opening {
 /// The port, and what all connections share.
 pub struct Door {
     opening: Opening,
+    /// Who looks at proofs; none where nobody has to prove anything.
+    acceptor: Option<Acceptor>,
     /// Who is connected.
     pub places: Arc<Places>,
     /// What clients have under way.
@@ -73,57 +75,15 @@ pub struct Door {
     seldom: Seldom,
 }
 
-/// A connection as who reads it has it: up to a time, while its other side has not proved itself.
-struct Line {
-    stream: Arc<TcpStream>,
-    end: Cell<Option<Instant>>,
-}
-
-impl Read for &Line {
-    fn read(&mut self, to: &mut [u8]) -> io::Result<usize> {
-        if let Some(end) = self.end.get() {
-            let left = end.saturating_duration_since(Instant::now());
-            if left.is_zero() {
-                return Err(ErrorKind::TimedOut.into());
-            }
-            self.stream.set_read_timeout(Some(left))?;
-        }
-        (&*self.stream).read(to)
-    }
-}
-
-impl Write for &Line {
-    fn write(&mut self, bytes: &[u8]) -> io::Result<usize> {
-        (&*self.stream).write(bytes)
-    }
-
-    fn flush(&mut self) -> io::Result<()> {
-        Ok(())
-    }
-}
-
-impl Line {
-    /// Its other side has proved itself, and has as much time as it wants.
-    fn lift(&self) -> io::Result<()> {
-        self.end.set(None);
-        self.stream.set_read_timeout(None)
-    }
-
-    fn byte(&self) -> io::Result<u8> {
-        let (mut line, mut byte) = (self, [0]);
-        line.read_exact(&mut byte)?;
-        Ok(byte[0])
-    }
-}
-
 /// Who asks as a client.
 struct Asker<'a> {
     number: u64,
     line: &'a Line,
+    channel: Channel<&'a Line>,
     place: &'a Place,
     account: Arc<Account>,
-    /// It has proved that it operates the cluster, and its requests stand in batches.
-    seal: Option<Seal>,
+    /// It may have requests done as who operates the cluster.
+    may_operate: bool,
     /// It has asked something, and is answered here.
     writer: Option<Writer>,
 }
@@ -139,6 +99,7 @@ pub fn open(address: &str, opening: Opening, events: EventSender) -> io::Result<
     sevunthi_system::set_backlog(&listener, BACKLOG)?;
     let limits = Limits::of_process(opening.places);
     let door = Arc::new(Door {
+        acceptor: opening.acceptor()?,
         opening,
         places: Arc::new(Places::new(limits)),
         budget: Arc::default(),
@@ -150,6 +111,24 @@ pub fn open(address: &str, opening: Opening, events: EventSender) -> io::Result<
     let at = Arc::clone(&door);
     thread::spawn(move || at.take_all(&listener));
     Ok(door)
+}
+
+impl Opening {
+    fn acceptor(&self) -> io::Result<Option<Acceptor>> {
+        let Secrets { peers, clients, operator, .. } = &self.secrets;
+        let files = [(Role::Peer, peers), (Role::Client, clients), (Role::Operator, operator)];
+        let files: Vec<_> = files.into_iter().filter_map(|(role, file)| Some((role, file.clone()?))).collect();
+        (!files.is_empty()).then(|| Acceptor::new(self.place, files)).transpose()
+    }
+
+    /// Whether who connects from this line is taken in this role without a proof.
+    fn takes_in_clear(&self, role: Role, line: &Line) -> bool {
+        let wants_none = match role {
+            Role::Peer | Role::Operator => self.secrets.peers.is_none(),
+            Role::Client => self.secrets.clients.is_none(),
+        };
+        wants_none && line.from().is_some_and(is_loopback)
+    }
 }
 
 impl Door {
@@ -172,7 +151,7 @@ impl Door {
         };
         let door = Arc::clone(self);
         let serve = move || {
-            let line = Line { stream, end: Cell::new(Some(Instant::now() + PATIENCE)) };
+            let line = Line::new(stream, PATIENCE);
             if let Err(refused) = door.serve(number, &line, &place) {
                 door.tell_refused(&line, &refused);
             }
@@ -181,15 +160,30 @@ impl Door {
     }
 
     fn serve(&self, number: u64, line: &Line, place: &Place) -> Result<(), Refused> {
-        line.stream.set_nodelay(true)?;
-        line.stream.set_write_timeout(Some(SILENT))?;
-        sevunthi_system::end_when_silent(&line.stream, SILENT)?;
-        let Ok(kind) = line.byte() else { return Ok(()) };
+        line.stream().set_nodelay(true)?;
+        line.stream().set_write_timeout(Some(SILENT))?;
+        sevunthi_system::end_when_silent(line.stream(), SILENT)?;
+        let Ok(Some(first)) = line.first() else { return Ok(()) };
+        let (mut channel, proved) = line.join(first, self.acceptor.as_ref())?;
+        let Ok(kind) = line::byte(&mut channel) else { return Ok(()) };
+        // what was proved is what it is, and nothing else
+        if proved.is_some_and(|role| role.code() != kind) {
+            return Err(NotLetIn::Secret.into());
+        }
         match kind {
-            b'C' => Asker::new(self, number, line, place).serve(self),
-            b'P' | b'A' => match line.byte()? {
+            b'C' => {
+                let is_taken = proved.is_some() || self.opening.takes_in_clear(Role::Client, line);
+                let asker = Asker::new(self, number, line, channel, place);
+                if is_taken { asker.serve(self) } else { asker.refuse()? }
+            }
+            b'P' | b'A' => match line::byte(&mut channel)? {
                 letter if letter.is_ascii_alphabetic() => self.serve_page(&[kind, letter], line)?,
-                version => self.serve_proved(kind, version, number, line, place)?,
+                version => {
+                    let role = if kind == b'P' { Role::Peer } else { Role::Operator };
+                    let is_taken = proved.is_some() || self.opening.takes_in_clear(role, line);
+                    line::answer(&mut channel, role, version, self.opening.place, is_taken)?;
+                    self.serve_proved(role, number, line, channel, place)?;
+                }
             },
             b'A'..=b'Z' => self.serve_page(&[kind], line)?,
             _ => {}
@@ -197,37 +191,24 @@ impl Door {
         Ok(())
     }
 
-    /// Who has to have a secret.
-    fn serve_proved(&self, kind: u8, version: u8, number: u64, line: &Line, place: &Place) -> Result<(), Refused> {
-        let Opening { place: own, secret, operator, .. } = &self.opening;
-        let (mut stream, is_peer) = (line, kind == b'P');
-        if is_peer {
-            let (_, seal) = handshake::check(&mut stream, Role::Peer, version, *own, Some(secret.bytes()))?;
-            place.prove_peer();
-            line.lift()?;
-            self.take_batches(number, line, seal);
-        } else {
-            let (_, seal) =
-                handshake::check(&mut stream, Role::Operator, version, *own, operator.as_ref().map(Secret::bytes))?;
-            Asker { seal: Some(seal), ..Asker::new(self, number, line, place) }.serve(self);
+    /// Who has proved that it is a peer, or operates the cluster, or does not have to.
+    fn serve_proved(
+        &self,
+        role: Role,
+        number: u64,
+        line: &Line,
+        channel: Channel<&Line>,
+        place: &Place,
+    ) -> io::Result<()> {
+        if role == Role::Operator {
+            Asker { may_operate: true, ..Asker::new(self, number, line, channel, place) }.serve(self);
+            return Ok(());
         }
-        Ok(())
-    }
-
-    /// Takes batches of a peer until one is not the next that who has the secret has made.
-    fn take_batches(&self, number: u64, line: &Line, mut seal: Seal) {
-        read_pieces(line, MOST + 40, |batches| {
-            let mut rest = batches;
-            while let Some(length) = u32_at(rest, 0) {
-                let (batch, others) = rest.split_at(4 + length as usize);
-                match seal.open(batch) {
-                    Some(frames) if give(&self.events, number, frames) => rest = others,
-                    _ => return false,
-                }
-            }
-            true
-        });
+        place.prove_peer();
+        line.lift()?;
+        read_pieces(channel, MOST, |frames| give(&self.events, number, frames));
         self.events.send(Event::PeerDown(number));
+        Ok(())
     }
 
     fn tell_refused(&self, line: &Line, refused: &Refused) {
@@ -236,15 +217,17 @@ impl Door {
             Refused::NotLetIn(NotLetIn::Version(_)) => "version",
             Refused::NotLetIn(NotLetIn::Secret) => "secret",
             Refused::NotLetIn(NotLetIn::Place) => "place",
-            Refused::NotLetIn(NotLetIn::Closed | NotLetIn::Stranger) => "operator",
+            Refused::NotLetIn(NotLetIn::InClear) => "in clear",
+            Refused::NotLetIn(NotLetIn::NoSecurity | NotLetIn::Stranger) => "no security",
         };
-        let who = line.stream.peer_addr().map_or("somebody".to_string(), |address| address.to_string());
-        self.seldom.tell(what, format_args!("who connected from {who} was not let in: {refused}"));
+        let who = line.stream().peer_addr().map_or("somebody".to_string(), |address| address.to_string());
+        self.seldom.tell_of(what, line.from(), format_args!("who connected from {who} was not let in: {refused}"));
     }
 
     fn serve_page(&self, first: &[u8], line: &Line) -> io::Result<()> {
         let mut stream = line;
-        http::answer(first, &mut stream, |path| {
+        let is_shown = self.opening.secrets.has_open_pages || line.from().is_some_and(is_loopback);
+        http::answer(first, &mut stream, is_shown, |path| {
             let (kind, text) = match path {
                 "/" => ("text/plain; charset=utf-8", self.status()),
                 "/metrics" => (metrics::KIND, self.metrics()),
@@ -252,8 +235,8 @@ impl Door {
             };
             Some(Page { kind, text })
         })?;
-        line.stream.shutdown(Shutdown::Write)?;
-        line.end.set(Some(Instant::now() + BRIEFLY));
+        line.stream().shutdown(Shutdown::Write)?;
+        line.limit(BRIEFLY);
         http::read_rest(&mut stream);
         Ok(())
     }
@@ -289,38 +272,37 @@ impl Door {
 }
 
 impl<'a> Asker<'a> {
-    fn new(door: &Door, number: u64, line: &'a Line, place: &'a Place) -> Asker<'a> {
-        Asker { number, line, place, account: Arc::new(Account::new(&door.budget)), seal: None, writer: None }
+    fn new(door: &Door, number: u64, line: &'a Line, channel: Channel<&'a Line>, place: &'a Place) -> Asker<'a> {
+        let account = Arc::new(Account::new(&door.budget));
+        Asker { number, line, channel, place, account, may_operate: false, writer: None }
     }
 
     /// Hands over what it asks, until it goes, or asks what is too long.
     fn serve(mut self, door: &Door) {
-        let most = if self.seal.is_some() { MOST_REQUEST + 40 } else { MOST_REQUEST };
-        read_pieces(self.line, most, |pieces| self.take(door, pieces));
+        let channel = self.channel.beside(self.line);
+        read_pieces(channel, MOST_REQUEST, |requests| self.take(door, requests));
         if self.writer.take().is_some() {
             self.account.close();
             door.events.send(Event::ClientDown(self.number));
         }
     }
 
-    /// Hands whole requests over, which stand in batches where it has proved itself. Says whether it goes on.
-    fn take(&mut self, door: &Door, pieces: &[u8]) -> bool {
-        if self.writer.is_none() && !self.begin(door) {
-            return false;
-        }
-        if self.seal.is_none() {
-            return self.give(door, pieces);
-        }
-        let mut rest = pieces;
-        while let Some(length) = u32_at(rest, 0) {
-            let (batch, others) = rest.split_at(4 + length as usize);
-            let Some(requests) = self.seal.as_mut().and_then(|seal| seal.open(batch)) else { return false };
-            if !self.give(door, requests) {
-                return false;
-            }
-            rest = others;
-        }
-        true
+    /// Tells who asks in clear that it has to prove itself.
+    fn refuse(mut self) -> Result<(), Refused> {
+        let mut out = Vec::new();
+        read_pieces(self.channel.beside(self.line), MOST_REQUEST, |requests| {
+            let asked = framed(requests).next().and_then(Request::read);
+            Reply::bare(IN_CLEAR, asked.map_or(0, |request| request.number)).put(&mut out);
+            false
+        });
+        self.channel.write_all(&out)?;
+        self.line.stream().shutdown(Shutdown::Write)?;
+        Err(NotLetIn::InClear.into())
+    }
+
+    /// Hands whole requests over. Says whether it goes on.
+    fn take(&mut self, door: &Door, requests: &[u8]) -> bool {
+        (self.writer.is_some() || self.begin(door)) && self.give(door, requests)
     }
 
     /// The first request has come: it gets a client's place, and who writes its answers. Says whether there is any.
@@ -328,8 +310,8 @@ impl<'a> Asker<'a> {
         if !self.place.prove_client(&self.account) || self.line.lift().is_err() {
             return false;
         }
-        let (stream, account) = (Arc::clone(&self.line.stream), Arc::clone(&self.account));
-        let Ok(writer) = Writer::to_client(stream, account, self.seal.is_some()) else { return false };
+        let channel = self.channel.beside(Out(Arc::clone(self.line.stream())));
+        let Ok(writer) = Writer::to_client(channel, Arc::clone(&self.account), self.may_operate) else { return false };
         self.writer = Some(writer.clone());
         door.events.send(Event::ClientUp(self.number, writer))
     }

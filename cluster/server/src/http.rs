@@ -44,7 +44,8 @@ pub struct Page {
     pub text: String,
 }
 
-/// Answers a question, of which these bytes have come already, by the page of its path.
+/// Answers a question, of which these bytes have come already, by the page of its path, where pages are shown to who
+/// asks.
 ///
 /// # Errors
 ///
@@ -52,6 +53,7 @@ pub struct Page {
 pub fn answer(
     first: &[u8],
     stream: &mut (impl Read + Write),
+    is_shown: bool,
     page: impl FnOnce(&str) -> Option<Page>,
 ) -> io::Result<()> {
     let question = match Question::read(first, stream) {
@@ -64,6 +66,10 @@ pub fn answer(
     let is_get = question.method == "GET";
     if !is_get && question.method != "HEAD" {
         return say(stream, "405 Method Not Allowed", "Allow: GET, HEAD\r\n", "only GET and HEAD are answered\n", true);
+    }
+    if !is_shown {
+        let why = "pages are shown on the process's own machine, and elsewhere with --open-pages\n";
+        return say(stream, "403 Forbidden", "", why, is_get);
     }
     match page(&question.path) {
         Some(Page { kind, text }) => say(stream, "200 OK", &format!("Content-Type: {kind}\r\n"), &text, is_get),
@@ -117,10 +123,14 @@ mod tests {
     }
 
     fn said(question: &str) -> String {
+        said_to(question, true)
+    }
+
+    fn said_to(question: &str, is_shown: bool) -> String {
         let (first, rest) = question.as_bytes().split_at(1);
         let mut talk = Talk(rest, Vec::new());
         let page = |path: &str| (path == "/").then(|| Page { kind: "text/x", text: "hello\n".to_string() });
-        answer(first, &mut talk, page).expect("it answers");
+        answer(first, &mut talk, is_shown, page).expect("it answers");
         read_rest(&mut talk);
         String::from_utf8(talk.1).expect("it is text")
     }
@@ -138,5 +148,6 @@ mod tests {
         }
         let long = format!("GET /{} HTTP/1.1\r\n\r\n", "a".repeat(20_000));
         assert!(said(&long).starts_with("HTTP/1.1 431 "));
+        assert!(said_to("GET / HTTP/1.1\r\n\r\n", false).starts_with("HTTP/1.1 403 Forbidden\r\n"));
     }
 }

@@ -27,12 +27,12 @@ mod etcd;
 mod events;
 mod faults;
 mod guard;
-mod handshake;
 mod hearing;
 mod histogram;
 mod host;
 mod http;
 mod journal;
+mod line;
 mod listening;
 mod log;
 mod metrics;
@@ -62,11 +62,11 @@ mod version;
 mod waits;
 mod wire;
 
-use handshake::NotLetIn;
+use hello::NotLetIn;
 use options::{Command, Options};
 use secret::Secret;
 use sevunthi_client::addresses::MOST_COORDINATORS;
-use sevunthi_client::{self as client, addresses, protocol, refusal as reasons};
+use sevunthi_client::{self as client, addresses, hello, protocol, refusal as reasons};
 use sevunthi_client::{Client, Error, Found, Missing, Refusal, STANDS_BY, Target};
 use std::path::Path;
 use std::process::ExitCode;
@@ -74,15 +74,17 @@ use std::time::Duration;
 
 const USAGE: &str = "usage: sevunthi COMMAND ..
   up                      runs a cluster; Ctrl-C ends it
-      --folder cluster-data, and what `serve` takes, but not --secret and --index; --hosts, --factor and --segment
-      are those that the folder has, unless given
+      --folder cluster-data, and what `serve` takes, but no secrets and no --index; --hosts, --factor and --segment are
+      those that the folder has, unless given; --secure: clients prove that they have its file client-secret (on
+      loopback they need not, else); --insecure: nobody proves anything
   restart                 has each process of `up` begin anew, one after another, while the cluster goes on
       --folder cluster-data
   move etcd, move file    moves the coordinator's journal into etcd, or back into its folder, while nothing runs
-      --store etcd=URL,.., --folder cluster-data/coordinator, --secret cluster-data/secret
+      --store etcd=URL,.., --folder cluster-data/coordinator, --secret cluster-data/secret, --store-name NAME
   create TABLE [HOST]     makes a table, at this host or at the one that owns least
   split TABLE KEY         splits a table before a key
-      --operator cluster-data/operator: the file with the secret of who operates the cluster, in the folder of `up`
+      --operator cluster-data/operator: the file with the secret of who operates the cluster, in the folder of `up`; or
+      --insecure, where the cluster is so
   put TABLE KEY VALUE, get TABLE KEY, delete TABLE KEY
       --patience 10000 (milliseconds for which it is tried). `--` ends the options: put 1 5 -- --value
       put and delete: --if-version N, done only where the newest version is N; put: --if-absent, where there is no value
@@ -93,18 +95,23 @@ const USAGE: &str = "usage: sevunthi COMMAND ..
   trace FILE..            records, as a trace that `ramseg audit` reads
   storm                   drawn faults on a cluster of its own, of four hosts
       --folder F, --seed 1, --seconds 60, --gap 3000 (milliseconds), --only kill,pair, --port 7600, --coordinators 1
-      (more have an etcd of three members, which has faults too; the program `etcd` has to be there)
+      (more have an etcd of three members, which has faults too; the program `etcd` has to be there), --secure,
+      --insecure
   serve                   one node; `up` starts these
-      --folder F, --secret FILE, --operator FILE (none: no table is made or split), --index I (none is the
-      coordinator), --factor 2 (replicas, 1 to 5), --segment 1024
-      (entries, 1 to 1,024), --tick 200 and --silence 1000 (milliseconds), --long 268435456 (bytes of journal until a
-      save), --beside 24 (works since the last sync for which a thread does the next), --record, --faults,
+      --folder F, --secret FILE (that of all peers), --client-secret FILE (none: clients of this machine need none, and
+      others are refused), --operator FILE (none: no table is made or split), --insecure (without any of these, on
+      loopback alone), --open-pages (shown to other machines too), --index I (none is the coordinator),
+      --factor 2 (replicas, 1 to 5), --segment 1024 (entries, 1 to 1,024), --tick 200 and --silence 1000
+      (milliseconds), --long 268435456 (bytes of journal until a save), --beside 24 (works since the last sync for
+      which a thread does the next), --record, --faults,
       --hear (hosts that a coordinator that begins has to hear before it acts; all but as many as --factor),
       --reserve 268435456 (bytes that are to be left on a disk: where too few hosts have them no writes are taken),
       --listen ADDRESS:PORT (where it listens, if that is not where others reach it), --supervised (it ends with its
       input), --slow 30000 (milliseconds after which a slow backup is given up, 0 for never), --store file (or
-      etcd=URL,..: where the coordinators' journal is), --coordinator 0 (which of several it is)
+      etcd=URL,..: where the coordinators' journal is), --store-name NAME (what its keys begin with there),
+      --coordinator 0 (which of several it is)
   help, version           this text, and which program it is
+Clients take --client-secret FILE, else that of SEVUNTHI_CLIENT_SECRET, where clients have to prove themselves.
 All but trace, storm, restart and move take --address 127.0.0.1, --port 7300, the port of host 0, --hosts 4, and
 --coordinators 1, of which one leads: clients those of `up`. All but these and up take --cluster FILE in their place: its
 lines have a host's index, or `coordinator`, and where it listens, as in `0 10.0.0.1:7300`. An option's value may also
@@ -123,7 +130,7 @@ fn main() -> ExitCode {
     let command = words.remove(0);
     let asks_for_help = words.iter().take_while(|word| *word != "--").any(|word| word == "--help");
     if ["version", "--version", "-V"].contains(&command.as_str()) {
-        say!("sevunthi {}, of which peers speak version {}", env!("CARGO_PKG_VERSION"), handshake::VERSION);
+        say!("sevunthi {}, of which peers speak version {}", env!("CARGO_PKG_VERSION"), hello::VERSION);
         return ExitCode::SUCCESS;
     }
     if ["help", "--help", "-h"].contains(&command.as_str()) || asks_for_help {
@@ -159,6 +166,11 @@ fn target(options: &Options) -> Result<Target, String> {
     Ok(Target::on(&address, port, hosts).with_coordinators(coordinators))
 }
 
+/// The cluster that a client's program asks.
+fn asked(options: &Options) -> Result<Target, String> {
+    Ok(Target { secret: secret::of_client(options), ..target(options)? })
+}
+
 fn run(command: &str, words: Vec<String>) -> Result<bool, String> {
     let options = &Options::read(Command::named(command)?, words)?;
     match command {
@@ -168,8 +180,8 @@ fn run(command: &str, words: Vec<String>) -> Result<bool, String> {
         "up" => up::up(options).map(|()| true),
         "put" | "get" | "delete" => ask(command, options),
         "create" | "split" => change(command, options),
-        "status" => status(&target(options)?),
-        "bench" => bench::run(options, &target(options)?),
+        "status" => status(&asked(options)?),
+        "bench" => bench::run(options, &asked(options)?),
         "trace" => trace::run(options),
         _ => storm::run(options),
     }
@@ -196,7 +208,7 @@ fn key_of(options: &Options) -> Result<u64, String> {
 }
 
 fn ask(command: &str, options: &Options) -> Result<bool, String> {
-    let target = target(options)?;
+    let target = asked(options)?;
     let mut client = Client::new(target.clone());
     client.patience = Duration::from_millis(options.between("--patience", 10_000, 1, 3_600_000)?);
     client.wait = client.wait.min(client.patience);
@@ -254,20 +266,27 @@ fn tell_error(target: &Target, table: u32, error: &Error) -> Result<bool, String
     not_done(&match error {
         Error::Unasked(missing) => target.told(*missing, table),
         Error::NotLetIn(NotLetIn::Secret) => "refused: the secret of --operator is another one".to_string(),
-        Error::NotLetIn(why) => format!("refused: the coordinator says: {why}"),
+        Error::NotLetIn(NotLetIn::InClear) => {
+            "refused: a proof is wanted there: without --insecure it is given".to_string()
+        }
+        Error::NotLetIn(NotLetIn::NoSecurity) => {
+            "refused: the coordinator has no file --operator, or no security: --insecure asks it in clear then"
+                .to_string()
+        }
+        Error::NotLetIn(why) => format!("refused: {why}"),
         other => other.to_string(),
     })
 }
 
 /// What who operates the cluster has: `up` draws it.
 fn operator_secret(options: &Options) -> Result<Secret, String> {
-    let file = options.get("--operator", format!("cluster-data/{}", supervisor::OPERATOR))?;
+    let file = options.get("--operator", format!("cluster-data/{}", secret::OPERATOR))?;
     let hint = "; --operator names the file `operator` in the folder of `up`";
     Secret::read(Path::new(&file)).map_err(|why| format!("{why}{hint}"))
 }
 
 fn change(command: &str, options: &Options) -> Result<bool, String> {
-    let target = target(options)?;
+    let target = asked(options)?;
     let mut client = Client::new(target.clone());
     let table = table_of(options)?;
     let host = match options.word(1).filter(|_| command == "create") {
@@ -278,6 +297,11 @@ fn change(command: &str, options: &Options) -> Result<bool, String> {
     if let Some(host) = host.filter(|host| target.hosts <= *host) {
         return Err(format!("there is no host {host}: they are 0 to {}", target.hosts - 1));
     }
+    if options.has("--insecure") {
+        client.operate_in_clear();
+    } else {
+        client.operate_with(operator_secret(options)?);
+    }
     // a host would say of either that it is no request
     if let Err(missing) = client.owner(table, 0)
         && missing.stays()
@@ -285,7 +309,6 @@ fn change(command: &str, options: &Options) -> Result<bool, String> {
     {
         return not_done(&target.told(missing, table));
     }
-    client.operate_with(operator_secret(options)?.bytes());
     let done = if command == "create" { client.create(table, host) } else { client.split(table, key) };
     match (done, host) {
         (Ok(()), _) => Ok(true),
@@ -320,9 +343,10 @@ fn status(target: &Target) -> Result<bool, String> {
             Ok(_) => {
                 format!("  who is at {} is another; {}", target.at(place), target.hint())
             }
+            Err(Error::Unasked(missing @ Missing::NotLetIn(..))) => format!("  {}", target.told(missing, 0)),
             Err(_) => "  does not answer".to_string(),
         };
-        all &= !text.starts_with("  who ") && text != "  does not answer";
+        all &= !["  who ", "  not let in", "  does not answer"].iter().any(|why| text.starts_with(why));
         say!("{name}\n{text}");
     }
     if !leads && 1 < target.coordinators {

@@ -7,12 +7,13 @@ use crate::faults::Failing;
 use crate::guard::{shared_of_folder, write_shared};
 use crate::journal::{self, Found, Journal};
 use crate::options::Options;
-use crate::secret::Secret;
+use crate::secret::SecretFile;
 use crate::sectors::Content;
 use crate::store::gateway::{Gateway, Value, endpoints};
 use crate::store::head::{Named, SEEN, Seen};
 use crate::store::lead::{Claimant, HEAD, LEADER, Lead, Stop};
 use crate::store::ledger::Ledger;
+use crate::store::name;
 use crate::{disk, rolling};
 use sevunthi::Node;
 use std::fs;
@@ -37,9 +38,10 @@ const ATTEMPTS: usize = 10;
 /// Moves the journal to where the first word says, and says whether it was done.
 pub fn run(options: &Options) -> Result<bool, String> {
     let folder: PathBuf = options.get("--folder", "cluster-data/coordinator".to_string())?.into();
-    let secret = options.get("--secret", "cluster-data/secret".to_string())?;
-    let secret = Secret::read(Path::new(&secret))?;
-    let gateway = Gateway::new(&endpoints(options.needed("--store")?)?, secret.bytes());
+    let endpoints = endpoints(options.needed("--store")?)?;
+    let secret = SecretFile::new(options.get("--secret", "cluster-data/secret".to_string())?);
+    let name = name::name(&folder, options.given("--store-name"), Some(&secret))?;
+    let gateway = Gateway::new(&endpoints, &name);
     if rolling::runs(folder.parent().unwrap_or(Path::new("."))).unwrap_or(false) {
         return Err(format!("{}: a cluster runs there: end it first", folder.display()));
     }

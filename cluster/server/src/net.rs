@@ -3,8 +3,10 @@
 
 use crate::budget::Account;
 use crate::dialer::Dialer;
-use crate::wire::{HEAD, MOST, Seal};
+use crate::line::Out;
+use crate::wire::MOST;
 use sevunthi::message::{framed, u32_at};
+use sevunthi_client::Channel;
 use std::io::{self, ErrorKind, Read, Write};
 use std::net::{Shutdown, TcpStream};
 use std::sync::atomic::{AtomicBool, AtomicUsize, Ordering};
@@ -54,13 +56,13 @@ impl Writer {
     /// # Errors
     ///
     /// That no thread can be made.
-    pub fn to_client(stream: Arc<TcpStream>, account: Arc<Account>, may_operate: bool) -> io::Result<Writer> {
+    pub fn to_client(mut channel: Channel<Out>, account: Arc<Account>, may_operate: bool) -> io::Result<Writer> {
         let (writer, from, queued) = Writer::new();
         thread::Builder::new().stack_size(STACK).spawn(move || {
             while let Some((answers, weight)) = all_queued(&from, LONG) {
                 queued.fetch_sub(weight, Ordering::Relaxed);
-                if (&*stream).write_all(&answers).is_err() {
-                    let _ = stream.shutdown(Shutdown::Both);
+                if channel.write_all(&answers).is_err() {
+                    let _ = channel.stream().0.shutdown(Shutdown::Both);
                     return account.close();
                 }
                 account.give_back(framed(&answers).count());
@@ -98,11 +100,12 @@ pub struct PeerWriter {
     is_open: Arc<AtomicBool>,
 }
 
-/// A connection to a peer, if there is one; its last batch, and how many bytes of that are written. The connection does
-/// not block, but while the thread finishes a batch. While something is queued only the thread uses this.
+/// A connection to a peer, if there is one; its last batch as it leaves, and how many bytes of that are written. The
+/// connection does not block, but while the thread finishes a batch. While something is queued only the thread uses
+/// this.
 #[derive(Default)]
 struct Link {
-    open: Option<(TcpStream, Seal)>,
+    open: Option<Channel<TcpStream>>,
     batch: Vec<u8>,
     written: usize,
 }
@@ -141,7 +144,7 @@ impl PeerWriter {
             && frames.len() < SHORT
             && self.writer.queued.load(Ordering::Acquire) == 0
             && let Ok(mut link) = self.link.lock()
-            && link.open.is_some()
+            && link.open.as_ref().is_some_and(|open| !open.is_worn())
         {
             if !link.write_some(frames) {
                 // what is left of the batch is the thread's
@@ -159,22 +162,22 @@ impl PeerWriter {
 }
 
 impl Link {
-    /// Makes a batch of these frames.
+    /// Makes a batch of these frames, as it leaves.
     fn begin(&mut self, frames: &[u8]) {
         self.batch.clear();
-        self.batch.resize(HEAD, 0);
-        self.batch.extend_from_slice(frames);
         self.written = 0;
-        if let Some((_, seal)) = &mut self.open {
-            seal.close(&mut self.batch);
+        if let Some(open) = &self.open
+            && open.seal(frames, &mut self.batch).is_err()
+        {
+            self.open = None;
         }
     }
 
     /// Writes what the connection takes of these frames at once. Says whether nothing is left.
     fn write_some(&mut self, frames: &[u8]) -> bool {
         self.begin(frames);
-        let Some((stream, _)) = &mut self.open else { return true };
-        match stream.write(&self.batch) {
+        let Some(open) = &self.open else { return true };
+        match (&mut open.stream()).write(&self.batch) {
             Ok(count) => self.written = count,
             Err(error) if matches!(error.kind(), ErrorKind::WouldBlock | ErrorKind::Interrupted) => {}
             Err(_) => self.open = None,
@@ -182,13 +185,14 @@ impl Link {
         self.open.is_none() || self.written == self.batch.len()
     }
 
-    /// Writes what is left of the batch, and then these frames, to a new connection where there is none.
+    /// Writes what is left of the batch, and then these frames, to a new connection where there is none, or its keys
+    /// are worn.
     fn write_all(&mut self, frames: &[u8], dialer: &mut Dialer) {
         self.finish();
         if frames.is_empty() {
             return;
         }
-        if self.open.is_none() {
+        if self.open.as_ref().is_none_or(Channel::is_worn) {
             self.open = dialer.connect();
         }
         self.begin(frames);
@@ -197,9 +201,10 @@ impl Link {
 
     /// Writes what is left of the batch, and waits for that.
     fn finish(&mut self) {
-        if let Some((stream, _)) = &mut self.open
+        if let Some(open) = &self.open
             && self.written < self.batch.len()
         {
+            let mut stream = open.stream();
             let written = stream.set_nonblocking(false).and_then(|()| stream.write_all(&self.batch[self.written..]));
             if written.and_then(|()| stream.set_nonblocking(true)).is_err() {
                 self.open = None;
@@ -253,52 +258,60 @@ fn whole(bytes: &[u8], most: usize) -> Option<usize> {
 #[cfg(test)]
 mod tests {
     use super::*;
-    use crate::handshake::{self, Hello, Role};
-    use crate::secret::Secret;
+    use crate::hello::{Hello, Role, VERSION};
+    use crate::line::{self, Line};
+    use crate::secret::SecretFile;
     use crate::wire::{frames, put_frame};
+    use sevunthi_client::security::Acceptor;
+    use std::fs;
     use std::net::TcpListener;
     use std::time::Duration;
 
-    /// More than a connection holds, to one who reads nothing at first.
+    /// The clocks of frames, as who has place 1 hears them, who reads nothing at first.
+    fn hear(listener: &TcpListener, acceptor: Option<&Acceptor>, count: usize) -> io::Result<Vec<u64>> {
+        let told = |refused: crate::hello::Refused| io::Error::other(refused.to_string());
+        let line = Line::new(Arc::new(listener.accept()?.0), Duration::from_secs(5));
+        let (mut channel, proved) = line.join(line.first()?.unwrap_or_default(), acceptor).map_err(told)?;
+        assert_eq!(proved, acceptor.map(|_| Role::Peer));
+        assert_eq!((line::byte(&mut channel)?, line::byte(&mut channel)?), (b'P', VERSION));
+        line::answer(&mut channel, Role::Peer, VERSION, 1, true).map_err(told)?;
+        line.lift()?;
+        thread::sleep(Duration::from_millis(300));
+        let mut clocks = Vec::new();
+        read_pieces(channel, MOST, |pieces| {
+            clocks.extend(frames(pieces).map(|(clock, _)| clock));
+            clocks.len() < count
+        });
+        Ok(clocks)
+    }
+
+    /// More than a connection holds.
     #[test]
     fn frames_come_whole_and_in_order_from_either_thread() -> io::Result<()> {
-        let listener = TcpListener::bind("127.0.0.1:0")?;
-        let hello = Hello { role: Role::Peer, from: 0, to: 1 };
-        let writer = PeerWriter::new(Dialer::new(hello, 2, listener.local_addr()?.to_string(), Secret::default()));
-        let count = 4000;
-        let reader = thread::spawn(move || -> io::Result<Vec<u64>> {
-            let (mut stream, _) = listener.accept()?;
-            let mut front = [0; 2];
-            stream.read_exact(&mut front)?;
-            let checked = handshake::check(&mut stream, Role::Peer, front[1], 1, Some(b""));
-            let (_, mut seal) = checked.map_err(|refused| io::Error::other(refused.to_string()))?;
-            thread::sleep(Duration::from_millis(300));
-            let mut clocks = Vec::new();
-            read_pieces(stream, MOST, |pieces| {
-                let mut rest = pieces;
-                while let Some(length) = u32_at(rest, 0) {
-                    let (batch, others) = rest.split_at(4 + length as usize);
-                    clocks.extend(seal.open(batch).into_iter().flat_map(frames).map(|(clock, _)| clock));
-                    rest = others;
+        let file = std::env::temp_dir().join(format!("sevunthi-frames-{}", std::process::id()));
+        fs::write(&file, [7; 32])?;
+        for secret in [None, Some(SecretFile::new(&file))] {
+            let listener = TcpListener::bind("127.0.0.1:0")?;
+            let hello = Hello { role: Role::Peer, from: 0, to: 1 };
+            let dialer = Dialer::new(hello, 2, listener.local_addr()?.to_string(), secret.clone());
+            let (writer, count) = (PeerWriter::new(dialer), 4000);
+            let acceptor = secret.map(|file| Acceptor::new(1, vec![(Role::Peer, file)])).transpose()?;
+            let reader = thread::spawn(move || hear(&listener, acceptor.as_ref(), count));
+            let (message, mut out) = (vec![1; 10_000], Vec::new());
+            for clock in 0..count as u64 {
+                put_frame(clock, &message, &mut out);
+                writer.send(&mut out);
+                assert!(out.is_empty());
+                if clock % 1000 == 0 || clock + 20 > count as u64 {
+                    // the thread connects, or has caught up
+                    thread::sleep(Duration::from_millis(50));
                 }
-                clocks.len() < count
-            });
-            Ok(clocks)
-        });
-        let (message, mut out) = (vec![1; 10_000], Vec::new());
-        for clock in 0..count as u64 {
-            put_frame(clock, &message, &mut out);
-            writer.send(&mut out);
-            assert!(out.is_empty());
-            if clock % 1000 == 0 || clock + 20 > count as u64 {
-                // the thread connects, or has caught up
-                thread::sleep(Duration::from_millis(50));
             }
+            drop(writer);
+            let clocks = reader.join().expect("it has not panicked")?;
+            assert!(clocks.into_iter().eq(0..count as u64));
         }
-        drop(writer);
-        let clocks = reader.join().expect("it has not panicked")?;
-        assert!(clocks.into_iter().eq(0..count as u64));
-        Ok(())
+        fs::remove_file(file)
     }
 
     /// Gives so many bytes at a time.

@@ -17,11 +17,14 @@ pub struct Command {
 
 /// Where a cluster is.
 const ON_ONE_MACHINE: &[&str] = &["address", "port", "hosts", "coordinators"];
-const WHERE: &[&str] = &["address", "port", "hosts", "coordinators", "cluster"];
+const WHERE: &[&str] = &["address", "port", "hosts", "coordinators", "cluster", "client-secret"];
 /// How its nodes run.
-const NODE: &[&str] = &["factor", "segment", "tick", "silence", "slow", "long", "beside", "hear", "reserve", "store"];
-const NODE_FLAGS: &[&str] = &["record", "faults"];
-const SERVE_FLAGS: &[&str] = &["record", "faults", "supervised"];
+const NODE: &[&str] =
+    &["factor", "segment", "tick", "silence", "slow", "long", "beside", "hear", "reserve", "store", "store-name"];
+const UP_FLAGS: &[&str] = &["record", "faults", "secure", "insecure", "open-pages"];
+const SERVE_FLAGS: &[&str] = &["record", "faults", "insecure", "open-pages", "supervised"];
+/// Who operates a cluster that has no security says so.
+const OPERATES: &[&str] = &["insecure"];
 const BENCH: &[&str] = &["clients", "seconds", "size", "table", "op", "keys", "most", "etcd", "processes"];
 
 const fn command(
@@ -35,7 +38,7 @@ const fn command(
 
 /// All commands.
 const COMMANDS: [Command; 13] = [
-    command("up", &[], &[ON_ONE_MACHINE, &["folder"], NODE], NODE_FLAGS),
+    command("up", &[], &[ON_ONE_MACHINE, &["folder"], NODE], UP_FLAGS),
     command(
         "serve",
         &[],
@@ -43,16 +46,21 @@ const COMMANDS: [Command; 13] = [
         SERVE_FLAGS,
     ),
     command("restart", &[], &[&["folder"]], &[]),
-    command("move", &["TO"], &[&["folder", "secret", "store"]], &[]),
-    command("create", &["TABLE", "[HOST]"], &[WHERE, &["operator"]], &[]),
-    command("split", &["TABLE", "KEY"], &[WHERE, &["operator"]], &[]),
+    command("move", &["TO"], &[&["folder", "secret", "store", "store-name"]], &[]),
+    command("create", &["TABLE", "[HOST]"], &[WHERE, &["operator"]], OPERATES),
+    command("split", &["TABLE", "KEY"], &[WHERE, &["operator"]], OPERATES),
     command("put", &["TABLE", "KEY", "VALUE"], &[WHERE, &["patience", "if-version"]], &["if-absent"]),
     command("get", &["TABLE", "KEY"], &[WHERE, &["patience"]], &[]),
     command("delete", &["TABLE", "KEY"], &[WHERE, &["patience", "if-version"]], &[]),
     command("status", &[], &[WHERE], &[]),
     command("bench", &[], &[WHERE, BENCH], &[]),
     command("trace", &["FILE.."], &[], &[]),
-    command("storm", &[], &[&["port", "folder", "seed", "seconds", "gap", "only", "coordinators"]], &[]),
+    command(
+        "storm",
+        &[],
+        &[&["port", "folder", "seed", "seconds", "gap", "only", "coordinators"]],
+        &["secure", "insecure"],
+    ),
 ];
 
 impl Command {

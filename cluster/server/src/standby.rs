@@ -77,7 +77,7 @@ pub fn run(config: Config) -> io::Result<(Core, EventReceiver, Heard)> {
     seen.write_beside(move |error| seldom.tell("seen", format_args!("what was seen can't be written: {error}")));
     let (events, from) = events::channel();
     let door = config.open_door(events.clone())?;
-    let gateway = Gateway::new(&config.store, config.secret.bytes());
+    let gateway = Gateway::new(&config.store, &config.store_name);
     let mut standby = Standby {
         door,
         awake: Awake::new(),

@@ -5,6 +5,7 @@ pub mod head;
 mod json;
 pub mod lead;
 pub mod ledger;
+pub mod name;
 pub mod remote;
 #[cfg(test)]
 pub mod stub;

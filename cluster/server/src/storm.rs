@@ -24,17 +24,17 @@ use crate::dice::Dice;
 use crate::faults::{FULL, NEARLY_FULL, Wrong};
 use crate::options::Options;
 use crate::protocol::Op;
-use crate::secret::Secret;
+use crate::secret::{OPERATOR, Secret};
 use crate::status::Status;
 use crate::store::head::SEEN;
-use crate::supervisor::{Cluster, OPERATOR};
+use crate::supervisor::{Cluster, Safety};
 use clients::{CLIENTS, Lived, TABLE, live};
 use disk::Spoilt;
 use machine::Machine;
 use orders::{Ordered, Orders};
 use std::collections::{BTreeMap, HashSet};
 use std::fs;
-use std::path::PathBuf;
+use std::path::{Path, PathBuf};
 use std::sync::atomic::{AtomicBool, Ordering};
 use std::sync::{Arc, Mutex};
 use std::thread;
@@ -213,6 +213,7 @@ fn target(options: &Options) -> Result<Target, String> {
         hosts: 4,
         coordinators: options.between("--coordinators", 1, 1, 3)?,
         listed: Vec::new(),
+        secret: None,
     })
 }
 
@@ -225,9 +226,11 @@ pub fn run(options: &Options) -> Result<bool, String> {
     let target = target(options)?;
     let pack = if target.coordinators == 1 { &PACK } else { &PACK_OF_SEVERAL };
     let deck = Fault::deck(&options.get("--only", String::new())?, pack)?;
-    let mut storm = Storm::begin(seed, target.clone(), folder.clone(), deck)?;
-    let operator = Secret::read(&folder.join(OPERATOR))?;
-    let orders = (1 < target.coordinators).then(|| Orders::begin(target.clone(), operator));
+    let safety = Safety::of(options, &target)?;
+    let mut storm = Storm::begin(seed, target, folder.clone(), safety, deck)?;
+    let target = storm.cluster.target.clone();
+    let orders =
+        (1 < target.coordinators).then(|| operating(&target, &folder, safety).map(Orders::begin)).transpose()?;
     let (ends, history) = (Arc::new(AtomicBool::new(false)), Arc::new(Mutex::new(String::new())));
     let machine = Machine::new(&folder).map_err(|error| error.to_string())?;
     let clients: Vec<_> = (0..CLIENTS)
@@ -254,6 +257,16 @@ pub fn run(options: &Options) -> Result<bool, String> {
     Ok(is_right & ordered.is_none_or(|ordered| storm.keeps(&ordered)))
 }
 
+/// A client that operates the cluster in this folder.
+fn operating(target: &Target, folder: &Path, safety: Safety) -> Result<Client, String> {
+    let mut client = Client::new(target.clone());
+    match safety {
+        Safety::None => client.operate_in_clear(),
+        Safety::Peers | Safety::All => client.operate_with(Secret::read(&folder.join(OPERATOR))?),
+    }
+    Ok(client)
+}
+
 struct Storm {
     cluster: Cluster,
     /// The etcd of several coordinators.
@@ -273,14 +286,15 @@ struct Storm {
 
 impl Storm {
     /// A cluster in this folder, with its table.
-    fn begin(seed: u64, target: Target, folder: PathBuf, deck: Vec<Fault>) -> Result<Storm, String> {
+    fn begin(seed: u64, target: Target, folder: PathBuf, safety: Safety, deck: Vec<Fault>) -> Result<Storm, String> {
         // every other cluster leaves all its syncs to threads
         let beside = if seed.is_multiple_of(2) { "24" } else { "0" };
         // and in two of four each journal is replaced by a save again and again, over the file of an older one
         let long = if seed % 4 < 2 { "60000" } else { "268435456" };
         let more = ["--record", "--faults", "--factor", "2", "--segment", "64", "--tick", "100"];
         let more = more.into_iter().chain(["--beside", beside, "--long", long]).map(String::from);
-        let mut cluster = Cluster::new(target.clone(), &folder, more.collect())?;
+        let mut cluster = Cluster::new(target, &folder, safety, more.collect())?;
+        let target = cluster.target.clone();
         let stores = (1 < target.coordinators).then(|| Stores::start(&folder, target.port, target.coordinators));
         let stores = stores.transpose()?;
         for coordinator in 0..target.coordinators {
@@ -295,7 +309,7 @@ impl Storm {
             cluster,
             stores,
             dice: Dice::new(seed ^ 0x5eed),
-            client: Client::new(target),
+            client: operating(&target, &folder, safety)?,
             began: Instant::now(),
             deck,
             pack: Vec::new(),
@@ -303,7 +317,6 @@ impl Storm {
             losing: HashSet::new(),
             lost: 0,
         };
-        storm.client.operate_with(Secret::read(&folder.join(OPERATOR))?.bytes());
         while !matches!(storm.client.create(TABLE, Some(0)), Ok(()) | Err(Error::Refused(Refusal::TableExists))) {
             if Duration::from_secs(10) < storm.began.elapsed() {
                 return Err("the table was not made".into());

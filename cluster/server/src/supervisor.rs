@@ -5,10 +5,11 @@ use crate::client::Target;
 use crate::core::{Config, tell};
 use crate::metrics;
 use crate::options::Options;
-use crate::secret::Secret;
-use crate::store::gateway;
+use crate::secret::{self, CLIENTS, OPERATOR, PEERS, SecretFile, Secrets};
+use crate::store::{gateway, name};
 use crate::{coordinator, disk, host, version};
 use std::collections::BTreeMap;
+use std::ffi::OsString;
 use std::fs::{File, TryLockError};
 use std::io::{ErrorKind, Read, Seek, SeekFrom};
 use std::net::TcpListener;
@@ -24,8 +25,8 @@ const TUNABLES: (&str, &str) = ("GLIBC_TUNABLES", "glibc.malloc.tcache_count=800
 
 /// Runs one node; with `--supervised` until its input ends: whoever started it has then ended.
 pub fn serve(options: &Options) -> Result<(), String> {
-    let folder = options.needed("--folder")?.into();
-    let secret = Path::new(options.needed("--secret")?);
+    let folder: PathBuf = options.needed("--folder")?.into();
+    let secrets = Secrets::of(options)?;
     let target = crate::target(options)?;
     let index = match options.given("--index") {
         Some(_) => Some(options.between("--index", 0, 0, target.hosts - 1)?),
@@ -34,9 +35,18 @@ pub fn serve(options: &Options) -> Result<(), String> {
     if index.is_some() && options.given("--coordinator").is_some() {
         return Err("--index is a host's, and --coordinator another's".to_string());
     }
-    let operator = options.given("--operator").map(|file| Secret::read(Path::new(file))).transpose()?;
-    let config = Config { operator, ..config(options, target, folder, index, Secret::read(secret)?)? };
+    if secrets.peers.is_none() {
+        stays_on_loopback(options, &target)?;
+    }
+    let mut config = config(options, target, folder, index, secrets)?;
+    if !config.store.is_empty() && index.is_none() {
+        let secret = options.given("--secret").map(SecretFile::new);
+        config.store_name = name::name(&config.folder, options.given("--store-name"), secret.as_ref())?;
+    }
     tell("starts");
+    for file in config.secrets.open_files() {
+        tell(format_args!("{} can be read by others than who runs this: `chmod 600` ends that", file.path().display()));
+    }
     if options.has("--supervised") {
         thread::spawn(|| {
             let mut input = std::io::stdin();
@@ -46,6 +56,16 @@ pub fn serve(options: &Options) -> Result<(), String> {
     }
     let run = if config.index.is_some() { host::run } else { coordinator::run };
     run(config).map_err(|error| error.to_string())
+}
+
+/// Without security nobody is on another machine.
+fn stays_on_loopback(options: &Options, target: &Target) -> Result<(), String> {
+    let listens = options.given("--listen").map(String::from);
+    let all = (0..target.places()).map(|place| target.at(place)).chain(listens);
+    match all.into_iter().find(|at| !secret::is_on_loopback(at)) {
+        Some(at) => Err(format!("--insecure is for loopback alone, and {at} is not there")),
+        None => Ok(()),
+    }
 }
 
 /// Where etcd listens, where the coordinators' journal is there.
@@ -62,9 +82,9 @@ pub fn config(
     target: Target,
     folder: PathBuf,
     index: Option<u8>,
-    secret: Secret,
+    secrets: Secrets,
 ) -> Result<Config, String> {
-    let Target { address, port, hosts, coordinators, listed } = target;
+    let Target { address, port, hosts, coordinators, listed, .. } = target;
     let store = store(options)?;
     if store.is_empty() && coordinators != 1 && index.is_none() {
         return Err("several coordinators have their journal in etcd: --store etcd=URL,.. says where that is".into());
@@ -77,11 +97,11 @@ pub fn config(
         coordinators,
         coordinator: options.between("--coordinator", 0, 0, coordinators - 1)?,
         store,
+        store_name: String::new(),
         listed,
         listen: options.given("--listen").map(String::from),
         folder,
-        secret,
-        operator: None,
+        secrets,
         factor: options.between("--factor", 2, 1, 5)?,
         segment: options.between("--segment", 1024, 1, 1024)?,
         tick: options.between("--tick", 200, 1, 60_000)?,
@@ -102,14 +122,38 @@ pub fn config(
 /// The file of a cluster's folder that says who listens where.
 const CLUSTER: &str = "cluster";
 
-/// The file of a cluster's folder that has the secret of who operates it.
-pub const OPERATOR: &str = "operator";
+/// Who has to prove what in a cluster of processes on this machine.
+#[derive(Clone, Copy, Debug, PartialEq, Eq)]
+pub enum Safety {
+    /// Nobody: all is said in clear, on loopback.
+    None,
+    /// Peers, and who operates the cluster. Clients of this machine are taken in clear.
+    Peers,
+    /// All.
+    All,
+}
+
+impl Safety {
+    /// What is asked for; where nothing is, all that others can reach is safe.
+    pub fn of(options: &Options, target: &Target) -> Result<Safety, String> {
+        match (options.has("--insecure"), options.has("--secure")) {
+            (true, true) => Err("--insecure and --secure exclude one another".to_string()),
+            (true, false) => stays_on_loopback(options, target).map(|()| Safety::None),
+            (false, true) => Ok(Safety::All),
+            (false, false) => {
+                let is_alone = (0..target.places()).all(|place| secret::is_on_loopback(&target.at(place)));
+                Ok(if is_alone { Safety::Peers } else { Safety::All })
+            }
+        }
+    }
+}
 
 /// A cluster of processes on this machine.
 pub struct Cluster {
     /// Where it is.
     pub target: Target,
     folder: PathBuf,
+    safety: Safety,
     /// The program as it was started. An upgrade puts another file in its place, and the next process is of that.
     program: PathBuf,
     more: Vec<String>,
@@ -122,8 +166,8 @@ pub struct Cluster {
 
 impl Cluster {
     /// A cluster in this folder, of which nothing runs yet, and which nobody else may run meanwhile. The first one
-    /// there makes the secret.
-    pub fn new(target: Target, folder: &Path, more: Vec<String>) -> Result<Cluster, String> {
+    /// there makes the secrets.
+    pub fn new(target: Target, folder: &Path, safety: Safety, more: Vec<String>) -> Result<Cluster, String> {
         let told = |error: std::io::Error| format!("{}: {error}", folder.display());
         disk::make_folder(folder).map_err(told)?;
         let folder = folder.canonicalize().map_err(told)?;
@@ -133,13 +177,17 @@ impl Cluster {
             TryLockError::Error(error) => told(error),
         })?;
         disk::close_folder(&folder).and_then(|()| version::check(&folder)).map_err(told)?;
-        ["secret", OPERATOR].iter().try_for_each(|name| Secret::draw(&folder.join(name))).map_err(told)?;
+        [PEERS, OPERATOR, CLIENTS].iter().try_for_each(|name| secret::draw(&folder.join(name))).map_err(told)?;
+        let target = match safety {
+            Safety::None | Safety::Peers => target,
+            Safety::All => target.with_secret(SecretFile::new(folder.join(CLIENTS))),
+        };
         let all: Vec<String> = (0..target.places()).map(|place| target.at(place)).collect();
         let listed = Listed { all, coordinators: target.coordinators };
         disk::write_whole(&folder.join(CLUSTER), addresses::file_of(&listed).as_bytes()).map_err(told)?;
         let program = std::env::current_exe().map_err(told)?;
         let children = (0..target.places()).map(|_| None).collect();
-        Ok(Cluster { target, folder, program, more, own: BTreeMap::new(), children, _lock: lock })
+        Ok(Cluster { target, folder, safety, program, more, own: BTreeMap::new(), children, _lock: lock })
     }
 
     /// How many processes it has: the hosts, and the coordinators, which have the last places.
@@ -198,6 +246,13 @@ impl Cluster {
             None => ["--index".to_string(), place.to_string()],
             Some(number) => ["--coordinator".to_string(), number.to_string()],
         };
+        let file = |name: &str| self.folder.join(name).into_os_string();
+        let mut words: Vec<OsString> = vec!["--secret".into(), file(PEERS), "--operator".into(), file(OPERATOR)];
+        match self.safety {
+            Safety::None => words.push("--insecure".into()),
+            Safety::Peers => {}
+            Safety::All => words.extend(["--client-secret".into(), file(CLIENTS)]),
+        }
         let tunables = std::env::var(TUNABLES.0).unwrap_or_else(|_| TUNABLES.1.to_string());
         let child = Command::new(&self.program)
             .env(TUNABLES.0, tunables)
@@ -206,10 +261,7 @@ impl Cluster {
             .args(&index)
             .arg("--folder")
             .arg(&folder)
-            .arg("--secret")
-            .arg(self.folder.join("secret"))
-            .arg("--operator")
-            .arg(self.folder.join(OPERATOR))
+            .args(words)
             .args(&self.more)
             .args(self.own.get(&place).into_iter().flatten())
             .stdin(Stdio::piped())

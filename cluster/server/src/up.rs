@@ -6,8 +6,8 @@ use crate::disk;
 use crate::options::{self, Options};
 use crate::restarts::Restarts;
 use crate::rolling::Rolling;
-use crate::secret::Secret;
-use crate::supervisor::{Cluster, config};
+use crate::secret::Secrets;
+use crate::supervisor::{Cluster, Safety, config};
 use std::fs;
 use std::io::ErrorKind;
 use std::path::{Path, PathBuf};
@@ -18,8 +18,20 @@ use std::time::{Duration, Instant};
 const KEPT: [&str; 3] = ["--hosts", "--factor", "--segment"];
 
 /// What is for each process.
-const PASSED_ON: [&str; 10] =
-    ["--factor", "--segment", "--tick", "--silence", "--slow", "--long", "--beside", "--hear", "--reserve", "--store"];
+const PASSED_ON: [&str; 11] = [
+    "--factor",
+    "--segment",
+    "--tick",
+    "--silence",
+    "--slow",
+    "--long",
+    "--beside",
+    "--hear",
+    "--reserve",
+    "--store",
+    "--store-name",
+];
+const FLAGS_PASSED_ON: [&str; 3] = ["--record", "--faults", "--open-pages"];
 
 /// The file of the folder that keeps it.
 const KEPT_IN: &str = "options";
@@ -46,7 +58,7 @@ fn kept_options(folder: &Path) -> Result<Options, String> {
     }
     let read = || {
         let kept = Options::read(options::Command::named("up")?, words)?;
-        config(&kept, crate::target(&kept)?, PathBuf::new(), None, Secret::default())?;
+        config(&kept, crate::target(&kept)?, PathBuf::new(), None, Secrets::default())?;
         Ok(kept)
     };
     read().map_err(|why: String| told(&why))
@@ -85,7 +97,7 @@ pub fn up(options: &Options) -> Result<(), String> {
     let options = &options.with_defaults(&kept);
     let target = crate::target(options)?;
     stays(options, &kept)?;
-    let config = config(options, target.clone(), PathBuf::new(), None, Secret::default())?;
+    let config = config(options, target.clone(), PathBuf::new(), None, Secrets::default())?;
     let factor = config.factor;
     if target.hosts <= factor {
         let (least, hosts) = (factor + 1, target.hosts);
@@ -97,8 +109,9 @@ pub fn up(options: &Options) -> Result<(), String> {
     for name in PASSED_ON {
         more.extend(options.given(name).iter().flat_map(|value| [name.to_string(), value.to_string()]));
     }
-    more.extend(["--record", "--faults"].iter().filter(|flag| options.has(flag)).map(|flag| flag.to_string()));
-    let mut cluster = Cluster::new(target, &folder, more)?;
+    more.extend(FLAGS_PASSED_ON.iter().filter(|flag| options.has(flag)).map(|flag| flag.to_string()));
+    let safety = Safety::of(options, &target)?;
+    let mut cluster = Cluster::new(target, &folder, safety, more)?;
     cluster.try_ports()?;
     keep_options(&folder, &kept, &config)?;
     cluster.start_all()?;
@@ -228,6 +241,8 @@ mod tests {
             ("--tick abc", "--tick is a number of 1 to 60000, and not abc"),
             ("--address localhost", "--address is one such as 127.0.0.1, and not localhost"),
             ("--port 65535", "--port is a number of 1 to 65531, and not 65535"),
+            ("--secure --insecure", "--insecure and --secure exclude one another"),
+            ("--insecure --address 0.0.0.0", "--insecure is for loopback alone, and 0.0.0.0:7300 is not there"),
         ] {
             assert_eq!(why(words), said);
         }
@@ -237,7 +252,7 @@ mod tests {
         let line = format!("--folder {} --port {}", folder.display(), port.min(u16::MAX - 4));
         assert!(why(&line).starts_with("nobody can listen at 127.0.0.1:"));
         let target = Target::on("127.0.0.1", port, 4);
-        let _other = Cluster::new(target, &folder, Vec::new())?;
+        let _other = Cluster::new(target, &folder, Safety::Peers, Vec::new())?;
         assert!(why(&line).ends_with(": a cluster runs in this folder already"));
         fs::remove_dir_all(&folder).map_err(|error| error.to_string())
     }
@@ -256,7 +271,7 @@ mod tests {
         let said = |line: &str| -> Result<String, String> {
             let kept = kept_options(&folder)?;
             let options = read(line)?.with_defaults(&kept);
-            let config = config(&options, crate::target(&options)?, PathBuf::new(), None, Secret::default())?;
+            let config = config(&options, crate::target(&options)?, PathBuf::new(), None, Secrets::default())?;
             keep_options(&folder, &kept, &config)?;
             fs::read_to_string(folder.join(KEPT_IN)).map_err(told)
         };

@@ -1,14 +1,9 @@
-//! Frames and batches.
-//!
-//! A frame is its length in four bytes, the sender's clock in eight, a message, and a sum over clock and message in
-//! four. A batch is its length in four bytes, its number on this connection in eight, the sum of 32 bytes that only who
-//! has the secret can make, and frames.
+//! Frames: what peers say to one another, one behind the other. A frame is its length in four bytes, the sender's clock
+//! in eight, a message, and a sum over clock and message in four. Frames that are sent or come together are a batch.
 
-use sevunthi::mac;
 use sevunthi::message::{Stored, framed, kind, kind_between, u32_at, u64_at};
-pub use sevunthi_client::seal::{HEAD, Seal};
 
-/// The longest batch.
+/// The longest frame; and so much may wait to be sent.
 pub const MOST: usize = 256 << 20;
 
 /// The first byte of what is no message of the protocol: a heartbeat of a server, with its id, and whom it waits for.
@@ -104,39 +99,11 @@ pub fn is_place(frame: &[u8]) -> bool {
     frame.get(8..).and_then(kind_between) == Some(kind::PLACE)
 }
 
-/// One direction of a connection between peers, whose reader has drawn this challenge. The sums are the proved ones.
-pub fn seal(secret: &[u8], challenge: [u8; 16]) -> Seal {
-    Seal::by(mac, secret, challenge)
-}
-
 #[cfg(test)]
 mod tests {
     use super::*;
     use crate::dice::Dice;
     use crate::protocol::{Op, Reply, Request};
-
-    #[test]
-    fn a_batch_is_taken_once() {
-        let mut out = vec![0; HEAD];
-        put_frame(7, b"hello", &mut out);
-        let (mut writer, mut reader) = (seal(b"secret", [1; 16]), seal(b"secret", [1; 16]));
-        writer.close(&mut out);
-        let opened = reader.open(&out).expect("it is the next one");
-        assert_eq!(frames(opened).collect::<Vec<_>>(), [(7, &b"hello"[..])]);
-        assert_eq!(reader.open(&out), None);
-        assert_eq!(seal(b"another", [1; 16]).open(&out), None);
-        assert_eq!(seal(b"secret", [2; 16]).open(&out), None);
-    }
-
-    #[test]
-    fn a_client_makes_the_batches_that_a_server_opens() {
-        for count in 0..70 {
-            let secret = [7; 70];
-            let mut batch = [vec![0; HEAD], vec![count; usize::from(count)]].concat();
-            Seal::new(&secret[..usize::from(count)], [count; 16]).close(&mut batch);
-            assert_eq!(seal(&secret[..usize::from(count)], [count; 16]).open(&batch), Some(&batch[HEAD..]));
-        }
-    }
 
     #[test]
     fn what_a_roll_waits_for_and_what_is_stored_stand_apart() {
@@ -180,7 +147,7 @@ mod tests {
         }
     }
 
-    /// Batches and requests with some bytes changed, as many as `MUTATIONS` says: none is taken for what was never
+    /// Frames and requests with some bytes changed, as many as `MUTATIONS` says: none is taken for what was never
     /// sent.
     #[test]
     fn mutations_bring_no_message_that_was_not_sent() {
@@ -188,8 +155,6 @@ mod tests {
         let messages = [&b"a message"[..], b"", b"another message"];
         let mut whole = Vec::new();
         messages.iter().for_each(|message| put_frame(7, message, &mut whole));
-        let mut batch = [vec![0; HEAD], whole.clone()].concat();
-        seal(b"secret", [1; 16]).close(&mut batch);
         let mut request = Vec::new();
         let asked = Request { op: Op::Put, number: 3, table: 1, key: 5, value: b"value".into() };
         asked.put(&mut request);
@@ -199,9 +164,6 @@ mod tests {
             for (clock, message) in frames(sound(&frames_of)) {
                 assert!(clock == 7 && messages.contains(&message), "{message:?} was never sent");
             }
-            let other = mutated(&batch, &mut dice);
-            let opened = seal(b"secret", [1; 16]).open(&other);
-            assert!(opened.is_none_or(|frames| frames == whole));
             for piece in sevunthi::message::framed(&mutated(&request, &mut dice)) {
                 let _ = Request::read(piece);
                 let _ = Reply::read(piece);

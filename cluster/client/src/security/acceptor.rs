@@ -1,10 +1,10 @@
 //! Who listens.
 
 use super::greeting::{Greeting, Learned, Side, context};
-use super::key::{Key, LENGTH, name_of};
-use super::secret::SecretFile;
+use super::key::{Key, LENGTH, name_of, role_of};
 use super::unproved::NO_SECURITY;
-use crate::handshake::Role;
+use crate::hello::Role;
+use crate::secret::SecretFile;
 use openssl::error::ErrorStack;
 use openssl::ex_data::Index;
 use openssl::ssl::{NameType, SniError, Ssl, SslAlert, SslContext, SslMethod, SslRef};
@@ -37,11 +37,18 @@ impl Acceptor {
             }
         });
         context.set_psk_server_callback(move |tls: &mut SslRef, name, to| {
-            let Some((role, key)) = known(place, &files, name.unwrap_or_default())? else {
-                tls.set_ex_data(learned, Learned::Unknown);
-                return Ok(0);
-            };
-            tls.set_ex_data(learned, Learned::Known(role));
+            let name = name.unwrap_or_default();
+            let of_role = role_of(name).and_then(|role| files.iter().find(|(other, _)| *other == role));
+            let found = of_role.map(|(role, file)| known(place, *role, file, name)).transpose()?.flatten();
+            tls.set_ex_data(
+                learned,
+                match (of_role, &found) {
+                    (None, _) => Learned::Closed,
+                    (Some(_), None) => Learned::Unknown,
+                    (Some((role, _)), Some(_)) => Learned::Known(*role),
+                },
+            );
+            let Some(key) = found else { return Ok(0) };
             to[..LENGTH].copy_from_slice(&key.bytes);
             Ok(LENGTH)
         });
@@ -68,15 +75,8 @@ impl Acceptor {
     }
 }
 
-/// The key of this name, and the role that it is for.
-fn known(place: u8, files: &[(Role, SecretFile)], name: &[u8]) -> Result<Option<(Role, Key)>, ErrorStack> {
-    for (role, file) in files {
-        for secret in file.taken() {
-            let key = Key::of(*role, place, &secret)?;
-            if key.name.as_bytes() == name {
-                return Ok(Some((*role, key)));
-            }
-        }
-    }
-    Ok(None)
+/// The key of this name and role, if the file has a secret of which it is made.
+fn known(place: u8, role: Role, file: &SecretFile, name: &[u8]) -> Result<Option<Key>, ErrorStack> {
+    let mut keys = file.taken().map(|secret| Key::of(role, place, &secret));
+    keys.find(|key| key.as_ref().map_or(true, |key| key.name.as_bytes() == name)).transpose()
 }

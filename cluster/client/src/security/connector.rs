@@ -2,10 +2,10 @@
 
 use super::greeting::{Greeting, Side, context, greet};
 use super::key::{Key, LENGTH, name_of};
-use super::secret::Secret;
 use super::unproved::Unproved;
 use crate::channel::Channel;
-use crate::handshake::Role;
+use crate::hello::Role;
+use crate::secret::Secret;
 use openssl::error::ErrorStack;
 use openssl::ex_data::Index;
 use openssl::ssl::{Ssl, SslContext, SslMethod};

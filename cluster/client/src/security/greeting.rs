@@ -2,8 +2,8 @@
 
 use super::queues::Queues;
 use super::session::Session;
-use super::unproved::{Unproved, reason};
-use crate::handshake::Role;
+use super::unproved::{NO_SECURITY, Unproved, reason};
+use crate::hello::Role;
 use openssl::error::ErrorStack;
 use openssl::ex_data::Index;
 use openssl::ssl::{
@@ -37,6 +37,8 @@ pub(super) enum Learned {
     Known(Role),
     /// It has shown another name.
     Unknown,
+    /// It has shown the name of a key for a role that has no file here.
+    Closed,
     /// It wants to reach another place.
     Elsewhere,
 }
@@ -76,6 +78,7 @@ impl Greeting {
     /// Why no session comes about.
     pub fn go_on(mut self, came: &[u8], out: &mut Vec<u8>) -> Result<Greeted, Unproved> {
         self.tls.get_mut().add(came);
+        let before = out.len();
         let (stepped, listens) = match self.side {
             Side::Listens(_) => (self.tls.accept(), true),
             Side::Connects(_) => (self.tls.connect(), false),
@@ -86,7 +89,14 @@ impl Greeting {
         match stepped {
             Ok(()) => self.done().map(Greeted::Done),
             Err(error) if error.code() == ErrorCode::WANT_READ => Ok(Greeted::Waits(self)),
-            Err(error) => Err(self.failed(&error)),
+            Err(error) => {
+                let unproved = self.failed(&error);
+                if listens && matches!(unproved, Unproved::NoSecurity) {
+                    out.truncate(before);
+                    out.extend_from_slice(&NO_SECURITY);
+                }
+                Err(unproved)
+            }
         }
     }
 
@@ -99,7 +109,7 @@ impl Greeting {
             Side::Connects(role) => role,
             Side::Listens(learned) => match self.tls.ssl().ex_data(learned) {
                 Some(Learned::Known(role)) => *role,
-                Some(Learned::Unknown | Learned::Elsewhere) | None => return Err(Unproved::Secret),
+                Some(Learned::Unknown | Learned::Closed | Learned::Elsewhere) | None => return Err(Unproved::Secret),
             },
         };
         Ok(Session::new(self.tls, role))
@@ -110,6 +120,7 @@ impl Greeting {
         match self.tls.ssl().ex_data(learned) {
             Some(Learned::Elsewhere) => Unproved::Place,
             Some(Learned::Unknown) => Unproved::Secret,
+            Some(Learned::Closed) => Unproved::NoSecurity,
             Some(Learned::Known(_)) | None => Unproved::Stranger(reason(error)),
         }
     }

@@ -1,7 +1,7 @@
 //! The key of TLS that is made of a secret: for one role, and one place.
 
-use super::secret::Secret;
-use crate::handshake::Role;
+use crate::hello::Role;
+use crate::secret::Secret;
 use openssl::error::ErrorStack;
 use openssl::hash::MessageDigest;
 use openssl::pkey::PKey;
@@ -13,7 +13,7 @@ pub(super) const LENGTH: usize = 32;
 /// So many bytes of a sum stand in a name, in hexadecimal.
 const NAMED: usize = 8;
 
-/// A key, and the name by which it is asked for. It is not shown.
+/// A key, and the name by which it is asked for: the role's letter, and digits. It is not shown.
 pub(super) struct Key {
     pub(super) name: String,
     pub(super) bytes: [u8; LENGTH],
@@ -30,9 +30,15 @@ impl Key {
             signer.sign_oneshot(&mut sum, said.as_bytes())?;
             Ok(sum)
         };
-        let name = sum("name")?[..NAMED].iter().map(|byte| format!("{byte:02x}")).collect();
+        let begins = char::from(role.code());
+        let name = sum("name")?[..NAMED].iter().fold(begins.to_string(), |name, byte| format!("{name}{byte:02x}"));
         Ok(Key { name, bytes: sum("key")? })
     }
+}
+
+/// The role of the key of this name.
+pub(super) fn role_of(name: &[u8]) -> Option<Role> {
+    Role::ALL.into_iter().find(|role| name.first() == Some(&role.code()))
 }
 
 /// What who connects says of the place that it wants to reach, as the name of a server.
@@ -50,9 +56,10 @@ mod tests {
         let (mut names, mut keys) = (BTreeSet::new(), BTreeSet::new());
         for byte in [1, 2] {
             let secret = Secret::of(vec![byte; 32]).expect("it is long enough");
-            for role in [Role::Peer, Role::Operator, Role::Client] {
+            for role in Role::ALL {
                 for place in 0..70 {
                     let key = Key::of(role, place, &secret).expect("there is one");
+                    assert_eq!(role_of(key.name.as_bytes()), Some(role));
                     assert!(names.insert(key.name) && keys.insert(key.bytes));
                 }
             }
@@ -66,7 +73,7 @@ mod tests {
         let secret = Secret::of(b"0123456789abcdefghijklmnopqrstuv".to_vec()).expect("it is long enough");
         let key = Key::of(Role::Client, 4, &secret).expect("there is one");
         let hexadecimal: String = key.bytes.iter().map(|byte| format!("{byte:02x}")).collect();
-        assert_eq!(key.name, "29ff59c33f9c2ffd");
+        assert_eq!(key.name, "C29ff59c33f9c2ffd");
         assert_eq!(hexadecimal, "b705e33f77a97d93c5562033d561f1120499b2fc3bc4ac7f25f59937d334dbd8");
     }
 }

@@ -1,7 +1,7 @@
 //! The state of a connection over two queues of bytes.
 
 use super::queues::Queues;
-use crate::handshake::Role;
+use crate::hello::Role;
 use openssl::ssl::{ErrorCode, SslStream};
 use std::io::{self, ErrorKind, Write};
 

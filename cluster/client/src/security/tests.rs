@@ -2,7 +2,7 @@
 
 use super::greeting::{Greeted, Greeting};
 use super::{Acceptor, Secret, SecretFile, Session, Unproved, begin};
-use crate::handshake::Role;
+use crate::hello::Role;
 use std::collections::VecDeque;
 use std::fs;
 use std::io::{self, ErrorKind};
@@ -10,8 +10,6 @@ use std::path::PathBuf;
 
 /// The place of who listens.
 const HERE: u8 = 3;
-
-const ROLES: [Role; 3] = [Role::Peer, Role::Operator, Role::Client];
 
 /// A folder of this test alone, with the file of a secret for each role.
 struct Files(PathBuf);
@@ -21,7 +19,7 @@ impl Files {
         let folder = std::env::temp_dir().join(format!("sevunthi-security-{test}-{}", std::process::id()));
         fs::create_dir_all(&folder)?;
         let files = Files(folder);
-        ROLES.iter().zip(1..).try_for_each(|(role, byte)| fs::write(files.file(*role).path(), [byte; 32]))?;
+        Role::ALL.iter().zip(1..).try_for_each(|(role, byte)| fs::write(files.file(*role).path(), [byte; 32]))?;
         Ok(files)
     }
 
@@ -30,7 +28,7 @@ impl Files {
     }
 
     fn acceptor(&self) -> io::Result<Acceptor> {
-        Acceptor::new(HERE, ROLES.iter().map(|role| (*role, self.file(*role))).collect())
+        Acceptor::new(HERE, Role::ALL.iter().map(|role| (*role, self.file(*role))).collect())
     }
 
     fn secret(&self, role: Role) -> Secret {
@@ -115,8 +113,8 @@ fn both(files: &Files) -> io::Result<[Session; 2]> {
 fn a_secret_is_good_for_its_role_and_place_alone() -> io::Result<()> {
     let files = Files::of("roles")?;
     let acceptor = files.acceptor()?;
-    for role in ROLES {
-        for of in ROLES {
+    for role in Role::ALL {
+        for of in Role::ALL {
             let known = said(&acceptor, role, HERE, &files.secret(of))?;
             let expected = if role == of { format!("{role:?}") } else { "it has another secret".to_string() };
             assert_eq!(known, [expected.clone(), expected], "{role:?} with the secret of {of:?}");
@@ -124,6 +122,19 @@ fn a_secret_is_good_for_its_role_and_place_alone() -> io::Result<()> {
         let elsewhere = "another place was asked for than the one that listens there";
         assert_eq!(said(&acceptor, role, HERE + 1, &files.secret(role))?, [elsewhere; 2]);
     }
+    Ok(())
+}
+
+/// Who listens has no secret of clients: they need none there, or have no business there.
+#[test]
+fn a_role_that_has_no_file_is_told() -> io::Result<()> {
+    let files = Files::of("closed")?;
+    let acceptor = Acceptor::new(HERE, vec![(Role::Peer, files.file(Role::Peer))])?;
+    for role in [Role::Client, Role::Operator] {
+        let told = said(&acceptor, role, HERE, &files.secret(role))?;
+        assert_eq!(told, ["a proof was given, and who listens has no secret of that kind"; 2]);
+    }
+    assert_eq!(said(&acceptor, Role::Peer, HERE, &files.secret(Role::Peer))?, ["Peer"; 2]);
     Ok(())
 }
 
@@ -244,7 +255,7 @@ fn who_speaks_no_tls_is_told_apart() -> io::Result<()> {
         let mut out = Vec::new();
         Ok(end.go_on(b"", &mut out).go_on(answer, &mut out).told())
     };
-    assert_eq!(answered(&Acceptor::refusal())?, "it speaks without security");
+    assert_eq!(answered(&Acceptor::refusal())?, "a proof was given, and who listens has no secret of that kind");
     assert!(answered(b"HTTP/1.1 400 Bad Request\r\n")?.starts_with("it does not speak TLS 1.3 under a secret: "));
     assert_eq!(answered(b"")?, "waits");
     for said in [&b"P\x01\x00\x03more"[..], b"GET / HTTP/1.1\r\n", &[22, 3, 3, 255, 255, 1]] {

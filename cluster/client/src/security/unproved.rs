@@ -1,5 +1,6 @@
 //! Why no session came about.
 
+use crate::hello::{NotLetIn, Refused};
 use openssl::error::ErrorStack;
 use openssl::ssl::{self, ErrorCode};
 use std::fmt::{self, Display, Formatter};
@@ -24,7 +25,7 @@ pub enum Unproved {
     Secret,
     /// Another place was asked for than the one that the listener has.
     Place,
-    /// The listener speaks without security.
+    /// The listener has no secret of this role, or speaks without security.
     NoSecurity,
     /// The other side has said what is no TLS 1.3 under a secret, as this says.
     Stranger(String),
@@ -35,9 +36,9 @@ pub enum Unproved {
 impl Display for Unproved {
     fn fmt(&self, out: &mut Formatter<'_>) -> fmt::Result {
         match self {
-            Unproved::Secret => write!(out, "it has another secret"),
-            Unproved::Place => write!(out, "another place was asked for than the one that listens there"),
-            Unproved::NoSecurity => write!(out, "it speaks without security"),
+            Unproved::Secret => write!(out, "{}", NotLetIn::Secret),
+            Unproved::Place => write!(out, "{}", NotLetIn::Place),
+            Unproved::NoSecurity => write!(out, "{}", NotLetIn::NoSecurity),
             Unproved::Stranger(what) => write!(out, "it does not speak TLS 1.3 under a secret: {what}"),
             Unproved::Broken(error) => write!(out, "{error}"),
         }
@@ -55,6 +56,18 @@ impl From<io::Error> for Unproved {
 impl From<ErrorStack> for Unproved {
     fn from(error: ErrorStack) -> Unproved {
         Unproved::Broken(error.into())
+    }
+}
+
+impl From<Unproved> for Refused {
+    fn from(unproved: Unproved) -> Refused {
+        match unproved {
+            Unproved::Secret => NotLetIn::Secret.into(),
+            Unproved::Place => NotLetIn::Place.into(),
+            Unproved::NoSecurity => NotLetIn::NoSecurity.into(),
+            Unproved::Stranger(_) => Refused::Broken(io::Error::new(ErrorKind::InvalidData, unproved)),
+            Unproved::Broken(error) => Refused::Broken(error),
+        }
     }
 }
 

@@ -167,7 +167,7 @@ pub fn add_counts(metrics: &mut Metrics, counts: &Counts) {
 mod tests {
     use super::*;
     use crate::options::{Command, Options};
-    use crate::secret::Secret;
+    use crate::secret::Secrets;
     use crate::store::stub::{Stub, empty_folder};
     use crate::{standby, supervisor};
     use sevunthi::{Node, Ready, Shape, Work};
@@ -182,7 +182,7 @@ mod tests {
         let words = ["--hosts", "1", "--factor", "1", "--port", &port, "--store", &store].map(String::from);
         let options = Options::read(Command::named("up")?, words)?;
         let target = crate::target(&options)?;
-        let config = supervisor::config(&options, target, folder.into(), None, Secret::default())?;
+        let config = supervisor::config(&options, target, folder.into(), None, Secrets::default())?;
         standby::run(config).map(|(core, _, _)| core).map_err(|error| error.to_string())
     }
 

@@ -145,9 +145,8 @@ impl Clone for Gateway {
 }
 
 impl Gateway {
-    /// One to these endpoints, each a name or a number with a port. Which keys are this cluster's its secret says.
-    pub fn new(endpoints: &[String], secret: &[u8]) -> Gateway {
-        let name: String = sevunthi::mac(secret, b"etcd")[..8].iter().map(|byte| format!("{byte:02x}")).collect();
+    /// One to these endpoints, each a name or a number with a port. Which keys are this cluster's its name says.
+    pub fn new(endpoints: &[String], name: &str) -> Gateway {
         Gateway {
             endpoints: endpoints.to_vec(),
             at: 0,

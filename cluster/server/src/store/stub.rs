@@ -11,6 +11,9 @@ use std::sync::{Arc, Mutex, MutexGuard};
 use std::thread;
 use std::time::Duration;
 
+/// What the cluster's keys begin with.
+const NAME: &str = "a-cluster";
+
 /// A store that listens on loopback.
 #[derive(Clone)]
 pub struct Stub {
@@ -63,7 +66,7 @@ impl Stub {
 
     /// Who asks it.
     pub fn gateway(&self) -> Gateway {
-        Gateway::new(std::slice::from_ref(&self.address), b"secret")
+        Gateway::new(std::slice::from_ref(&self.address), NAME)
     }
 
     fn lock(&self) -> MutexGuard<'_, State> {
@@ -72,8 +75,7 @@ impl Stub {
 
     /// The key as it stands in the store.
     fn whole(key: &str) -> String {
-        let name: String = sevunthi::mac(b"secret", b"etcd")[..8].iter().map(|byte| format!("{byte:02x}")).collect();
-        format!("sevunthi/{name}/{key}")
+        format!("sevunthi/{NAME}/{key}")
     }
 
     /// What a key has.

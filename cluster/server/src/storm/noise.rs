@@ -2,7 +2,7 @@
 
 use crate::client::Target;
 use crate::dice::Dice;
-use crate::handshake::VERSION;
+use crate::hello::VERSION;
 use std::io::{Read, Write};
 use std::net::TcpStream;
 use std::time::Duration;
@@ -14,12 +14,12 @@ const NO_REQUEST: u64 = 100;
 pub fn make(target: &Target, place: usize, dice: &mut Dice) {
     for _ in 0..8 {
         let Some(mut stream) = connect(target, place) else { continue };
-        let kind = b"PACGX"[dice.below(5) as usize];
+        let kind = b"PACGX\x16"[dice.below(6) as usize];
         let _ = stream.write_all(&[kind]);
         if matches!(kind, b'P' | b'A') {
-            // a proof that is none is waited for then
+            // who has proved nothing is answered then
             let _ = stream.write_all(&[VERSION, dice.below(4) as u8, place as u8]);
-            let _ = stream.read_exact(&mut [0; 18]);
+            let _ = stream.read_exact(&mut [0; 3]);
         }
         for _ in 0..dice.between(1, 8) {
             if stream.write_all(&piece(dice)).is_err() {

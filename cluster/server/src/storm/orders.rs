@@ -1,8 +1,7 @@
 //! Tables that are made all the time, while coordinators take over from one another: none that was acknowledged may be
 //! gone.
 
-use crate::client::{Client, Error, Refusal, Target};
-use crate::secret::Secret;
+use crate::client::{Client, Error, Refusal};
 use std::collections::BTreeSet;
 use std::sync::Arc;
 use std::sync::atomic::{AtomicBool, Ordering};
@@ -32,11 +31,11 @@ pub struct Orders {
 }
 
 impl Orders {
-    /// It begins.
-    pub fn begin(target: Target, operator: Secret) -> Orders {
+    /// It begins, by a client that operates the cluster.
+    pub fn begin(client: Client) -> Orders {
         let ends = Arc::new(AtomicBool::new(false));
         let until = Arc::clone(&ends);
-        let thread = thread::spawn(move || make(target, &operator, &until));
+        let thread = thread::spawn(move || make(client, &until));
         Orders { ends, thread }
     }
 
@@ -47,10 +46,8 @@ impl Orders {
     }
 }
 
-fn make(target: Target, operator: &Secret, ends: &AtomicBool) -> Ordered {
-    let mut client = Client::new(target);
+fn make(mut client: Client, ends: &AtomicBool) -> Ordered {
     client.wait = Duration::from_millis(800);
-    client.operate_with(operator.bytes());
     let mut ordered = Ordered::default();
     for table in FIRST..=LAST {
         if ends.load(Ordering::Relaxed) {

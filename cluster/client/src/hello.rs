@@ -1,16 +1,15 @@
-//! How who connects proves that it has a secret, and learns why it is not let in.
+//! What a peer, and who operates the cluster, says first on a connection, and how it learns why it is not let in.
 //!
 //! It says four bytes: what it is (`P` a peer, `A` who operates the cluster), the version of all that follows, its
-//! place and the place of who it wants to reach. The answer is `S`, the version of who listens, and 16 bytes that it
-//! has drawn. The first batch that follows has the four bytes as its frames: so they can't be those of another
-//! connection. A byte says what became of it.
+//! place and the place of who it wants to reach. The answer is `S`, the version of who listens, and what became of it.
+//! Where there is security all this is said under it, and who connects has proved by then what it is. A client says `C`
+//! alone, and has no answer to wait for.
 
-use crate::seal::{HEAD, Seal};
 use std::fmt::{self, Display, Formatter};
 use std::io::{self, ErrorKind, Read, Write};
 
 /// The version of what peers say to one another.
-pub const VERSION: u8 = 1;
+pub const VERSION: u8 = 2;
 
 /// What somebody is who connects.
 #[derive(Clone, Copy, Debug, PartialEq, Eq)]
@@ -24,6 +23,9 @@ pub enum Role {
 }
 
 impl Role {
+    /// All of them.
+    pub const ALL: [Role; 3] = [Role::Peer, Role::Operator, Role::Client];
+
     /// The first byte on a connection.
     pub fn code(self) -> u8 {
         match self {
@@ -41,18 +43,18 @@ pub struct Hello {
     pub role: Role,
     /// Its place; of who operates the cluster that of whom it wants to reach.
     pub from: u8,
-    /// The place of whom it wants to reach: hosts first, and then the coordinator.
+    /// The place of whom it wants to reach: hosts first, and then the coordinators.
     pub to: u8,
 }
 
 impl Hello {
-    /// Its bytes, which are also what the first batch has.
+    /// Its bytes.
     pub fn code(self) -> [u8; 4] {
         [self.role.code(), VERSION, self.from, self.to]
     }
 }
 
-/// What who listens says against who connects.
+/// What stands against who connects.
 #[derive(Clone, Copy, Debug, PartialEq, Eq)]
 pub enum NotLetIn {
     /// The other side has this version.
@@ -61,8 +63,10 @@ pub enum NotLetIn {
     Secret,
     /// Another place was wanted than the one that the listener has.
     Place,
-    /// Who listens has no secret of this role.
-    Closed,
+    /// Who listens wants a proof, and none was given.
+    InClear,
+    /// Who listens has no secret of this role, and can't look at a proof.
+    NoSecurity,
     /// Who listens has answered what no version answers.
     Stranger,
 }
@@ -73,7 +77,8 @@ impl Display for NotLetIn {
             NotLetIn::Version(version) => write!(out, "it has version {version}, and this is version {VERSION}"),
             NotLetIn::Secret => write!(out, "it has another secret"),
             NotLetIn::Place => write!(out, "another place was asked for than the one that listens there"),
-            NotLetIn::Closed => write!(out, "it was given no file --operator"),
+            NotLetIn::InClear => write!(out, "a proof of the secret is wanted, and none was given"),
+            NotLetIn::NoSecurity => write!(out, "a proof was given, and who listens has no secret of that kind"),
             NotLetIn::Stranger => write!(out, "who listens there is no process of a cluster"),
         }
     }
@@ -82,9 +87,9 @@ impl Display for NotLetIn {
 /// Why somebody is not let in.
 #[derive(Debug)]
 pub enum Refused {
-    /// The connection did not come about, or has ended, or too little came in time.
+    /// The connection did not come about, or has ended, or too little came in time, or what is no TLS under a secret.
     Broken(io::Error),
-    /// The other side says so.
+    /// One side says so.
     NotLetIn(NotLetIn),
 }
 
@@ -112,60 +117,77 @@ impl Display for Refused {
     }
 }
 
-/// What became of a proof, in a byte.
+/// What became of a hello, in a byte: who said it is let in.
 pub const TAKEN: u8 = 0;
-/// The secret is another one.
-pub const OTHER_SECRET: u8 = 1;
 /// The place is another one.
 pub const OTHER_PLACE: u8 = 2;
-/// Who listens has no secret of this role.
-pub const CLOSED: u8 = 3;
+/// Who is this has to prove it.
+pub const IN_CLEAR: u8 = 4;
 
 /// What begins the answer to a hello.
 pub const ANSWER: u8 = b'S';
 
-/// Proves to who listens that this secret is known here. Gives what later batches are made with.
+/// Says to who listens what this side is.
 ///
 /// # Errors
 ///
 /// Why this side is not let in.
-pub fn prove(stream: &mut (impl Read + Write), hello: Hello, secret: &[u8]) -> Result<Seal, Refused> {
-    prove_by(stream, hello, |challenge| Seal::new(secret, challenge))
-}
-
-/// The same, with batches that are made so for the challenge of who listens.
-///
-/// # Errors
-///
-/// Why this side is not let in.
-pub fn prove_by(
-    stream: &mut (impl Read + Write),
-    hello: Hello,
-    seal: impl FnOnce([u8; 16]) -> Seal,
-) -> Result<Seal, Refused> {
+pub fn say(stream: &mut (impl Read + Write), hello: Hello) -> Result<(), Refused> {
     stream.write_all(&hello.code())?;
-    let mut answer = [0; 2];
-    stream.read_exact(&mut answer)?;
+    let mut answer = [0; 3];
+    stream.read_exact(&mut answer[..2])?;
     match answer {
-        [ANSWER, VERSION] => {}
-        [ANSWER, version] => return Err(NotLetIn::Version(version).into()),
+        [ANSWER, VERSION, _] => {}
+        [ANSWER, version, _] => return Err(NotLetIn::Version(version).into()),
         _ => return Err(NotLetIn::Stranger.into()),
     }
-    let mut challenge = [0; 16];
-    stream.read_exact(&mut challenge)?;
-    let mut seal = seal(challenge);
-    let mut proof = [0; HEAD + 4];
-    proof[HEAD..].copy_from_slice(&hello.code());
-    seal.close(&mut proof);
-    stream.write_all(&proof)?;
-    let mut verdict = [0];
-    stream.read_exact(&mut verdict)?;
-    let refused = match verdict[0] {
-        TAKEN => return Ok(seal),
-        OTHER_SECRET => NotLetIn::Secret,
+    stream.read_exact(&mut answer[2..])?;
+    let refused = match answer[2] {
+        TAKEN => return Ok(()),
         OTHER_PLACE => NotLetIn::Place,
-        CLOSED => NotLetIn::Closed,
+        IN_CLEAR => NotLetIn::InClear,
         _ => NotLetIn::Stranger,
     };
     Err(refused.into())
+}
+
+#[cfg(test)]
+mod tests {
+    use super::*;
+    use std::io::Cursor;
+
+    struct Talk(Cursor<Vec<u8>>, Vec<u8>);
+
+    impl Read for Talk {
+        fn read(&mut self, to: &mut [u8]) -> io::Result<usize> {
+            self.0.read(to)
+        }
+    }
+
+    impl Write for Talk {
+        fn write(&mut self, bytes: &[u8]) -> io::Result<usize> {
+            self.1.write(bytes)
+        }
+        fn flush(&mut self) -> io::Result<()> {
+            Ok(())
+        }
+    }
+
+    #[test]
+    fn what_became_of_a_hello_is_told() {
+        let hello = Hello { role: Role::Peer, from: 1, to: 2 };
+        let said = |answer: &[u8]| {
+            let mut talk = Talk(Cursor::new(answer.to_vec()), Vec::new());
+            let said = say(&mut talk, hello).map_or_else(|refused| refused.to_string(), |()| "let in".to_string());
+            assert_eq!(talk.1, [b'P', VERSION, 1, 2]);
+            said
+        };
+        assert_eq!(said(&[ANSWER, VERSION, TAKEN]), "let in");
+        assert_eq!(said(&[ANSWER, VERSION, OTHER_PLACE]), NotLetIn::Place.to_string());
+        assert_eq!(said(&[ANSWER, VERSION, IN_CLEAR]), NotLetIn::InClear.to_string());
+        // what older ones, and those of later versions, answer
+        assert_eq!(said(b"S\x01................"), "it has version 1, and this is version 2");
+        assert_eq!(said(b"S\x07"), "it has version 7, and this is version 2");
+        assert_eq!(said(b"HTTP/1.1 400"), NotLetIn::Stranger.to_string());
+    }
 }
