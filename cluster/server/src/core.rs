@@ -241,7 +241,7 @@ impl Core {
             record,
             door,
             mangle: Mangle::default(),
-            awake: Awake::new(),
+            awake: Awake::default(),
             waits: Waits::default(),
             is_scarce: false,
             pace: Pace::default(),

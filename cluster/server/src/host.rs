@@ -89,7 +89,7 @@ pub fn run(config: Config) -> io::Result<()> {
         server: Id { index: 0, generation: 0 },
         pending: VecDeque::new(),
         waiting: VecDeque::new(),
-        turns: Turns::new(),
+        turns: Turns::default(),
         is_turn: false,
         reads: VecDeque::new(),
         next: (0, 0),

@@ -12,54 +12,39 @@ macro_rules! say {
     };
 }
 
-mod ahead;
-mod awake;
 mod bench;
 mod budget;
 mod coordinator;
 mod core;
 mod cut_off;
 mod dialer;
-mod dice;
-mod disk;
 mod door;
 mod etcd;
 mod events;
 mod faults;
 mod guard;
 mod handshake;
-mod hearing;
 mod histogram;
 mod host;
 mod http;
-mod journal;
-mod listening;
-mod log;
 mod metrics;
 mod moving;
 mod net;
 mod options;
-mod pace;
 mod places;
 mod record;
 mod restarts;
 mod rolling;
 mod room;
 mod secret;
-mod sectors;
-mod segments;
 mod seldom;
 mod standby;
 mod status;
 mod store;
 mod storm;
-mod superseded;
 mod supervisor;
 mod trace;
-mod turns;
 mod up;
-mod version;
-mod waits;
 mod wire;
 
 use handshake::NotLetIn;
@@ -68,6 +53,9 @@ use secret::Secret;
 use sevunthi_client::addresses::MOST_COORDINATORS;
 use sevunthi_client::{self as client, addresses, protocol, refusal as reasons};
 use sevunthi_client::{Client, Error, Found, Missing, Refusal, STANDS_BY, Target};
+use sevunthi_runtime::{
+    awake, dice, disk, hearing, journal, listening, log, pace, sectors, segments, superseded, turns, version, waits,
+};
 use std::path::Path;
 use std::process::ExitCode;
 use std::time::Duration;

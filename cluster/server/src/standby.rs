@@ -80,7 +80,7 @@ pub fn run(config: Config) -> io::Result<(Core, EventReceiver, Heard)> {
     let gateway = Gateway::new(&config.store, config.secret.bytes());
     let mut standby = Standby {
         door,
-        awake: Awake::new(),
+        awake: Awake::default(),
         heard: Heard::default(),
         clients: BTreeMap::new(),
         seeing: Arc::new(Mutex::new(Seeing::Nothing)),
