@@ -7,6 +7,7 @@ pub mod disk;
 pub mod failing;
 pub mod hearing;
 pub mod journal;
+pub mod kept;
 pub mod listening;
 pub mod log;
 pub mod pace;

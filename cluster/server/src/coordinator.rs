@@ -211,8 +211,7 @@ impl Coordinator {
     }
 
     fn step(&mut self, work: Work) -> bool {
-        self.core.counts.works += 1;
-        match self.core.node.step(work) {
+        match self.core.kept.step(work) {
             Ok(()) => true,
             Err(fault) => {
                 if fault != Fault::Refused {
@@ -225,7 +224,7 @@ impl Coordinator {
 
     /// Whether too few hosts have room, so that no writes are to be taken.
     fn look_for_scarceness(&mut self) {
-        let servers = self.core.node.servers().unwrap_or_default();
+        let servers = self.core.kept.node.servers().unwrap_or_default();
         let up = servers.iter().filter(|(_, is_up)| *is_up).map(|(id, _)| id.index);
         let is_scarce = self.core.room.is_scarce(up, usize::from(self.core.config.factor) + 1);
         if is_scarce != self.core.is_scarce {
@@ -247,7 +246,7 @@ impl Coordinator {
         let mut silent: Vec<Id> = sight.up.iter().filter(|id| self.is_silent(id)).copied().collect();
         silent.extend(self.cut_off.suspects(&sight, &silent));
         let heard: Vec<Id> = sight.heard.iter().map(|(id, _)| *id).collect();
-        let dues = self.core.node.dues(&heard, &silent, &[]).unwrap_or_default();
+        let dues = self.core.kept.node.dues(&heard, &silent, &[]).unwrap_or_default();
         let sight = if dues.is_empty() {
             sight
         } else {
@@ -269,8 +268,8 @@ impl Coordinator {
     /// What is seen of the servers now.
     fn sight(&mut self) -> Sight {
         let (silence, now) = (Duration::from_millis(self.core.config.silence), self.core.awake.now());
-        let servers = self.core.node.servers().unwrap_or_default();
-        let tablets = self.core.node.tablets().unwrap_or_default();
+        let servers = self.core.kept.node.servers().unwrap_or_default();
+        let tablets = self.core.kept.node.tablets().unwrap_or_default();
         Sight {
             up: servers.into_iter().filter(|(_, is_up)| *is_up).map(|(id, _)| id).collect(),
             heard: self.listening.all().map(|(id, at)| (id, now - at)).filter(|(_, ago)| *ago < silence).collect(),
@@ -366,7 +365,7 @@ impl Coordinator {
 
     /// A host with a new folder begins anew until its server is a new one too: an id is never used again.
     fn let_in(&mut self, id: Id) {
-        let servers = self.core.node.servers().unwrap_or_default();
+        let servers = self.core.kept.node.servers().unwrap_or_default();
         if servers.iter().any(|(other, _)| other.index == id.index && id.generation <= other.generation) {
             return self.say_not_up(id);
         }
@@ -430,8 +429,8 @@ impl Coordinator {
             Order::Split(table, key) => return Ok(Work::Split { table, at: 2 * key }),
             Order::Create(table, index) => (table, index),
         };
-        let servers = self.core.node.servers().unwrap_or_default();
-        let tablets = self.core.node.tablets().unwrap_or_default();
+        let servers = self.core.kept.node.servers().unwrap_or_default();
+        let tablets = self.core.kept.node.tablets().unwrap_or_default();
         let mut up = servers.iter().filter(|(_, is_up)| *is_up).map(|(id, _)| *id);
         let owns = |id: &Id| tablets.iter().filter(|tablet| tablet.owner == *id).count();
         let owner = match index {
@@ -455,7 +454,7 @@ impl Coordinator {
 
     /// Who owns a key, or the code of a refusal. One that has crashed is not named: clients would wait for it.
     fn owner(&mut self, table: u32, key: u64) -> Result<Id, u8> {
-        let tablets = self.core.node.tablets().map_err(|_| RECOVERING)?;
+        let tablets = self.core.kept.node.tablets().map_err(|_| RECOVERING)?;
         let holds = |tablet: &&sevunthi::Tablet| tablet.table == table && tablet.lo <= key && key <= tablet.hi;
         match tablets.iter().find(holds) {
             Some(tablet) if tablet.crashed => Err(RECOVERING),
@@ -502,7 +501,7 @@ impl Coordinator {
             let _ = writeln!(text, "no writes are taken: too few hosts have room on their disks");
         }
         let now = self.core.awake.now();
-        for (id, is_up) in self.core.node.servers().unwrap_or_default() {
+        for (id, is_up) in self.core.kept.node.servers().unwrap_or_default() {
             let heard = self.listening.last(&id).map(|at| (now - at).as_millis());
             let state = match is_up {
                 true => State::Up,
@@ -513,11 +512,11 @@ impl Coordinator {
                 let _ = writeln!(text, "{}", Server { id, state, heard });
             }
         }
-        for tablet in self.core.node.tablets().unwrap_or_default() {
+        for tablet in self.core.kept.node.tablets().unwrap_or_default() {
             let sevunthi::Tablet { table, lo, hi, crashed: is_recovering, owner, term } = tablet;
             let _ = writeln!(text, "{}", Tablet { table, keys: (lo / 2, hi / 2), is_recovering, owner, term });
         }
-        let (info, syncs) = (self.core.node.info(), self.core.journal.syncs());
+        let (info, syncs) = (self.core.kept.node.info(), self.core.kept.log.syncs());
         let _ = writeln!(text, "{LAST_LINE}{} bytes, {} safe, {syncs} syncs", info.written, info.safe);
         text
     }
@@ -525,8 +524,8 @@ impl Coordinator {
     /// What it has to tell who watches it.
     fn metrics(&mut self) -> String {
         let mut metrics = self.core.metrics();
-        let (sight, servers) = (self.sight(), self.core.node.servers().unwrap_or_default());
-        let tablets = self.core.node.tablets().unwrap_or_default();
+        let (sight, servers) = (self.sight(), self.core.kept.node.servers().unwrap_or_default());
+        let tablets = self.core.kept.node.tablets().unwrap_or_default();
         let crashed = tablets.iter().filter(|tablet| tablet.crashed).count();
         let wanted = usize::from(self.core.config.factor) + 1;
         for (name, help, value) in [
@@ -562,5 +561,5 @@ impl Coordinator {
 
 /// Whether the coordinator's list shows this server up.
 fn is_up(core: &mut Core, id: Id) -> bool {
-    core.node.servers().is_ok_and(|servers| servers.contains(&(id, true)))
+    core.kept.node.servers().is_ok_and(|servers| servers.contains(&(id, true)))
 }

@@ -119,10 +119,10 @@ impl Asked<'_> {
 impl Host {
     /// Starts the server anew. What was asked of the old one is unknown.
     fn begin(&mut self) {
-        if let Err(fault) = self.core.node.start() {
+        if let Err(fault) = self.core.kept.node.start() {
             tell(format_args!("the server did not start: {fault}"));
         }
-        self.server = self.core.node.info().server;
+        self.server = self.core.kept.node.info().server;
         self.is_replaced = false;
         self.grants.clear();
         self.core.waits.clear();
@@ -150,14 +150,14 @@ impl Host {
         let mut tick = Instant::now();
         loop {
             let wait = if self.core.local.is_empty() && !self.is_turn { TURN } else { Duration::ZERO };
-            let mut passed_on = self.core.counts.works;
+            let mut passed_on = self.core.kept.works;
             events.take_turn(wait, |event| {
                 let many = most_before(&event);
                 self.take(event, events);
-                let is_due = passed_on + many <= self.core.counts.works || !self.waiting.is_empty();
+                let is_due = passed_on + many <= self.core.kept.works || !self.waiting.is_empty();
                 // what is urgent is soon taken, and what that sends leaves in the same batches
                 if is_due && !events.has_urgent() {
-                    passed_on = self.core.counts.works;
+                    passed_on = self.core.kept.works;
                     self.retry(events);
                     self.pass_on();
                 }
@@ -178,12 +178,12 @@ impl Host {
             }
             if Duration::from_millis(self.core.config.tick) <= tick.elapsed() {
                 tick = Instant::now();
-                let _ = self.core.node.step(Work::Tick);
+                let _ = self.core.kept.step(Work::Tick);
             }
             self.retry(events);
             self.confirm();
             self.settle();
-            let info = self.core.node.info();
+            let info = self.core.kept.node.info();
             if self.is_replaced || info.is_deposed || LAST_HEAD < info.head || !info.runs {
                 tell(format_args!(
                     "server {} was replaced, or its log is long, or it has not started: it begins anew",
@@ -200,8 +200,8 @@ impl Host {
     fn pass_on(&mut self) {
         self.route();
         if self.roll_waits {
-            self.roll_waits = !self.core.begin_sync_of_roll() && self.core.is_waiting();
-        } else if MUCH <= self.core.since_sync() {
+            self.roll_waits = !self.core.begin_sync_of_roll() && self.core.kept.is_waiting();
+        } else if MUCH <= self.core.kept.since_sync() {
             self.core.begin_sync_beside();
         }
         self.core.flush();
@@ -279,7 +279,7 @@ impl Host {
             Frame::Message(message) => {
                 grants.extend(core.deliver(message).and_then(|envelope| granted(&envelope, server)));
                 // a batch may take long
-                if core.counts.works.is_multiple_of(FEW) {
+                if core.kept.works.is_multiple_of(FEW) {
                     beat_if_due(beat, server, core);
                 }
             }
@@ -344,7 +344,7 @@ impl Host {
     /// answered as a read is: it shows a version and a value, and is confirmed as they are.
     fn give_if(&mut self, asked: Asked<'_>, condition: Condition) -> bool {
         let (table, key, number) = (asked.request.table, 2 * asked.request.key, asked.request.number);
-        let info = self.core.node.info();
+        let info = self.core.kept.node.info();
         let place = (info.head, info.entries);
         self.ask_node(|server, code| message::read(server, table, key, code));
         match self.said_at_once() {
@@ -365,12 +365,11 @@ impl Host {
     fn ask_node(&mut self, put: impl FnOnce(Id, &mut Vec<u8>)) -> bool {
         let mut code = std::mem::take(&mut self.code);
         put(self.server, &mut code);
-        let taken = self.core.node.deliver(&code);
+        let taken = self.core.kept.deliver(&code);
         self.code = code;
         if taken == Err(Fault::UsedUp) {
             failed("the node's numbers are used up", Fault::UsedUp);
         }
-        self.core.counts.works += 1;
         taken.is_ok()
     }
 
@@ -396,7 +395,7 @@ impl Host {
             Some((_, value)) => value,
             None => Some(&*request.value).filter(|_| request.op != Op::Delete),
         };
-        let before = self.core.node.info();
+        let before = self.core.kept.node.info();
         let is_taken = self.ask_node(|server, code| match request.op {
             Op::Get | Op::GetFast => message::read(server, request.table, key, code),
             _ => message::write(server, request.table, key, value, code),
@@ -404,12 +403,12 @@ impl Host {
         let place = (before.head, before.entries);
         let is_write = request.op.is_write();
         // where the head has one entry more, that is the write, and what it sends leaves with all else
-        let now = self.core.node.info();
+        let now = self.core.kept.node.info();
         if is_taken && is_write && (now.head, now.entries) == (place.0, place.1 + 1) {
             return self.await_durable(place, &asked);
         }
         let said = self.said_at_once();
-        let after = self.core.node.info();
+        let after = self.core.kept.node.info();
         if is_taken && is_write && said.is_none() && place != (after.head, after.entries) {
             return self.await_durable(place, &asked);
         }
@@ -590,7 +589,7 @@ impl Host {
 
     /// What it has to tell who watches it.
     fn metrics(&mut self) -> String {
-        let info = self.core.node.info();
+        let info = self.core.kept.node.info();
         let mut metrics = self.core.metrics();
         for (name, help, value) in [
             ("server_generation", "How often the host has started a server.", u64::from(info.server.generation)),
