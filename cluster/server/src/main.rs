@@ -54,7 +54,7 @@ use sevunthi_client::addresses::MOST_COORDINATORS;
 use sevunthi_client::{self as client, addresses, protocol, refusal as reasons};
 use sevunthi_client::{Client, Error, Found, Missing, Refusal, STANDS_BY, Target};
 use sevunthi_runtime::{
-    awake, dice, disk, hearing, journal, listening, log, pace, sectors, segments, superseded, turns, version, waits,
+    awake, dice, disk, hearing, journal, listening, log, pace, sectors, segments, superseded, version, waits,
 };
 use std::path::Path;
 use std::process::ExitCode;
