@@ -2,6 +2,7 @@
 
 mod ahead;
 pub mod awake;
+pub mod cut_off;
 pub mod dice;
 pub mod disk;
 pub mod failing;
@@ -16,6 +17,7 @@ pub mod pace;
 pub mod sectors;
 pub mod segments;
 pub mod superseded;
+pub mod suspicion;
 mod turns;
 pub mod version;
 pub mod waits;

@@ -16,7 +16,6 @@ mod bench;
 mod budget;
 mod coordinator;
 mod core;
-mod cut_off;
 mod dialer;
 mod door;
 mod etcd;
