@@ -50,6 +50,8 @@ class Wire(unittest.TestCase):
         condition = struct.pack("<Q", 3) + b"hello"
         name = 'put "hello" at table 1, key 5, if its version is 3; number 7'
         self.assertEqual(page[name], request(sevunthi.PUT_IF, 7, 1, 5, condition))
+        name = "scan of table 1, keys 5 to 9, at most 100 values; number 7"
+        self.assertEqual(page[name], request(sevunthi.SCAN, 7, 1, 5, struct.pack("<QI", 9, 100)))
         seal = sevunthi.Seal(b"0123456789abcdefghijklmnopqrstuv", bytes(range(16)))
         self.assertEqual(page["the proof"], seal.batch(page["hello"]))
         create = seal.batch(request(sevunthi.CREATE, 1, 3, sevunthi.ANY_HOST))
@@ -186,6 +188,21 @@ class Cluster(unittest.TestCase):
             self.assertEqual(client.get(1, 1), Found(3))
             self.assertIn("is owned by", client.status())
             self.assertIn("server_runs", client.status(0))
+
+    def test_ranges_are_read_in_order(self):
+        for key in range(900, 930, 3):
+            self.client.put(1, key, b"%d" % key)
+        self.client.delete(1, 906)
+        found = [(it.key, it.value) for it in self.client.entries(1, 901, 927)]
+        keys = [903, 909, 912, 915, 918, 921, 924, 927]
+        self.assertEqual(found, [(key, b"%d" % key) for key in keys])
+        page = self.client.scan(1, 901, 927, most=2)
+        self.assertEqual(([it.key for it in page.entries], page.next), ([903, 909], 912))
+        self.assertEqual(self.client.scan(1, 928, 929), sevunthi.Page((), None))
+        self.assertEqual(self.client.scan(1, 9, 8), sevunthi.Page((), None))
+        with self.assertRaises(Refused) as said:
+            self.client.scan(1, 2**63)
+        self.assertIs(said.exception.refusal, Refusal.WRONG)
 
     def test_conditions_hold_or_show_what_is_there(self):
         with Client(TARGET) as client:

@@ -18,6 +18,8 @@
 //! # Ok::<(), Error>(())
 //! ```
 //!
+//! [`Client::entries`] reads a range of keys, in pages ([`scan`]).
+//!
 //! Over these stand [`names`], a table whose keys are byte strings, and [`large`], values of up to 1 MiB.
 //!
 //! What goes over the wire stands in [`protocol`], [`handshake`] and [`seal`]; `docs/WIRE.md` has it byte by byte.
@@ -34,6 +36,7 @@ pub mod names;
 mod poly1305;
 pub mod protocol;
 pub mod refusal;
+pub mod scan;
 pub mod seal;
 #[cfg(feature = "security")]
 pub mod security;

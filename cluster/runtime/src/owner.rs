@@ -25,8 +25,8 @@ pub const DEPOSED: u8 = 5;
 pub const KEYS: u64 = 1 << 63;
 
 /// A page looks at so many keys at most, and has values of so many bytes, or one more.
-const LOOKED_AT: usize = 1024;
-const PAGE: usize = 1 << 16;
+const LOOKED_AT: usize = 512;
+const PAGE: usize = 1 << 15;
 
 /// What has to hold of a key for a conditional write to be done.
 #[derive(Clone, Copy, Debug, PartialEq, Eq)]

@@ -9,6 +9,7 @@ use crate::protocol::{
 use crate::wire::{HEARTBEAT, is_place};
 use sevunthi::message::framed;
 use sevunthi::{Address, Answer, Fault, Id, Node, Work};
+use sevunthi_client::scan::{Entry, Page, read_wanted};
 use sevunthi_runtime::owner::{self, Ground, KEYS, Outcome, Owner, What};
 use std::borrow::Cow;
 use std::io;
@@ -81,7 +82,12 @@ fn reply_of(outcome: Outcome, number: u64) -> Reply {
         Outcome::Written(version) => Reply { version, ..bare(DONE) },
         Outcome::Found(version, value) => found([DONE, NO_VALUE], version, value),
         Outcome::Mismatch(version, value) => found([MISMATCH, MISMATCH_NO_VALUE], version, value),
-        Outcome::Page(_) => bare(WRONG),
+        Outcome::Page(page) => {
+            let entry = |entry: owner::Entry| Entry { key: entry.key, version: entry.version, value: entry.value };
+            let entries = page.entries.into_iter().map(entry).collect();
+            let (version, value) = Page { entries, next: page.next }.code();
+            Reply { code: DONE, number, version, value }
+        }
         Outcome::Refused(code) => bare(code),
         Outcome::Unknown => bare(UNKNOWN),
     }
@@ -102,6 +108,10 @@ fn what_of<'a>(request: &'a Request<'_>) -> Option<What<'a>> {
                 Condition::Absent => owner::Condition::Absent,
             };
             What::WriteIf(condition, value.map(Cow::Borrowed))
+        }
+        Op::Scan => {
+            let (last, most) = read_wanted(&request.value)?;
+            What::Scan { last, most: most as usize }
         }
         Op::Create | Op::Split | Op::Owner | Op::Status | Op::Fail => return None,
     })
