@@ -25,8 +25,9 @@ struct Known {
     version: u64,
     /// Whether that has put a value.
     has_value: bool,
-    /// How many deletes were begun.
+    /// How many deletes were begun, and whether the last one has no answer yet.
     deletes: u64,
+    is_deleting: bool,
     /// A write of it is unknown, and nothing is known of it any more.
     is_lost: bool,
 }
@@ -54,19 +55,20 @@ fn write(target: Target, table: &Table, keys: impl Iterator<Item = usize> + Clon
         let key = at as u64 * APART;
         let deletes = turn % 3 == 2;
         let said = if deletes {
-            note(table, at, |known| known.deletes += 1);
+            note(table, at, |known| (known.deletes, known.is_deleting) = (known.deletes + 1, true));
             client.delete(TABLE, key)
         } else {
             client.put(TABLE, key, &[b'x'; 300])
         };
-        match said {
-            Ok(version) => {
-                done += 1;
-                note(table, at, |known| (known.version, known.has_value) = (version, !deletes));
+        done += u64::from(said.is_ok());
+        note(table, at, |known| {
+            known.is_deleting = false;
+            match said {
+                Ok(version) => (known.version, known.has_value) = (version, !deletes),
+                Err(Error::Unknown) => known.is_lost = true,
+                Err(_) => {}
             }
-            Err(Error::Unknown) => note(table, at, |known| known.is_lost = true),
-            Err(_) => {}
-        }
+        });
     }
     done
 }
@@ -85,7 +87,7 @@ fn wrong_in(page: &Page, first: u64, before: &[Known], after: &[Known]) -> usize
             && !now.is_lost
             && match shown {
                 Some(entry) => entry.version < known.version,
-                None => known.has_value && known.deletes == now.deletes,
+                None => known.has_value && !known.is_deleting && known.deletes == now.deletes,
             }
     };
     usize::from(!is_in_order) + (0..before.len()).filter(is_wrong).count()
