@@ -190,19 +190,20 @@ class Cluster(unittest.TestCase):
             self.assertIn("server_runs", client.status(0))
 
     def test_ranges_are_read_in_order(self):
-        for key in range(900, 930, 3):
-            self.client.put(1, key, b"%d" % key)
-        self.client.delete(1, 906)
-        found = [(it.key, it.value) for it in self.client.entries(1, 901, 927)]
-        keys = [903, 909, 912, 915, 918, 921, 924, 927]
-        self.assertEqual(found, [(key, b"%d" % key) for key in keys])
-        page = self.client.scan(1, 901, 927, most=2)
-        self.assertEqual(([it.key for it in page.entries], page.next), ([903, 909], 912))
-        self.assertEqual(self.client.scan(1, 928, 929), sevunthi.Page((), None))
-        self.assertEqual(self.client.scan(1, 9, 8), sevunthi.Page((), None))
-        with self.assertRaises(Refused) as said:
-            self.client.scan(1, 2**63)
-        self.assertIs(said.exception.refusal, Refusal.WRONG)
+        with Client(TARGET) as client:
+            for key in range(900, 930, 3):
+                client.put(1, key, b"%d" % key)
+            client.delete(1, 906)
+            found = [(it.key, it.value) for it in client.entries(1, 901, 927)]
+            keys = [903, 909, 912, 915, 918, 921, 924, 927]
+            self.assertEqual(found, [(key, b"%d" % key) for key in keys])
+            page = client.scan(1, 901, 927, most=2)
+            self.assertEqual(([it.key for it in page.entries], page.next), ([903, 909], 912))
+            for first, last in [(928, 929), (9, 8)]:
+                self.assertEqual(client.scan(1, first, last), sevunthi.Page((), None))
+            with self.assertRaises(Refused) as said:
+                client.scan(1, 2**63, 2**64 - 1)
+            self.assertIs(said.exception.refusal, Refusal.WRONG)
 
     def test_conditions_hold_or_show_what_is_there(self):
         with Client(TARGET) as client:
