@@ -35,14 +35,17 @@ static bool settle(void) {
   for (int i = 0; i < NODES; i++)
     collect(&nodes[i]);
   while (taken < mailed) {
-    size_t length = mail[taken] | mail[taken + 1] << 8 | mail[taken + 2] << 16;
-    const uint8_t *message = mail + taken + 4;
-    const uint8_t *to = message + (message[1] == 1 ? 7 : 2); /* behind the version and the sender */
-    taken += 4 + length;
-    if (to[0] == 2) {
-      acknowledged |= to[1] == 2;
+    const uint8_t *rest = mail + taken, *message = NULL;
+    size_t left = mailed - taken, length = 0;
+    sevunthi_envelope envelope;
+    sevunthi_written written;
+    if (!sevunthi_next(&rest, &left, &message, &length) || !sevunthi_read_envelope(message, length, &envelope))
+      exit(1);
+    taken = mailed - left;
+    if (envelope.to.sort == SEVUNTHI_AT_OUTSIDE) {
+      acknowledged |= sevunthi_read_written(&envelope, &written) && written.table == 7 && written.key == 5;
     } else {
-      sevunthi_node *node = &nodes[to[0] == 1 ? to[1] : HOSTS];
+      sevunthi_node *node = &nodes[envelope.to.sort == SEVUNTHI_AT_SERVER ? envelope.to.id.index : HOSTS];
       must(sevunthi_deliver(node, message, length), "deliver");
       collect(node);
     }
@@ -52,8 +55,8 @@ static bool settle(void) {
 }
 
 int main(void) {
-  static const uint8_t create[] = {1, 7, 7, 0, 0, 0, 0, 1, 0, 0, 0}; /* table 7 for server 0.1 */
-  static const uint8_t write[] = {1, 2, 1, 0, 1, 0, 0, 0, 0, 7, 0, 0, 0, 5, 0, 0, 0, 0, 0, 0, 0, 1, 2, 0, 0, 0, 0, 0, 0, 0, 'h', 'i'};
+  const sevunthi_id owner = {0, 1};
+  uint8_t create[SEVUNTHI_MOST_WORK], write[64];
   for (uint8_t i = 0; i < HOSTS; i++)
     must(sevunthi_host(&nodes[i], i, 2, 1024, true), "host");
   must(sevunthi_coordinator(&nodes[HOSTS]), "coordinator");
@@ -61,9 +64,9 @@ int main(void) {
   for (int i = 0; i < HOSTS; i++)
     must(sevunthi_start(&nodes[i]), "start");
   settle();
-  must(sevunthi_step(&nodes[HOSTS], create, sizeof create), "create");
+  must(sevunthi_step(&nodes[HOSTS], create, sevunthi_put_create(create, 7, owner)), "create");
   settle();
-  must(sevunthi_deliver(&nodes[0], write, sizeof write), "write");
+  must(sevunthi_deliver(&nodes[0], write, sevunthi_put_write(write, owner, 7, 5, "hi", 2)), "write");
   bool acknowledged = settle();
   bool misused = sevunthi_host(&nodes[0], 0, 2, 1024, true) == SEVUNTHI_MISUSED;
   bool malformed = sevunthi_step(&nodes[0], create, 1) == SEVUNTHI_MALFORMED;

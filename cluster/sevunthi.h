@@ -3,13 +3,20 @@
  * A node lives behind a `sevunthi_node`, a place in the caller's memory that is all zeros where it is empty. It is used by one
  * thread at a time, and stays on the thread that filled it. Bytes are a pointer, which is not null, and a length. Each call
  * answers a number; after any but SEVUNTHI_DONE nothing has changed, unless its words say so. `cluster/check-header` compares
- * this file with the exports. */
+ * this file with the exports. sevunthi_messages.h reads and writes what goes in and comes out. */
 #ifndef SEVUNTHI_H
 #define SEVUNTHI_H
 
 #include <stdbool.h>
 #include <stddef.h>
 #include <stdint.h>
+
+#include "sevunthi_messages.h"
+
+/* The version of what is declared here. It rises with each change that makes a program wrong that was compiled before:
+ * of a parameter, a field, a number, or of what a call means. The library does not say its own: take both of one build.
+ * #if SEVUNTHI_ABI_VERSION != 1 is how a program says which one it was written for. */
+#define SEVUNTHI_ABI_VERSION 1
 
 enum {
   SEVUNTHI_DONE = 0,

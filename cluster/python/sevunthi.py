@@ -29,10 +29,12 @@ from dataclasses import dataclass, replace
 from typing import Iterator
 
 PUT, DELETE, GET, GET_FAST, CREATE, SPLIT, OWNER, STATUS = range(8)
-PUT_IF, PUT_IF_ABSENT, DELETE_IF = 9, 10, 11
+PUT_IF, PUT_IF_ABSENT, DELETE_IF, SCAN = 9, 10, 11, 12
 DONE, NO_VALUE, UNKNOWN, WRONG, MISMATCH, MISMATCH_NO_VALUE = 0, 100, 101, 102, 105, 106
 NOT_LEADING, IN_CLEAR = 107, 108
 NO_HINT = 2**64 - 1
+NO_MORE = 2**64 - 1
+LAST_KEY = 2**63 - 1
 ANY_HOST = 2**64 - 1
 MOST_VALUE = 1024
 MOST_NAME = 256
@@ -89,6 +91,24 @@ class Found:
 
     version: int
     value: bytes | None = None
+
+
+@dataclass(frozen=True)
+class Entry:
+    """One value that stands at a key, with the version of the key's newest write."""
+
+    key: int
+    version: int
+    value: bytes
+
+
+@dataclass(frozen=True)
+class Page:
+    """All values from the first key asked for up to, and without, `next`, as they were at one moment, confirmed. Where
+    `next` is None all that was asked for was looked at. There may be no values, though there are some behind."""
+
+    entries: tuple[Entry, ...]
+    next: int | None
 
 
 class Error(Exception):
@@ -266,7 +286,7 @@ def _judge(op: int, reply: _Reply) -> Found:
     """What an answer says of a request."""
     code = reply.code
     if code == DONE:
-        return Found(reply.version, reply.value if op in (GET, GET_FAST) else None)
+        return Found(reply.version, reply.value if op in (GET, GET_FAST, SCAN) else None)
     if code == NO_VALUE:
         return Found(reply.version)
     if code == UNKNOWN:
@@ -331,6 +351,28 @@ class Client:
     def delete_if(self, table: int, key: int, version: int) -> int:
         """Deletes a value, if the version of the key's newest write is this one."""
         return self._next(version, self._ask(DELETE_IF, table, key, struct.pack("<Q", version)))
+
+    def scan(self, table: int, first: int = 0, last: int = LAST_KEY, most: int = 2**32 - 1) -> Page:
+        """Reads the values of the keys from the first up to the last, at most so many, of one owner. Those of one page
+        are of one moment, confirmed; between two pages others may write."""
+        if first > last:
+            return Page((), None)
+        found = self._ask(SCAN, table, first, struct.pack("<QI", min(last, LAST_KEY), min(most, 2**32 - 1)))
+        entries: list[Entry] = []
+        rest = found.value or b""
+        while rest:
+            key, version, length = struct.unpack_from("<QQI", rest)
+            entries.append(Entry(key, version, rest[20 : 20 + length]))
+            rest = rest[20 + length :]
+        return Page(tuple(entries), None if found.version == NO_MORE else found.version)
+
+    def entries(self, table: int, first: int = 0, last: int = LAST_KEY) -> Iterator[Entry]:
+        """The values of these keys, in order, read page by page."""
+        next_key: int | None = first
+        while next_key is not None:
+            page = self.scan(table, next_key, last)
+            yield from page.entries
+            next_key = page.next
 
     def create(self, table: int, host: int | None = None) -> None:
         """Makes a table, at this host or at the one that owns least."""
@@ -543,7 +585,7 @@ class _NotSent(Exception):
 def _passes(error: Error, op: int) -> bool:
     """Whether it is of use to ask again. A write of which nobody knows is not: that would be another write."""
     if isinstance(error, Unknown):
-        return op in (GET, GET_FAST)
+        return op in (GET, GET_FAST, SCAN)
     if isinstance(error, Refused):
         return error.refusal.passes
     return isinstance(error, Unasked) and error.passes

@@ -50,6 +50,8 @@ class Wire(unittest.TestCase):
         condition = struct.pack("<Q", 3) + b"hello"
         name = 'put "hello" at table 1, key 5, if its version is 3; number 7'
         self.assertEqual(page[name], request(sevunthi.PUT_IF, 7, 1, 5, condition))
+        name = "scan of table 1, keys 5 to 9, at most 100 values; number 7"
+        self.assertEqual(page[name], request(sevunthi.SCAN, 7, 1, 5, struct.pack("<QI", 9, 100)))
         hello = page["who operates the cluster, to the coordinator at place 4"]
         self.assertEqual(hello, bytes([65, sevunthi.VERSION, 4, 4]))
         create = request(sevunthi.CREATE, 1, 3, sevunthi.ANY_HOST)
@@ -207,6 +209,22 @@ class Cluster(unittest.TestCase):
             self.assertEqual(client.get(1, 1), Found(3))
             self.assertIn("is owned by", client.status())
             self.assertIn("server_runs", client.status(0))
+
+    def test_ranges_are_read_in_order(self):
+        with Client(TARGET) as client:
+            for key in range(900, 930, 3):
+                client.put(1, key, b"%d" % key)
+            client.delete(1, 906)
+            found = [(it.key, it.value) for it in client.entries(1, 901, 927)]
+            keys = [903, 909, 912, 915, 918, 921, 924, 927]
+            self.assertEqual(found, [(key, b"%d" % key) for key in keys])
+            page = client.scan(1, 901, 927, most=2)
+            self.assertEqual(([it.key for it in page.entries], page.next), ([903, 909], 912))
+            for first, last in [(928, 929), (9, 8)]:
+                self.assertEqual(client.scan(1, first, last), sevunthi.Page((), None))
+            with self.assertRaises(Refused) as said:
+                client.scan(1, 2**63, 2**64 - 1)
+            self.assertIs(said.exception.refusal, Refusal.WRONG)
 
     def test_conditions_hold_or_show_what_is_there(self):
         with Client(TARGET) as client:

@@ -217,7 +217,7 @@ impl Client {
     }
 
     /// Asks the owner, and whoever is the owner then, until it is done, is unknown, or one has waited long enough.
-    fn ask(&mut self, op: Op, table: u32, key: u64, value: &[u8]) -> Result<Found, Error> {
+    pub(crate) fn ask(&mut self, op: Op, table: u32, key: u64, value: &[u8]) -> Result<Found, Error> {
         check(key, if op == Op::PutIf { &[] } else { value })?;
         let began = Instant::now();
         let mut last = Error::Unasked(Missing::Coordinator);
@@ -500,7 +500,7 @@ pub(crate) fn check(key: u64, value: &[u8]) -> Result<(), Error> {
 /// Whether it is of use to ask again. A write of which nobody knows is not: that would be another write.
 fn passes(error: &Error, op: Op) -> bool {
     match error {
-        Error::Unknown => matches!(op, Op::Get | Op::GetFast),
+        Error::Unknown => op.is_read(),
         Error::Refused(refusal) => refusal.passes(),
         Error::Unasked(missing) => !missing.stays(),
         Error::Mismatch(_) | Error::NotLetIn(_) => false,
@@ -515,9 +515,8 @@ fn next(version: u64, written: Found) -> Result<u64, Error> {
 /// What an answer says of a request for this.
 pub(crate) fn judge(op: Op, reply: Reply) -> Result<Found, Error> {
     let Reply { code, version, value, .. } = reply;
-    let is_read = matches!(op, Op::Get | Op::GetFast);
     match code {
-        DONE => Ok(Found { version, value: is_read.then_some(value) }),
+        DONE => Ok(Found { version, value: op.is_read().then_some(value) }),
         NO_VALUE => Ok(Found { version, value: None }),
         UNKNOWN => Err(Error::Unknown),
         MISMATCH => Err(Error::Mismatch(Found { version, value: Some(value) })),

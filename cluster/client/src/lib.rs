@@ -18,6 +18,8 @@
 //! # Ok::<(), Error>(())
 //! ```
 //!
+//! [`Client::entries`] reads a range of keys, in pages ([`scan`]).
+//!
 //! Over these stand [`names`], a table whose keys are byte strings, and [`large`], values of up to 1 MiB.
 //!
 //! What goes over the wire stands in [`protocol`] and [`hello`]; `docs/WIRE.md` has it byte by byte. Where the cluster's
@@ -36,6 +38,7 @@ pub mod large;
 pub mod names;
 pub mod protocol;
 pub mod refusal;
+pub mod scan;
 pub mod secret;
 #[cfg(feature = "security")]
 pub mod security;

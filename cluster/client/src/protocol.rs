@@ -30,9 +30,12 @@ pub enum Op {
     PutIfAbsent,
     /// Of a host: delete it, if the version is the one in eight bytes.
     DeleteIf,
+    /// Of a host: read the values from the key up to another, confirmed. The value is that, and how many at most
+    /// ([`wanted`](crate::scan::wanted)).
+    Scan,
 }
 
-const OPS: [Op; 12] = [
+const OPS: [Op; 13] = [
     Op::Put,
     Op::Delete,
     Op::Get,
@@ -45,6 +48,7 @@ const OPS: [Op; 12] = [
     Op::PutIf,
     Op::PutIfAbsent,
     Op::DeleteIf,
+    Op::Scan,
 ];
 
 impl Op {
@@ -56,7 +60,24 @@ impl Op {
     pub fn is_write(self) -> bool {
         match self {
             Op::Put | Op::Delete | Op::PutIf | Op::PutIfAbsent | Op::DeleteIf => true,
-            Op::Get | Op::GetFast | Op::Create | Op::Split | Op::Owner | Op::Status | Op::Fail => false,
+            Op::Get | Op::GetFast | Op::Create | Op::Split | Op::Owner | Op::Status | Op::Fail | Op::Scan => false,
+        }
+    }
+
+    /// Whether this reads what stands at keys: that may be asked again.
+    pub fn is_read(self) -> bool {
+        match self {
+            Op::Get | Op::GetFast | Op::Scan => true,
+            Op::Put
+            | Op::Delete
+            | Op::PutIf
+            | Op::PutIfAbsent
+            | Op::DeleteIf
+            | Op::Create
+            | Op::Split
+            | Op::Owner
+            | Op::Status
+            | Op::Fail => false,
         }
     }
 

@@ -3,6 +3,7 @@
 use sevunthi_client::hello::{ANSWER, Hello, Role, TAKEN, VERSION};
 use sevunthi_client::names;
 use sevunthi_client::protocol::{ANY_HOST, DONE, MISMATCH, NO_VALUE, Op, Reply, Request};
+use sevunthi_client::scan::{self, Entry, Page};
 use sevunthi_client::secret::Secret;
 use sevunthi_client::security::key_of;
 use std::collections::BTreeMap;
@@ -43,6 +44,8 @@ fn made() -> BTreeMap<String, Vec<u8>> {
     let hello = Hello { role: Role::Operator, from: 4, to: 4 }.code();
     let secret = Secret::of(b"0123456789abcdefghijklmnopqrstuv".to_vec()).expect("it is long enough");
     let (identity, key) = key_of(Role::Client, 4, &secret).expect("there is one");
+    let entry = Entry { key: 5, version: 3, value: b"hello".to_vec() };
+    let page = Page { entries: vec![entry], next: None }.code();
     let all = [
         ("put \"hello\" at table 1, key 5; number 7", request(Op::Put, 7, 1, 5, b"hello")),
         ("get of table 1, key 5; number 8", request(Op::Get, 8, 1, 5, b"")),
@@ -50,11 +53,16 @@ fn made() -> BTreeMap<String, Vec<u8>> {
             "put \"hello\" at table 1, key 5, if its version is 3; number 7",
             request(Op::PutIf, 7, 1, 5, &[&3_u64.to_le_bytes()[..], b"hello"].concat()),
         ),
+        (
+            "scan of table 1, keys 5 to 9, at most 100 values; number 7",
+            request(Op::Scan, 7, 1, 5, &scan::wanted(9, 100)),
+        ),
         ("owner of table 1, key 5; number 9", request(Op::Owner, 9, 1, 5, b"")),
         ("done, version 3; to number 7", reply(DONE, 7, 3, b"")),
         ("done, version 3, \"hello\"; to number 8", reply(DONE, 8, 3, b"hello")),
         ("no value, version 4; to number 8", reply(NO_VALUE, 8, 4, b"")),
         ("done, host 2; to number 9", reply(DONE, 9, 2, b"")),
+        ("\"hello\" at key 5, version 3, and no more; to number 7", reply(DONE, 7, page.0, &page.1)),
         ("mismatch, version 6, \"other\"; to number 7", reply(MISMATCH, 7, 6, b"other")),
         ("F2, to number 7", reply(2, 7, 0, b"")),
         (

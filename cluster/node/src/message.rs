@@ -41,7 +41,7 @@ pub enum Address {
     Outside,
 }
 
-/// The kinds of messages that a transport looks at.
+/// The kinds of messages.
 pub mod kind {
     /// A client's write.
     pub const WRITE: u8 = 0;
@@ -61,6 +61,8 @@ pub mod kind {
     pub const CLOSE: u8 = 7;
     /// What is kept of a replica.
     pub const STORED: u8 = 8;
+    /// A segment's epoch is to be committed.
+    pub const COMMIT: u8 = 9;
     /// A segment's epoch is committed.
     pub const COMMIT_OK: u8 = 10;
     /// A server is there.
@@ -79,8 +81,12 @@ pub mod kind {
     pub const FETCH: u8 = 17;
     /// These entries.
     pub const DATA: u8 = 18;
+    /// A recovery's entries are durable at its master.
+    pub const RECOVERED: u8 = 19;
     /// A range is granted.
     pub const OWN: u8 = 20;
+    /// A tablet was split.
+    pub const SPLIT_OK: u8 = 21;
     /// A segment is dead, and need not be kept.
     pub const FREE: u8 = 22;
 }

@@ -1,11 +1,9 @@
 //! The process of the coordinator: of the only one, or, where several have their journal in etcd, of the one that leads.
 
 use crate::core::{BEAT, Config, Core, Frame, failed, must_not_start, tell};
-use crate::cut_off::{CutOff, Sight};
 use crate::events::{Event, EventReceiver, TURN};
 use crate::guard::Standing;
-use crate::hearing::{Hearing, Verdict};
-use crate::listening::Listening;
+use crate::hearing::Verdict;
 use crate::metrics::Kind;
 use crate::protocol::{ANY_HOST, DONE, NO_HINT, NO_ROOM, NOT_ALLOWED, NOT_LEADING, Op, Reply, Request, WRONG};
 use crate::reasons::{NO_TABLE, NOT_READY, RECOVERING};
@@ -14,6 +12,7 @@ use crate::status::{LAST_LINE, Server, State, Tablet};
 use crate::wire::NOT_UP;
 use sevunthi::message::{framed, kind};
 use sevunthi::{Address, Answer, Due, Envelope, Fault, Id, Work};
+use sevunthi_runtime::suspicion::Suspicion;
 use std::collections::{HashMap, VecDeque};
 use std::fmt::Write as _;
 use std::io;
@@ -22,13 +21,9 @@ use std::time::{Duration, Instant};
 /// The coordinator.
 struct Coordinator {
     core: Core,
-    listening: Listening,
+    suspicion: Suspicion,
     /// Of each host the server that was up when it said that it is ready. What it says again costs no record.
     ready: HashMap<u8, Id>,
-    hearing: Hearing,
-    cut_off: CutOff,
-    /// The hosts whose servers can't enlist for now.
-    left_out: Vec<u8>,
     /// What was due last.
     last: Option<Due>,
     /// What was said of the last request.
@@ -78,14 +73,13 @@ pub fn run(config: Config) -> io::Result<()> {
 impl Coordinator {
     fn new(core: Core) -> Coordinator {
         let hosts = usize::from(core.config.hosts);
-        let needed = core.config.hear.map_or(hosts.saturating_sub(usize::from(core.config.factor)), usize::from);
+        let factor = usize::from(core.config.factor);
+        let needed = core.config.hear.map_or(hosts.saturating_sub(factor), usize::from);
+        let silence = Duration::from_millis(core.config.silence);
         Coordinator {
             core,
-            listening: Listening::default(),
+            suspicion: Suspicion::new(hosts, needed, factor, silence),
             ready: HashMap::new(),
-            hearing: Hearing::new(hosts, needed),
-            cut_off: CutOff::default(),
-            left_out: Vec::new(),
             last: None,
             refused: None,
             is_due: false,
@@ -98,11 +92,11 @@ impl Coordinator {
         let now = self.core.awake.now();
         let silence = Duration::from_millis(self.core.config.silence);
         let fresh = |at: Duration| now < at + silence;
-        self.hearing.has_listened(heard.since);
+        self.suspicion.hearing.has_listened(heard.since);
         heard.words.into_values().filter(|(_, at)| fresh(*at)).for_each(|(word, _)| self.core.take_word(&word));
         let waits = heard.waits.into_values().filter(|(_, _, at)| fresh(*at));
-        waits.for_each(|(id, waits, _)| self.cut_off.hear(id, waits));
-        self.listening = heard.listening;
+        waits.for_each(|(id, waits, _)| self.suspicion.cut_off.hear(id, waits));
+        self.suspicion.listening = heard.listening;
         self.is_due = heard.since.is_some();
     }
 }
@@ -131,7 +125,8 @@ impl Coordinator {
                 self.show();
             }
             self.end_transaction();
-            let is_due = self.hearing.acts() && Duration::from_millis(self.core.config.tick) <= tick.elapsed();
+            let is_due =
+                self.suspicion.hearing.acts() && Duration::from_millis(self.core.config.tick) <= tick.elapsed();
             if is_due && self.core.may_tick() {
                 tick = Instant::now();
                 self.step(Work::Tick);
@@ -184,7 +179,7 @@ impl Coordinator {
     fn acts(&mut self) -> bool {
         let guard = &self.core.guard;
         let (good, foreign) = (guard.count_remembering(), guard.count(Standing::Foreign));
-        let verdict = self.hearing.hear(good, foreign, self.core.awake.now());
+        let verdict = self.suspicion.hearing.hear(good, foreign, self.core.awake.now());
         match verdict {
             Verdict::Begins => tell(format_args!("has heard {good} hosts, and goes on")),
             Verdict::WaitsLong => tell(self.waits_for()),
@@ -194,7 +189,7 @@ impl Coordinator {
             )),
             Verdict::Waits | Verdict::Acts => {}
         }
-        self.hearing.acts()
+        self.suspicion.hearing.acts()
     }
 
     /// Which hosts are waited for, in words. One whose folder was emptied can't say what it was told.
@@ -204,15 +199,14 @@ impl Coordinator {
         format!(
             "waits until {} of {} hosts were heard, and has not heard {}. Start them; or, where they are gone for \
              good, give --hear the number of those that are left",
-            self.hearing.needed(),
+            self.suspicion.hearing.needed(),
             self.core.config.hosts,
             unheard.join(", ")
         )
     }
 
     fn step(&mut self, work: Work) -> bool {
-        self.core.counts.works += 1;
-        match self.core.node.step(work) {
+        match self.core.kept.step(work) {
             Ok(()) => true,
             Err(fault) => {
                 if fault != Fault::Refused {
@@ -225,7 +219,7 @@ impl Coordinator {
 
     /// Whether too few hosts have room, so that no writes are to be taken.
     fn look_for_scarceness(&mut self) {
-        let servers = self.core.node.servers().unwrap_or_default();
+        let servers = self.core.kept.node.servers().unwrap_or_default();
         let up = servers.iter().filter(|(_, is_up)| *is_up).map(|(id, _)| id.index);
         let is_scarce = self.core.room.is_scarce(up, usize::from(self.core.config.factor) + 1);
         if is_scarce != self.core.is_scarce {
@@ -240,46 +234,10 @@ impl Coordinator {
 
     /// What is due, for who was heard and who was not.
     fn do_dues(&mut self) {
-        let sight = self.sight();
-        if sight.heard.is_empty() {
-            self.hearing.hears_nobody(self.core.awake.now());
-        }
-        let mut silent: Vec<Id> = sight.up.iter().filter(|id| self.is_silent(id)).copied().collect();
-        silent.extend(self.cut_off.suspects(&sight, &silent));
-        let heard: Vec<Id> = sight.heard.iter().map(|(id, _)| *id).collect();
-        let dues = self.core.node.dues(&heard, &silent, &[]).unwrap_or_default();
-        let sight = if dues.is_empty() {
-            sight
-        } else {
-            dues.into_iter().for_each(|due| self.do_due(due));
-            self.sight()
-        };
-        self.left_out = self.cut_off.left_out(&sight);
-    }
-
-    /// A server is silent when nothing has come from it for the time that one waits, or for a quarter of that where its
-    /// connection has ended too: a host that lives connects again with its next heartbeat. Where nobody at all is
-    /// heard, nobody is silent.
-    fn is_silent(&self, id: &Id) -> bool {
-        let silence = Duration::from_millis(self.core.config.silence);
-        let most = if self.listening.is_gone(id) { silence / 4 } else { silence };
-        most <= self.hearing.silence(self.listening.last(id), self.core.awake.now())
-    }
-
-    /// What is seen of the servers now.
-    fn sight(&mut self) -> Sight {
-        let (silence, now) = (Duration::from_millis(self.core.config.silence), self.core.awake.now());
-        let servers = self.core.node.servers().unwrap_or_default();
-        let tablets = self.core.node.tablets().unwrap_or_default();
-        Sight {
-            up: servers.into_iter().filter(|(_, is_up)| *is_up).map(|(id, _)| id).collect(),
-            heard: self.listening.all().map(|(id, at)| (id, now - at)).filter(|(_, ago)| *ago < silence).collect(),
-            owners: tablets.iter().map(|tablet| tablet.owner).collect(),
-            is_recovering: tablets.iter().any(|tablet| tablet.crashed),
-            factor: usize::from(self.core.config.factor),
-            silence,
-            now,
-        }
+        let now = self.core.awake.now();
+        let dues = self.suspicion.dues(&mut self.core.kept.node, now);
+        dues.into_iter().for_each(|due| self.do_due(due));
+        self.suspicion.look(&mut self.core.kept.node, now);
     }
 
     fn do_due(&mut self, due: Due) {
@@ -312,7 +270,7 @@ impl Coordinator {
             | Event::Roll(connection, batch) => self.take_batch(connection, &batch),
             Event::Synced | Event::RollSynced => self.core.end_sync(),
             Event::Hurry => {}
-            Event::PeerDown(connection) => self.listening.end(connection),
+            Event::PeerDown(connection) => self.suspicion.listening.end(connection),
             Event::Client(client, bytes) => {
                 for bytes in framed(&bytes) {
                     match Request::read(bytes) {
@@ -329,15 +287,15 @@ impl Coordinator {
     /// The frames of a batch that came on the peer's connection of this number.
     fn take_batch(&mut self, connection: u64, batch: &[u8]) {
         let (mut heard, mut waiting, mut newcomers, mut is_due) = (Vec::new(), Vec::new(), Vec::new(), false);
-        let (left_out, ready, acts) = (&self.left_out, &mut self.ready, self.hearing.acts());
+        let (suspicion, ready) = (&self.suspicion, &mut self.ready);
         self.core.each_frame(batch, |core, frame| match frame {
             Frame::Message(message) => {
                 let Some(Envelope { from, kind, .. }) = Envelope::read(message) else { return };
                 if let Address::Server(id) = from {
                     heard.extend(core.guard.hears(from).then_some(id));
-                    let is_left_out = kind == kind::ENLIST && left_out.contains(&id.index);
+                    let is_left_out = kind == kind::ENLIST && suspicion.is_left_out(id.index);
                     let is_up = kind == kind::READY && is_up(core, id);
-                    if !acts || is_left_out || is_up && ready.get(&id.index) == Some(&id) {
+                    if !suspicion.hearing.acts() || is_left_out || is_up && ready.get(&id.index) == Some(&id) {
                         return;
                     }
                     is_due |= matches!(kind, kind::REPLICAS | kind::READY);
@@ -358,15 +316,15 @@ impl Coordinator {
         if self.core.leads() {
             newcomers.into_iter().for_each(|id| self.let_in(id));
         }
-        waiting.into_iter().for_each(|(id, waits)| self.cut_off.hear(id, waits));
+        waiting.into_iter().for_each(|(id, waits)| self.suspicion.cut_off.hear(id, waits));
         self.is_due |= is_due;
         let now = self.core.awake.now();
-        heard.into_iter().for_each(|id| self.listening.hear(connection, id, now));
+        heard.into_iter().for_each(|id| self.suspicion.listening.hear(connection, id, now));
     }
 
     /// A host with a new folder begins anew until its server is a new one too: an id is never used again.
     fn let_in(&mut self, id: Id) {
-        let servers = self.core.node.servers().unwrap_or_default();
+        let servers = self.core.kept.node.servers().unwrap_or_default();
         if servers.iter().any(|(other, _)| other.index == id.index && id.generation <= other.generation) {
             return self.say_not_up(id);
         }
@@ -389,14 +347,14 @@ impl Coordinator {
         match request.op {
             Op::Create | Op::Split if !self.core.may_operate(client) => reply.code = NOT_ALLOWED,
             Op::Create | Op::Split if !self.core.leads() => reply.code = NOT_LEADING,
-            Op::Create | Op::Split if !self.hearing.acts() => reply.code = NOT_READY,
+            Op::Create | Op::Split if !self.suspicion.hearing.acts() => reply.code = NOT_READY,
             Op::Create | Op::Split if self.core.is_scarce || self.core.room.lacks() => reply.code = NO_ROOM,
             // what it knows is a hint then: a host refuses what it does not own
             Op::Owner if !self.core.leads() && key >> 63 == 0 => {
                 reply.code = NOT_LEADING;
                 reply.version = self.owner(request.table, 2 * key).map_or(NO_HINT, |id| u64::from(id.index));
             }
-            Op::Owner if !self.hearing.acts() => reply.code = RECOVERING,
+            Op::Owner if !self.suspicion.hearing.acts() => reply.code = RECOVERING,
             Op::Create => return self.order(client, Order::Create(request.table, key), number),
             Op::Split if key >> 63 == 0 => {
                 return self.order(client, Order::Split(request.table, key), number);
@@ -430,8 +388,8 @@ impl Coordinator {
             Order::Split(table, key) => return Ok(Work::Split { table, at: 2 * key }),
             Order::Create(table, index) => (table, index),
         };
-        let servers = self.core.node.servers().unwrap_or_default();
-        let tablets = self.core.node.tablets().unwrap_or_default();
+        let servers = self.core.kept.node.servers().unwrap_or_default();
+        let tablets = self.core.kept.node.tablets().unwrap_or_default();
         let mut up = servers.iter().filter(|(_, is_up)| *is_up).map(|(id, _)| *id);
         let owns = |id: &Id| tablets.iter().filter(|tablet| tablet.owner == *id).count();
         let owner = match index {
@@ -455,7 +413,7 @@ impl Coordinator {
 
     /// Who owns a key, or the code of a refusal. One that has crashed is not named: clients would wait for it.
     fn owner(&mut self, table: u32, key: u64) -> Result<Id, u8> {
-        let tablets = self.core.node.tablets().map_err(|_| RECOVERING)?;
+        let tablets = self.core.kept.node.tablets().map_err(|_| RECOVERING)?;
         let holds = |tablet: &&sevunthi::Tablet| tablet.table == table && tablet.lo <= key && key <= tablet.hi;
         match tablets.iter().find(holds) {
             Some(tablet) if tablet.crashed => Err(RECOVERING),
@@ -495,29 +453,29 @@ impl Coordinator {
     /// The state, as text.
     fn text(&mut self) -> String {
         let mut text = self.core.lead_text();
-        if !self.hearing.acts() && self.core.guard.count_remembering() < self.hearing.needed() {
+        if !self.suspicion.hearing.acts() && self.core.guard.count_remembering() < self.suspicion.hearing.needed() {
             let _ = writeln!(text, "{}", self.waits_for());
         }
         if self.core.is_scarce {
             let _ = writeln!(text, "no writes are taken: too few hosts have room on their disks");
         }
         let now = self.core.awake.now();
-        for (id, is_up) in self.core.node.servers().unwrap_or_default() {
-            let heard = self.listening.last(&id).map(|at| (now - at).as_millis());
+        for (id, is_up) in self.core.kept.node.servers().unwrap_or_default() {
+            let heard = self.suspicion.listening.last(&id).map(|at| (now - at).as_millis());
             let state = match is_up {
                 true => State::Up,
-                false if self.left_out.contains(&id.index) => State::LeftOut,
+                false if self.suspicion.is_left_out(id.index) => State::LeftOut,
                 false => State::Crashed,
             };
             if is_up || heard.is_some() {
                 let _ = writeln!(text, "{}", Server { id, state, heard });
             }
         }
-        for tablet in self.core.node.tablets().unwrap_or_default() {
+        for tablet in self.core.kept.node.tablets().unwrap_or_default() {
             let sevunthi::Tablet { table, lo, hi, crashed: is_recovering, owner, term } = tablet;
             let _ = writeln!(text, "{}", Tablet { table, keys: (lo / 2, hi / 2), is_recovering, owner, term });
         }
-        let (info, syncs) = (self.core.node.info(), self.core.journal.syncs());
+        let (info, syncs) = (self.core.kept.node.info(), self.core.kept.log.syncs());
         let _ = writeln!(text, "{LAST_LINE}{} bytes, {} safe, {syncs} syncs", info.written, info.safe);
         text
     }
@@ -525,15 +483,16 @@ impl Coordinator {
     /// What it has to tell who watches it.
     fn metrics(&mut self) -> String {
         let mut metrics = self.core.metrics();
-        let (sight, servers) = (self.sight(), self.core.node.servers().unwrap_or_default());
-        let tablets = self.core.node.tablets().unwrap_or_default();
+        let sight = self.suspicion.sight(&mut self.core.kept.node, self.core.awake.now());
+        let servers = self.core.kept.node.servers().unwrap_or_default();
+        let tablets = self.core.kept.node.tablets().unwrap_or_default();
         let crashed = tablets.iter().filter(|tablet| tablet.crashed).count();
         let wanted = usize::from(self.core.config.factor) + 1;
         for (name, help, value) in [
             ("hosts", "Hosts that the cluster has.", usize::from(self.core.config.hosts)),
             ("hosts_up", "Hosts whose server is up.", sight.up.len()),
             ("hosts_heard", "Hosts that were heard within the time of silence.", sight.heard.len()),
-            ("hosts_left_out", "Hosts whose servers are left out for now.", self.left_out.len()),
+            ("hosts_left_out", "Hosts whose servers are left out for now.", self.suspicion.count_left_out()),
             ("hosts_needed", "Hosts that a segment and its replicas need.", wanted),
             ("tablets", "Tablets that stand, of 1,024.", tablets.len()),
             ("tablets_recovering", "Tablets whose owner has crashed, and nobody has them since.", crashed),
@@ -546,7 +505,7 @@ impl Coordinator {
             hosts.map(|host| (format!("peer=\"{host}\""), u8::from(newest.get(&host).copied().unwrap_or(false))));
         metrics.add_rows(Kind::Gauge, "sevunthi_host_up", "1 where the host's newest server is up.", rows);
         let now = self.core.awake.now();
-        let heard = self.listening.all();
+        let heard = self.suspicion.listening.all();
         let rows = heard.map(|(id, at)| (format!("peer=\"{}\"", id.index), (now - at).as_secs_f64()));
         let help = "Seconds since the host was heard last.";
         metrics.add_rows(Kind::Gauge, "sevunthi_host_silence_seconds", help, rows);
@@ -562,5 +521,5 @@ impl Coordinator {
 
 /// Whether the coordinator's list shows this server up.
 fn is_up(core: &mut Core, id: Id) -> bool {
-    core.node.servers().is_ok_and(|servers| servers.contains(&(id, true)))
+    core.kept.node.servers().is_ok_and(|servers| servers.contains(&(id, true)))
 }

@@ -11,7 +11,6 @@ use crate::events::{self, Event, EventReceiver, EventSender};
 use crate::faults::{Failing, Mangle, Wrong};
 use crate::guard::{COORDINATOR, Guard, Position, Shown, Standing, WORD, Word};
 use crate::hello::{Hello, Role};
-use crate::journal::Synced;
 pub use crate::log::{failed, must_not_start, tell};
 use crate::metrics::{self, Kind, Metrics};
 use crate::net::{PeerWriter, Writer};
@@ -28,7 +27,8 @@ use crate::waits::Waits;
 use crate::wire::{HEARTBEAT, NOT_UP, frames};
 pub use opening::{Opened, coordinator_of};
 use sevunthi::message::{Stored, framed, kind, u16_at, u64_at};
-use sevunthi::{Address, Answer, Envelope, Fault, Id, Node, Ready};
+use sevunthi::{Address, Answer, Envelope, Fault, Id};
+use sevunthi_runtime::kept::{Kept, Log};
 use std::collections::{BTreeMap, VecDeque};
 use std::io;
 use std::ops::Range;
@@ -143,8 +143,9 @@ const ANSWERS: usize = 2048;
 /// A node with its journal, its peers and its clients.
 pub struct Core {
     pub config: Config,
-    pub node: Node,
-    pub journal: Store,
+    pub kept: Kept<Store>,
+    /// What leaves just now.
+    leaving: Vec<u8>,
     pub guard: Guard,
     pub room: Room,
     pub counts: Counts,
@@ -153,7 +154,6 @@ pub struct Core {
     clock: u64,
     began: Instant,
     base: u64,
-    ready: Ready,
     peers: Vec<PeerWriter>,
     outs: Vec<Vec<u8>>,
     /// How far this node had come, as each peer was told last.
@@ -170,8 +170,6 @@ pub struct Core {
     pub is_scarce: bool,
     pub pace: Pace,
     pub segments: Segments,
-    /// How much was taken when the last sync began.
-    synced_at: u64,
     /// When an Append of another came last, in the time of `awake`.
     appended_at: Option<Duration>,
 }
@@ -179,8 +177,6 @@ pub struct Core {
 /// What was counted.
 #[derive(Clone, Copy, Debug, Default)]
 pub struct Counts {
-    /// Works and messages that the node took.
-    pub works: u64,
     /// Messages that left.
     pub messages: u64,
     /// Frames that came.
@@ -191,8 +187,6 @@ pub struct Counts {
     pub answered: u64,
     /// Answers for clients that had gone.
     pub lost_answers: u64,
-    /// Nanoseconds in syncs.
-    pub syncing: u64,
 }
 
 /// A host to which an Append came within this time is one that keeps entries of others.
@@ -208,7 +202,7 @@ impl Core {
         let (events, from) = events::channel();
         let done = events.clone();
         let ended = |is_of_roll| if is_of_roll { Event::RollSynced } else { Event::Synced };
-        if let Store::File(journal) = &mut opened.journal {
+        if let Store::File(journal) = &mut opened.kept.log {
             journal.sync_beside(move |is_of_roll| _ = done.send(ended(is_of_roll)));
         }
         let door = config.open_door(events)?;
@@ -217,12 +211,12 @@ impl Core {
 
     /// A node that was opened, whose port is open.
     pub fn new(config: Config, opened: Opened, door: Arc<Door>) -> io::Result<Core> {
-        let Opened { node, journal, ready, guard, clock } = opened;
+        let Opened { kept, guard, clock } = opened;
         let places = 0..config.coordinator_places().end;
         let record = config.record.then(|| Record::open(&config.folder)).transpose()?;
         let mut core = Core {
-            node,
-            journal,
+            kept,
+            leaving: Vec::new(),
             guard,
             room: Room::new(&config.folder, config.reserve),
             counts: Counts::default(),
@@ -230,7 +224,6 @@ impl Core {
             clock: record.as_ref().map_or(0, Record::noted).max(clock),
             began: Instant::now(),
             base: opening::since_boot(),
-            ready,
             peers: places.clone().map(|place| PeerWriter::new(config.dialer(place))).collect(),
             said: places.clone().map(|_| Position::default()).collect(),
             outs: places.map(|_| Vec::new()).collect(),
@@ -240,12 +233,11 @@ impl Core {
             record,
             door,
             mangle: Mangle::default(),
-            awake: Awake::new(),
+            awake: Awake::default(),
             waits: Waits::default(),
             is_scarce: false,
             pace: Pace::default(),
             segments: Segments::default(),
-            synced_at: 0,
             appended_at: None,
             config,
         };
@@ -289,7 +281,7 @@ impl Core {
         let shown = shown.unwrap_or_else(|error| failed("what was told can't be kept", error));
         let who = if word.from == COORDINATOR { "the coordinator".to_string() } else { format!("host {}", word.from) };
         match shown {
-            Shown::IsOlder => opening::is_older(&who, &mut self.journal),
+            Shown::IsOlder => opening::is_older(&who, &mut self.kept.log),
             Shown::WasReplaced => opening::was_replaced(),
             Shown::Nothing => {}
         }
@@ -313,7 +305,7 @@ impl Core {
         }
         let to = if self.config.is_coordinator(place) { COORDINATOR } else { place as u8 };
         let lacks_room = if self.config.index.is_some() { self.room.lacks() } else { self.is_scarce };
-        let position = self.journal.position();
+        let position = self.kept.log.position();
         let word = self.guard.word(to, position, lacks_room).code();
         if let (Some(out), Some(said)) = (self.outs.get_mut(place), self.said.get_mut(place)) {
             self.mangle.put(self.clock, &word, out);
@@ -329,7 +321,7 @@ impl Core {
     /// A batch that has what became safe behind its first word ends with another: nobody is sent more than it is told.
     fn say_last_words(&mut self) {
         for place in 0..self.outs.len() {
-            if !self.outs[place].is_empty() && self.is_between(place) && self.said[place] < self.journal.position() {
+            if !self.outs[place].is_empty() && self.is_between(place) && self.said[place] < self.kept.log.position() {
                 self.say_word(place);
             }
         }
@@ -365,8 +357,7 @@ impl Core {
             (kind::APPEND, _) => self.appended_at = Some(self.awake.now()),
             _ => {}
         }
-        self.counts.works += 1;
-        match self.node.deliver(message) {
+        match self.kept.deliver(message) {
             Ok(()) => Some(envelope),
             Err(Fault::UsedUp) => failed("the node's numbers are used up", Fault::UsedUp),
             Err(_) => None,
@@ -375,16 +366,15 @@ impl Core {
 
     /// What may leave now is put together for each peer; what is for clients is handed to `answer`.
     pub fn route(&mut self, mut answer: impl FnMut(Answer)) {
-        let mut ready = std::mem::take(&mut self.ready);
-        if let Err(fault) = self.node.ready(&mut ready) {
+        let mut messages = std::mem::take(&mut self.leaving);
+        if let Err(fault) = self.kept.leave(&mut messages) {
             tell(fault);
         }
         self.tick_clock();
-        for message in without_superseded(ready.messages()) {
+        for message in without_superseded(framed(&messages)) {
             self.send(message, &mut answer);
         }
-        ready.messages.clear();
-        self.ready = ready;
+        self.leaving = messages;
     }
 
     fn send(&mut self, message: &[u8], answer: &mut impl FnMut(Answer)) {
@@ -477,7 +467,7 @@ impl Core {
     /// What either kind of process has to tell.
     pub fn metrics(&mut self) -> Metrics {
         let mut metrics = Metrics::of(&self.config.label(self.config.place()));
-        let (info, counts) = (self.node.info(), self.counts);
+        let (info, counts) = (self.kept.node.info(), self.counts);
         for (name, help, value) in [
             ("journal_bytes", "Bytes of the journal.", info.written as u64),
             ("journal_safe_bytes", "Bytes of the journal that are known to be safe.", info.safe as u64),
@@ -485,9 +475,9 @@ impl Core {
             metrics.add(Kind::Gauge, &format!("sevunthi_{name}"), help, value);
         }
         for (name, help, value) in [
-            ("journal_syncs_total", "Syncs of the journal.", self.journal.syncs()),
+            ("journal_syncs_total", "Syncs of the journal.", self.kept.log.syncs()),
             ("saves_total", "Saves that have replaced a long journal.", counts.saves),
-            ("works_total", "Works and messages that the node has taken.", counts.works),
+            ("works_total", "Works and messages that the node has taken.", self.kept.works),
             ("messages_sent_total", "Messages that have left.", counts.messages),
             ("frames_taken_total", "Frames that have come of peers.", counts.frames),
             ("answers_lost_total", "Answers for clients that had gone.", counts.lost_answers),
@@ -495,7 +485,7 @@ impl Core {
             metrics.add(Kind::Counter, &format!("sevunthi_{name}"), help, value);
         }
         let help = "Seconds in syncs of the journal.";
-        metrics.add(Kind::Counter, "sevunthi_journal_sync_seconds_total", help, counts.syncing as f64 / 1e9);
+        metrics.add(Kind::Counter, "sevunthi_journal_sync_seconds_total", help, self.kept.syncing as f64 / 1e9);
         let codes = self.codes.iter().map(|(code, count)| (format!("code=\"{}\"", name(*code)), *count));
         let help = "Answers to clients, by what became of the request: done, or why it was refused.";
         metrics.add_rows(Kind::Counter, "sevunthi_answers_total", help, codes);
@@ -530,16 +520,14 @@ impl Core {
 
     /// Whether a sync takes so long that nobody should wait for this node: the coordinator hears nothing from it then.
     fn is_stuck(&self) -> bool {
-        self.journal.is_stuck(Duration::from_millis(self.config.silence) / 8)
+        self.kept.log.is_stuck(Duration::from_millis(self.config.silence) / 8)
     }
 
-    /// Takes what the node has written down. What is recorded has to be noted before that is written.
-    fn take_journal(&mut self) -> Vec<u8> {
-        if let Some(record) = self.record.as_mut().filter(|_| !self.ready.journal.is_empty()) {
+    /// What is recorded has to be noted before what came by then is written.
+    fn note_clock(&mut self) {
+        if let Some(record) = self.record.as_mut().filter(|_| self.kept.has_written()) {
             record.note(self.clock).unwrap_or_else(|error| failed("the clock can't be noted", error));
         }
-        let next = Vec::with_capacity(self.ready.journal.len());
-        std::mem::replace(&mut self.ready.journal, next)
     }
 
     /// Whether an Append of another has come lately.
@@ -547,27 +535,16 @@ impl Core {
         self.appended_at.is_some_and(|at| self.awake.now() < at + LATELY)
     }
 
-    /// How much was taken since the last sync began.
-    pub fn since_sync(&self) -> u64 {
-        self.counts.works - self.synced_at
-    }
-
     /// Where something waits until what the node has written down is safe, has it written and synced beside, while more
     /// is taken, but where so many syncs are under way. Says whether one is: what comes meanwhile has to wait, and a
     /// long journal is left alone.
     fn begin_sync(&mut self, most: usize, is_of_roll: bool) -> bool {
-        if self.journal.under_way() < most && self.ready.waits && !self.is_long() {
-            self.synced_at = self.counts.works;
-            let bytes = self.take_journal();
-            let begun = self.journal.begin_sync(bytes, is_of_roll);
-            begun.unwrap_or_else(|error| failed("the journal can't be written", error));
+        if self.is_long() {
+            return 0 < self.kept.log.under_way();
         }
-        0 < self.journal.under_way()
-    }
-
-    /// Whether something that was sent waits until what the node has written down is safe.
-    pub fn is_waiting(&self) -> bool {
-        self.ready.waits
+        self.note_clock();
+        let begun = self.kept.begin_sync(most, is_of_roll);
+        begun.unwrap_or_else(|error| failed("the journal can't be written", error))
     }
 
     /// Begins a sync beside, where none is under way.
@@ -577,30 +554,21 @@ impl Core {
 
     /// Begins one for which a roll waits, behind the one that is under way. Says whether it did so.
     pub fn begin_sync_of_roll(&mut self) -> bool {
-        let before = self.journal.under_way();
+        let before = self.kept.log.under_way();
         self.begin_sync(2, true);
-        before < self.journal.under_way()
+        before < self.kept.log.under_way()
     }
 
     /// Syncs that were begun may have ended.
     pub fn end_sync(&mut self) {
-        while let Some(synced) =
-            self.journal.poll_sync().unwrap_or_else(|error| failed("the journal can't be synced", error))
-        {
-            self.note_synced(synced);
-        }
-    }
-
-    fn note_synced(&mut self, synced: Synced) -> bool {
-        self.counts.syncing += synced.took.as_nanos() as u64;
-        self.node.synced(synced.safe).is_ok()
+        self.kept.end_sync().unwrap_or_else(|error| failed("the journal can't be synced", error));
     }
 
     /// Writes what the node has written down; and where something waits for that, makes it safe: beside where much was
     /// taken since the last sync, or writes of its own are under way, else at once. Says whether it did so at once.
     pub fn make_safe(&mut self, has_own_writes: bool) -> bool {
-        let is_much = self.config.beside <= self.since_sync();
-        if (0 < self.journal.under_way() || is_much || has_own_writes) && self.begin_sync(1, false) {
+        let is_much = self.config.beside <= self.kept.since_sync();
+        if (0 < self.kept.log.under_way() || is_much || has_own_writes) && self.begin_sync(1, false) {
             return false;
         }
         self.make_safe_now()
@@ -608,21 +576,9 @@ impl Core {
 
     /// The same, but always at once.
     pub fn make_safe_now(&mut self) -> bool {
-        while let Some(synced) =
-            self.journal.wait_sync().unwrap_or_else(|error| failed("the journal can't be synced", error))
-        {
-            self.note_synced(synced);
-        }
-        if !self.ready.journal.is_empty() {
-            let bytes = self.take_journal();
-            self.journal.add(&bytes).unwrap_or_else(|error| failed("the journal can't be written", error));
-        }
-        if !self.ready.waits {
-            return false;
-        }
-        self.synced_at = self.counts.works;
-        let synced = self.journal.sync().unwrap_or_else(|error| failed("the journal can't be synced", error));
-        self.note_synced(synced)
+        self.note_clock();
+        let safe = self.kept.make_safe_now();
+        safe.unwrap_or_else(|error| failed("the journal can't be written and synced", error))
     }
 
     /// What was queued leaves.
@@ -646,7 +602,7 @@ impl Core {
     /// Whether the journal is to be made short. A save takes room of its own, and so does its file: where the disk
     /// lacks that, none is made, and nothing waits for it.
     pub fn is_long(&self) -> bool {
-        !self.room.lacks() && self.config.long <= self.journal.grown()
+        !self.room.lacks() && self.config.long <= self.kept.log.grown()
     }
 
     /// Looks how much room the disk has.
@@ -661,41 +617,29 @@ impl Core {
         if self.room.lacks() || self.remote().is_some() {
             return;
         }
-        if self.config.long / 16 <= self.journal.grown() {
-            self.journal.make_spare(self.config.long);
-        }
-        if !self.is_long() || 0 < self.journal.under_way() || !self.ready.journal.is_empty() {
-            return;
-        }
-        match self.node.save() {
-            Ok(save) => {
-                self.journal.replace(&save).unwrap_or_else(|error| failed("a save can't be written", error));
-                self.node.saved().unwrap_or_else(|fault| failed("a save was not taken note of", fault));
-                self.counts.saves += 1;
-            }
-            Err(fault) => tell(format_args!("a save was refused: {fault}")),
-        }
+        let shortened = self.kept.shorten(self.config.long);
+        self.counts.saves += u64::from(shortened.unwrap_or_else(|error| failed("a save can't be written", error)));
     }
 
     /// Has something go wrong, as a test asks for it.
     pub fn fail(&mut self, what: u32, how: u64) {
         match Wrong::read(what, how) {
-            Some(Wrong::Sync) => self.journal.failing().sync = true,
+            Some(Wrong::Sync) => self.kept.log.failing().sync = true,
             Some(Wrong::EndInSave(step)) => {
-                self.journal.failing().end_in_save = Some(step);
+                self.kept.log.failing().end_in_save = Some(step);
                 self.config.long = 0;
             }
             Some(Wrong::FullInSave) => {
-                self.journal.failing().full_in_save = true;
+                self.kept.log.failing().full_in_save = true;
                 self.config.long = 0;
             }
             Some(Wrong::Deaf(mask)) => self.mangle.deaf = mask,
             Some(Wrong::Mangle(often)) => self.mangle.often = often,
             Some(Wrong::Jump(nanoseconds)) => self.base = self.base.saturating_add_signed(nanoseconds),
             Some(Wrong::DiskStands(milliseconds)) => {
-                self.journal.failing().stands_until = Instant::now().checked_add(Duration::from_millis(milliseconds));
+                self.kept.log.failing().stands_until = Instant::now().checked_add(Duration::from_millis(milliseconds));
             }
-            Some(Wrong::Nothing) => *self.journal.failing() = Failing::in_folder(&self.config.folder),
+            Some(Wrong::Nothing) => *self.kept.log.failing() = Failing::in_folder(&self.config.folder),
             None => {}
         }
     }

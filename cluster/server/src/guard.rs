@@ -12,6 +12,7 @@ use crate::disk;
 use crate::store::told::Told;
 use sevunthi::message::u64_at;
 use sevunthi::{Address, mac};
+pub use sevunthi_runtime::journal::{Position, TOLD};
 use std::collections::{BTreeMap, BTreeSet};
 use std::fs::{self, File, OpenOptions};
 use std::io::{self, ErrorKind, Read};
@@ -21,9 +22,6 @@ use std::sync::Arc;
 use std::sync::atomic::{AtomicBool, Ordering};
 use std::thread;
 use std::time::Duration;
-
-/// The file of a folder that has its number, and what was told.
-pub const TOLD: &str = "told";
 
 /// The first byte of a frame that has a [`Word`].
 pub const WORD: u8 = 254;
@@ -43,16 +41,6 @@ const POSITION: usize = 16;
 
 /// So soon what was told is safe, where the machine loses its power.
 const SOON: Duration = Duration::from_secs(1);
-
-/// How far a journal has come: its number, which rises with each save, and how many of its bytes are safe. What a node
-/// has sent depends on nothing behind that.
-#[derive(Clone, Copy, Debug, Default, PartialEq, Eq, PartialOrd, Ord)]
-pub struct Position {
-    /// The journal's number.
-    pub number: u64,
-    /// Its bytes.
-    pub length: u64,
-}
 
 /// A folder, and how far its journal has come. Where nothing is known all is 0.
 #[derive(Clone, Copy, Debug, Default, PartialEq, Eq)]
@@ -78,17 +66,6 @@ pub struct Word {
     pub yours: Stamp,
     /// Of a host: its disk has little room. Of the coordinator: too few hosts have room, and no writes are to be taken.
     pub lacks_room: bool,
-}
-
-impl Position {
-    fn put(self, out: &mut Vec<u8>) {
-        out.extend_from_slice(&self.number.to_le_bytes());
-        out.extend_from_slice(&self.length.to_le_bytes());
-    }
-
-    fn read(bytes: &[u8], at: usize) -> Option<Position> {
-        Some(Position { number: u64_at(bytes, at)?, length: u64_at(bytes, at + 8)? })
-    }
 }
 
 impl Stamp {

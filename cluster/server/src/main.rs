@@ -12,62 +12,49 @@ macro_rules! say {
     };
 }
 
-mod ahead;
-mod awake;
 mod bench;
 mod budget;
 mod coordinator;
 mod core;
-mod cut_off;
 mod dialer;
-mod dice;
-mod disk;
 mod door;
 mod etcd;
 mod events;
 mod faults;
 mod guard;
-mod hearing;
 mod histogram;
 mod host;
 mod http;
-mod journal;
-mod line;
-mod listening;
-mod log;
 mod metrics;
 mod moving;
 mod net;
 mod options;
-mod pace;
 mod places;
 mod record;
 mod restarts;
 mod rolling;
 mod room;
 mod secret;
-mod sectors;
-mod segments;
 mod seldom;
 mod standby;
 mod status;
 mod store;
 mod storm;
-mod superseded;
 mod supervisor;
 mod trace;
-mod turns;
 mod up;
-mod version;
-mod waits;
 mod wire;
 
 use hello::NotLetIn;
 use options::{Command, Options};
 use secret::Secret;
 use sevunthi_client::addresses::MOST_COORDINATORS;
+use sevunthi_client::scan::{Entry, LAST_KEY};
 use sevunthi_client::{self as client, addresses, hello, protocol, refusal as reasons};
 use sevunthi_client::{Client, Error, Found, Missing, Refusal, STANDS_BY, Target};
+use sevunthi_runtime::{
+    awake, dice, disk, hearing, journal, line, listening, log, pace, sectors, segments, superseded, version, waits,
+};
 use std::path::Path;
 use std::process::ExitCode;
 use std::time::Duration;
@@ -88,6 +75,8 @@ const USAGE: &str = "usage: sevunthi COMMAND ..
   put TABLE KEY VALUE, get TABLE KEY, delete TABLE KEY
       --patience 10000 (milliseconds for which it is tried). `--` ends the options: put 1 5 -- --value
       put and delete: --if-version N, done only where the newest version is N; put: --if-absent, where there is no value
+  scan TABLE [FIRST [LAST]]   the values of these keys, in order: a line with key, version and value for each
+      --most N (lines), --patience 10000
   status                  the state of all
   bench                   how fast writes are; it overwrites keys 0 to 9,999 of the table
       --clients 64, --seconds 5, --size 100 (bytes of a value, at most 1,024), --table 1, --op put (or get, or put-if),
@@ -179,6 +168,7 @@ fn run(command: &str, words: Vec<String>) -> Result<bool, String> {
         "move" => moving::run(options),
         "up" => up::up(options).map(|()| true),
         "put" | "get" | "delete" => ask(command, options),
+        "scan" => scan(options),
         "create" | "split" => change(command, options),
         "status" => status(&asked(options)?),
         "bench" => bench::run(options, &asked(options)?),
@@ -202,8 +192,8 @@ fn table_of(options: &Options) -> Result<u32, String> {
     number(options, 0, "a table is a number below 2^32")
 }
 
-fn key_of(options: &Options) -> Result<u64, String> {
-    let key: u64 = number(options, 1, "a key is a number below 2^63")?;
+fn key_of(options: &Options, place: usize) -> Result<u64, String> {
+    let key: u64 = number(options, place, "a key is a number below 2^63")?;
     if key >> 63 == 0 { Ok(key) } else { Err(format!("keys are below 2^63, and {key} is not")) }
 }
 
@@ -212,7 +202,7 @@ fn ask(command: &str, options: &Options) -> Result<bool, String> {
     let mut client = Client::new(target.clone());
     client.patience = Duration::from_millis(options.between("--patience", 10_000, 1, 3_600_000)?);
     client.wait = client.wait.min(client.patience);
-    let (table, key) = (table_of(options)?, key_of(options)?);
+    let (table, key) = (table_of(options)?, key_of(options, 1)?);
     let done = match command {
         "get" => {
             return match client.get(table, key) {
@@ -237,6 +227,26 @@ fn ask(command: &str, options: &Options) -> Result<bool, String> {
         }
         Err(error) => tell_error(&target, table, &error),
     }
+}
+
+/// Shows the values of a range of keys.
+fn scan(options: &Options) -> Result<bool, String> {
+    let target = target(options)?;
+    let mut client = Client::new(target.clone());
+    client.patience = Duration::from_millis(options.between("--patience", 10_000, 1, 3_600_000)?);
+    client.wait = client.wait.min(client.patience);
+    let table = table_of(options)?;
+    let first = if options.word(1).is_some() { key_of(options, 1)? } else { 0 };
+    let last = if options.word(2).is_some() { key_of(options, 2)? } else { LAST_KEY };
+    let most: usize = options.between("--most", usize::MAX, 0, usize::MAX)?;
+    for entry in client.entries(table, first..=last).take(most) {
+        match entry {
+            Ok(Entry { key, version, value }) => say!("{key} {version} {}", String::from_utf8_lossy(&value)),
+            Err(Error::Unknown) => return not_done("no answer"),
+            Err(error) => return tell_error(&target, table, &error),
+        }
+    }
+    Ok(true)
 }
 
 /// Puts or deletes, on the condition that is given.
@@ -293,7 +303,7 @@ fn change(command: &str, options: &Options) -> Result<bool, String> {
         Some(_) => Some(number::<u8>(options, 1, "a host is a number below 64")?),
         None => None,
     };
-    let key = if command == "split" { key_of(options)? } else { 0 };
+    let key = if command == "split" { key_of(options, 1)? } else { 0 };
     if let Some(host) = host.filter(|host| target.hosts <= *host) {
         return Err(format!("there is no host {host}: they are 0 to {}", target.hosts - 1));
     }

@@ -37,7 +37,7 @@ const fn command(
 }
 
 /// All commands.
-const COMMANDS: [Command; 13] = [
+const COMMANDS: [Command; 14] = [
     command("up", &[], &[ON_ONE_MACHINE, &["folder"], NODE], UP_FLAGS),
     command(
         "serve",
@@ -52,6 +52,7 @@ const COMMANDS: [Command; 13] = [
     command("put", &["TABLE", "KEY", "VALUE"], &[WHERE, &["patience", "if-version"]], &["if-absent"]),
     command("get", &["TABLE", "KEY"], &[WHERE, &["patience"]], &[]),
     command("delete", &["TABLE", "KEY"], &[WHERE, &["patience", "if-version"]], &[]),
+    command("scan", &["TABLE", "[FIRST]", "[LAST]"], &[WHERE, &["patience", "most"]], &[]),
     command("status", &[], &[WHERE], &[]),
     command("bench", &[], &[WHERE, BENCH], &[]),
     command("trace", &["FILE.."], &[], &[]),

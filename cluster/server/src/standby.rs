@@ -23,6 +23,7 @@ use crate::store::told::Told;
 use crate::wire::{HEARTBEAT, frames};
 use sevunthi::message::framed;
 use sevunthi::{Id, Node, Ready};
+use sevunthi_runtime::kept::Kept;
 use std::collections::BTreeMap;
 use std::fs::File;
 use std::io::{self, ErrorKind};
@@ -80,7 +81,7 @@ pub fn run(config: Config) -> io::Result<(Core, EventReceiver, Heard)> {
     let gateway = Gateway::new(&config.store, &config.store_name);
     let mut standby = Standby {
         door,
-        awake: Awake::new(),
+        awake: Awake::default(),
         heard: Heard::default(),
         clients: BTreeMap::new(),
         seeing: Arc::new(Mutex::new(Seeing::Nothing)),
@@ -299,7 +300,8 @@ fn open(config: &Config, led: Led, seen: Seen, events: EventSender) -> io::Resul
     let guard = guard.unwrap_or_else(|| must_not_start("etcd's key `told` is damaged"));
     let parts = Parts { gateway, lead, seen, failing };
     let remote = Remote::new(parts, ledger, head, move || _ = events.send(Event::Synced));
-    Ok(Opened { node, journal: Store::Etcd(Box::new(remote)), ready, guard, clock: head.clock })
+    let kept = Kept::new(node, Store::Etcd(Box::new(remote)), ready);
+    Ok(Opened { kept, guard, clock: head.clock })
 }
 
 /// A new coordinator, whose journal stands in the store, and what that has of hosts.

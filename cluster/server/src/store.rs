@@ -15,6 +15,7 @@ use crate::faults::Failing;
 use crate::guard::Position;
 use crate::journal::{Journal, Synced};
 use remote::Remote;
+use sevunthi_runtime::kept::Log;
 use std::io;
 use std::time::Duration;
 
@@ -36,14 +37,6 @@ impl Store {
         match self {
             Store::File(journal) => Ok(journal),
             Store::Etcd(_) => Err(no_file()),
-        }
-    }
-
-    /// By how many bytes it has grown since it was last shortened.
-    pub fn grown(&self) -> usize {
-        match self {
-            Store::File(journal) => journal.length - journal.saved,
-            Store::Etcd(remote) => remote.length().saturating_sub(remote.saved),
         }
     }
 
@@ -71,42 +64,6 @@ impl Store {
         }
     }
 
-    /// See [`Journal::add`].
-    pub fn add(&mut self, bytes: &[u8]) -> io::Result<()> {
-        self.file()?.add(bytes)
-    }
-
-    /// See [`Journal::sync`].
-    pub fn sync(&mut self) -> io::Result<Synced> {
-        self.file()?.sync()
-    }
-
-    /// See [`Journal::begin_sync`].
-    pub fn begin_sync(&mut self, bytes: Vec<u8>, is_of_roll: bool) -> io::Result<()> {
-        self.file()?.begin_sync(bytes, is_of_roll)
-    }
-
-    /// See [`Journal::poll_sync`].
-    pub fn poll_sync(&mut self) -> io::Result<Option<Synced>> {
-        match self {
-            Store::File(journal) => journal.poll_sync(),
-            Store::Etcd(_) => Ok(None),
-        }
-    }
-
-    /// See [`Journal::wait_sync`].
-    pub fn wait_sync(&mut self) -> io::Result<Option<Synced>> {
-        self.file()?.wait_sync()
-    }
-
-    /// How many syncs, or transactions, are under way.
-    pub fn under_way(&self) -> usize {
-        match self {
-            Store::File(journal) => journal.under_way(),
-            Store::Etcd(remote) => usize::from(remote.is_busy()),
-        }
-    }
-
     /// See [`Journal::is_stuck`].
     pub fn is_stuck(&self, most: Duration) -> bool {
         match self {
@@ -114,16 +71,54 @@ impl Store {
             Store::Etcd(_) => false,
         }
     }
+}
 
-    /// See [`Journal::make_spare`].
-    pub fn make_spare(&mut self, length: usize) {
+/// Of a journal in etcd this says only how it is: what is written there goes by [`Remote::begin`].
+impl Log for Store {
+    fn grown(&self) -> usize {
+        match self {
+            Store::File(journal) => journal.grown(),
+            Store::Etcd(remote) => remote.length().saturating_sub(remote.saved),
+        }
+    }
+
+    fn under_way(&self) -> usize {
+        match self {
+            Store::File(journal) => journal.under_way(),
+            Store::Etcd(remote) => usize::from(remote.is_busy()),
+        }
+    }
+
+    fn add(&mut self, bytes: &[u8]) -> io::Result<()> {
+        self.file()?.add(bytes)
+    }
+
+    fn sync(&mut self) -> io::Result<Synced> {
+        self.file()?.sync()
+    }
+
+    fn begin_sync(&mut self, bytes: Vec<u8>, is_of_roll: bool) -> io::Result<()> {
+        self.file()?.begin_sync(bytes, is_of_roll)
+    }
+
+    fn poll_sync(&mut self) -> io::Result<Option<Synced>> {
+        match self {
+            Store::File(journal) => journal.poll_sync(),
+            Store::Etcd(_) => Ok(None),
+        }
+    }
+
+    fn wait_sync(&mut self) -> io::Result<Option<Synced>> {
+        self.file()?.wait_sync()
+    }
+
+    fn make_spare(&mut self, length: usize) {
         if let Store::File(journal) = self {
             journal.make_spare(length);
         }
     }
 
-    /// See [`Journal::replace`].
-    pub fn replace(&mut self, save: &[u8]) -> io::Result<()> {
+    fn replace(&mut self, save: &[u8]) -> io::Result<()> {
         self.file()?.replace(save)
     }
 }

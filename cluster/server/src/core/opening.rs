@@ -3,21 +3,19 @@
 use super::Config;
 use crate::faults::Failing;
 use crate::guard::{COORDINATOR, Guard, Position};
-use crate::journal::{self, Journal};
+use crate::journal::Journal;
 use crate::log::{failed, must_not_start};
 use crate::moving::MOVING;
-use crate::sectors::Content;
 use crate::store::Store;
 use crate::store::head::{Head, SEEN};
 use sevunthi::{Fault, Node, Ready, Shape};
+use sevunthi_runtime::kept::{Kept, NotOpened};
 use std::fs::File;
 use std::io::{self, ErrorKind, Read};
 
-/// A node that was opened: all that its journal has is safe, but for what `ready` has to add.
+/// A node that was opened: all that its journal has is safe, but for what is still to be added.
 pub struct Opened {
-    pub node: Node,
-    pub journal: Store,
-    pub ready: Ready,
+    pub kept: Kept<Store>,
     pub guard: Guard,
     /// Whatever the node knows came no later.
     pub clock: u64,
@@ -25,9 +23,9 @@ pub struct Opened {
 
 /// The node of this folder, with its journal there.
 pub fn open_in_folder(config: &Config) -> io::Result<Opened> {
-    let (node, journal, ready) = open_node(config)?;
-    let guard = open_guard(config, journal.found)?;
-    Ok(Opened { node, journal: Store::File(Box::new(journal)), ready, guard, clock: 0 })
+    let kept = open_node(config)?;
+    let guard = open_guard(config, kept.log.found)?;
+    Ok(Opened { kept: kept.with(|journal| Store::File(Box::new(journal))), guard, clock: 0 })
 }
 
 /// The coordinator that comes back from these bytes, which are all that `head` names. What it has to add to them is
@@ -47,41 +45,19 @@ pub fn coordinator_of(bytes: &[u8], head: Head) -> (Node, Ready) {
 }
 
 /// The node that comes back from the folder, or a new one, and its journal, of which all is safe.
-fn open_node(config: &Config) -> io::Result<(Node, Journal, Ready)> {
+fn open_node(config: &Config) -> io::Result<Kept<Journal>> {
     if config.index.is_none() && config.folder.join(SEEN).try_exists()? {
         must_not_start("this coordinator's journal is in etcd: give it --store, or `sevunthi move file`");
     }
     if config.index.is_none() && config.folder.join(MOVING).try_exists()? {
         must_not_start("this coordinator's journal is being moved: end that, by the same `sevunthi move`");
     }
-    let found = match journal::find(&config.folder) {
-        Err(error) if matches!(error.kind(), ErrorKind::NotFound | ErrorKind::Unsupported) => must_not_start(error),
-        found => found?,
-    };
-    let mut ready = Ready::default();
     let failing = if config.faults { Failing::in_folder(&config.folder) } else { Failing::default() };
-    let (mut node, journal) = match &found.journal {
-        Some(Content { bytes, .. }) => {
-            let mut node = Node::come_back(bytes, found.known).unwrap_or_else(|fault| match fault {
-                Fault::NoSave | Fault::TooShort => must_not_start(fault),
-                other => failed("the node can't come back", other),
-            });
-            let good = node.good();
-            node.ready(&mut ready).map_err(io::Error::other)?;
-            let mut journal = Journal::open(&config.folder, found, good, failing)?;
-            journal.add(&ready.journal)?;
-            journal.sync()?;
-            (node, journal)
-        }
-        None => {
-            let mut node = new_node(config).map_err(io::Error::other)?;
-            node.ready(&mut ready).map_err(io::Error::other)?;
-            (node, Journal::create(&config.folder, found, &ready.journal, failing)?)
-        }
-    };
-    node.synced(journal.length).map_err(io::Error::other)?;
-    ready.journal.clear();
-    Ok((node, journal, ready))
+    match Kept::open(&config.folder, failing, || new_node(config)) {
+        Ok(kept) => Ok(kept),
+        Err(NotOpened::MustNotStart(why)) => must_not_start(why),
+        Err(NotOpened::Failed(error)) => Err(error),
+    }
 }
 
 /// The guard of the node's folder, of which a thread makes safe what is told.

@@ -13,13 +13,14 @@ use crate::store::gateway::Counts;
 use crate::store::lead::count_fenced;
 use crate::store::remote::{Kind, Remote};
 use sevunthi::Answer;
+use sevunthi_runtime::kept::Log;
 use std::sync::atomic::Ordering;
 use std::time::Duration;
 
 impl Core {
     /// The journal in etcd, if it is there.
     pub fn remote(&self) -> Option<&Remote> {
-        match &self.journal {
+        match &self.kept.log {
             Store::File(_) => None,
             Store::Etcd(remote) => Some(remote),
         }
@@ -34,14 +35,14 @@ impl Core {
     /// Where the transaction that was under way has ended, what was sent before it was asked for is put together, to
     /// leave now. Says whether it has.
     pub fn end_transaction(&mut self, answer: impl FnMut(Answer)) -> bool {
-        let Store::Etcd(remote) = &mut self.journal else { return false };
+        let Store::Etcd(remote) = &mut self.kept.log else { return false };
         let Some(ended) = remote.poll() else { return false };
-        self.counts.syncing += ended.took.as_nanos() as u64;
+        self.kept.syncing += ended.took.as_nanos() as u64;
         let noted = match ended.kind {
-            Kind::Append => self.node.synced(ended.safe),
+            Kind::Append => self.kept.node.synced(ended.safe),
             Kind::Save => {
                 self.counts.saves += 1;
-                self.node.saved()
+                self.kept.node.saved()
             }
             Kind::Guard => Ok(()),
         };
@@ -70,24 +71,25 @@ impl Core {
 
     /// Asks for a transaction, where something waits for one, and none is under way. Says whether it does so.
     pub fn begin_transaction(&mut self) -> bool {
-        if self.journal.under_way() != 0 {
+        if self.kept.log.under_way() != 0 {
             return false;
         }
         if self.begin_save() {
             return true;
         }
-        let taken = self.node.take_journal(&mut self.ready.journal);
+        let taken = self.kept.collect_written();
         taken.unwrap_or_else(|fault| failed("the journal can't be taken", fault));
-        let kind = if !self.ready.journal.is_empty() {
+        let kind = if self.kept.has_written() {
             Kind::Append
-        } else if self.node.info().is_waiting {
+        } else if self.kept.node.info().is_waiting {
             Kind::Guard
         } else {
             return false;
         };
-        let bytes = self.take_journal();
+        self.note_clock();
+        let bytes = self.kept.take_written();
         let clock = self.clock;
-        if let Store::Etcd(remote) = &mut self.journal {
+        if let Store::Etcd(remote) = &mut self.kept.log {
             remote.begin(kind, bytes, clock);
         }
         true
@@ -95,15 +97,15 @@ impl Core {
 
     /// Where the journal is long, and all that was written is there, a save of it is begun. Says whether one is.
     fn begin_save(&mut self) -> bool {
-        let info = self.node.info();
-        let has_more = !self.ready.journal.is_empty() || info.untaken != 0 || info.safe < info.written;
-        if self.config.long > self.journal.grown() || has_more {
+        let info = self.kept.node.info();
+        let has_more = self.kept.has_written() || info.untaken != 0 || info.safe < info.written;
+        if self.config.long > self.kept.log.grown() || has_more {
             return false;
         }
-        match self.node.save() {
+        match self.kept.node.save() {
             Ok(save) => {
                 let clock = self.clock;
-                if let Store::Etcd(remote) = &mut self.journal {
+                if let Store::Etcd(remote) = &mut self.kept.log {
                     remote.begin(Kind::Save, save, clock);
                 }
                 true
@@ -205,7 +207,7 @@ mod tests {
         host.start().and_then(|()| host.ready(&mut ready)).map_err(told)?;
         host.synced(ready.journal.len()).and_then(|()| host.ready(&mut ready)).map_err(told)?;
         let enlists: Vec<Vec<u8>> = ready.messages().map(<[u8]>::to_vec).collect();
-        enlists.iter().try_for_each(|message| core.node.deliver(message)).map_err(told)?;
+        enlists.iter().try_for_each(|message| core.kept.node.deliver(message)).map_err(told)?;
         // what is written down leaves when a transaction has it
         stub.stand_still(true);
         assert!(core.begin_transaction() && !core.may_tick());
@@ -221,7 +223,7 @@ mod tests {
         assert!(0 < before && guards == Some(0));
         // all is safe, and a Tick writes nothing: it waits all the same
         stub.stand_still(true);
-        core.node.step(Work::Tick).map_err(told)?;
+        core.kept.node.step(Work::Tick).map_err(told)?;
         assert!(core.begin_transaction());
         thread::sleep(Duration::from_millis(50));
         assert!(!core.end_transaction(|_| ()) && core.counts.messages == before);

@@ -1,7 +1,7 @@
 //! Zeros ahead of a journal's sectors. A sync takes half of the time where the file has not grown since the last one.
 //! So a thread lets it grow, by many zeros at once, beside.
 
-use crate::faults::Failing;
+use crate::failing::Failing;
 use crate::sectors::Sectors;
 use std::fs::{self, File};
 use std::ops::Range;

@@ -2,10 +2,10 @@
 
 use crate::ahead::Ahead;
 use crate::disk::{self, sync_folder};
-use crate::faults::Failing;
-use crate::guard::{Position, TOLD};
+use crate::failing::Failing;
 use crate::sectors::{self, BLOCK, Content, Sectors, end_of};
 use crate::version;
+use sevunthi::message::u64_at;
 use std::fs::{self, File};
 use std::io::{self, ErrorKind};
 use std::os::unix::fs::{FileExt, MetadataExt};
@@ -17,6 +17,32 @@ use std::time::{Duration, Instant};
 
 /// The file that an older journal had, or one of zeros. The next save is written over it.
 const SPARE: &str = "spare";
+
+/// The file of a folder that says what others were told of it: where it stands, there was a journal.
+pub const TOLD: &str = "told";
+
+/// How far a journal has come: its number, which rises with each save, and how many of its bytes are safe. What a node
+/// has sent depends on nothing behind that.
+#[derive(Clone, Copy, Debug, Default, PartialEq, Eq, PartialOrd, Ord)]
+pub struct Position {
+    /// The journal's number.
+    pub number: u64,
+    /// Its bytes.
+    pub length: u64,
+}
+
+impl Position {
+    /// Adds its bytes: two numbers of eight.
+    pub fn put(self, out: &mut Vec<u8>) {
+        out.extend_from_slice(&self.number.to_le_bytes());
+        out.extend_from_slice(&self.length.to_le_bytes());
+    }
+
+    /// The position whose bytes stand at this place.
+    pub fn read(bytes: &[u8], at: usize) -> Option<Position> {
+        Some(Position { number: u64_at(bytes, at)?, length: u64_at(bytes, at + 8)? })
+    }
+}
 
 /// A node's journal, whose folder is locked.
 pub struct Journal {
@@ -113,7 +139,7 @@ pub fn find(folder: &Path) -> io::Result<Found> {
         }
     }
     let noted = match fs::read(folder.join("known")) {
-        Ok(noted) => Some(sevunthi::message::u64_at(&noted, 0).unwrap_or(0) as usize),
+        Ok(noted) => Some(u64_at(&noted, 0).unwrap_or(0) as usize),
         Err(error) if error.kind() == ErrorKind::NotFound => None,
         Err(error) => return Err(error),
     };
@@ -379,7 +405,7 @@ impl Journal {
 mod tests {
     use super::*;
     use crate::ahead::AHEAD;
-    use crate::faults::NEARLY_FULL;
+    use crate::failing::NEARLY_FULL;
     use crate::sectors::SECTOR;
     use std::io::Write;
 

@@ -1,8 +1,8 @@
-//! A connection as who reads it has it: up to a time, while its other side has not proved itself; and what it says first.
+//! A connection as who reads it has it: up to a time, while its other side has not proved itself; and what it says
+//! first.
 
-use crate::hello::{NotLetIn, Refused, Role};
 use sevunthi_client::Channel;
-use sevunthi_client::hello::{ANSWER, Hello, IN_CLEAR, OTHER_PLACE, TAKEN, VERSION};
+use sevunthi_client::hello::{ANSWER, Hello, IN_CLEAR, NotLetIn, OTHER_PLACE, Refused, Role, TAKEN, VERSION};
 use sevunthi_client::security::{Acceptor, greet};
 use std::cell::Cell;
 use std::io::{self, ErrorKind, Read, Write};
@@ -73,6 +73,10 @@ impl Line {
     }
 
     /// Its other side has proved itself, and has as much time as it wants.
+    ///
+    /// # Errors
+    ///
+    /// That the connection has ended.
     pub fn lift(&self) -> io::Result<()> {
         self.end.set(None);
         self.stream.set_read_timeout(None)
@@ -84,6 +88,10 @@ impl Line {
     }
 
     /// The first byte, which is still to be read; none where it has ended.
+    ///
+    /// # Errors
+    ///
+    /// That nothing came in time, or the connection is broken.
     pub fn first(&self) -> io::Result<Option<u8>> {
         self.await_time()?;
         let mut byte = [0];
@@ -92,6 +100,10 @@ impl Line {
 
     /// The connection with or without security, as who connects begins it, and the role that it has proved under
     /// security.
+    ///
+    /// # Errors
+    ///
+    /// Why it is not let in.
     pub fn join(&self, first: u8, acceptor: Option<&Acceptor>) -> Result<(Channel<&Line>, Option<Role>), Refused> {
         if !Acceptor::is_first(first) {
             return Ok((Channel::plain(self), None));
@@ -108,6 +120,10 @@ impl Line {
 }
 
 /// The next byte.
+///
+/// # Errors
+///
+/// That none has come.
 pub fn byte(stream: &mut impl Read) -> io::Result<u8> {
     let mut byte = [0];
     stream.read_exact(&mut byte)?;
@@ -116,6 +132,10 @@ pub fn byte(stream: &mut impl Read) -> io::Result<u8> {
 
 /// Answers who has said what it is, and its version: it has to want to reach this place, and to have proved itself
 /// where that is wanted. Gives the place that it has.
+///
+/// # Errors
+///
+/// Why it is not let in.
 pub fn answer(
     stream: &mut (impl Read + Write),
     role: Role,

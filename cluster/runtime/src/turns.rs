@@ -18,12 +18,14 @@ pub struct Turns<T> {
     waiting: HashMap<Key, VecDeque<T>>,
 }
 
-impl<T> Turns<T> {
+impl<T> Default for Turns<T> {
     /// Nothing is under way.
-    pub fn new() -> Turns<T> {
+    fn default() -> Turns<T> {
         Turns { counts: vec![0; COUNTS], waiting: HashMap::new() }
     }
+}
 
+impl<T> Turns<T> {
     fn count(&mut self, (table, key): Key) -> &mut u32 {
         let mixed = (key ^ u64::from(table).rotate_left(32)).wrapping_mul(0x9e37_79b9_7f4a_7c15);
         &mut self.counts[(mixed >> 52) as usize % COUNTS]
@@ -86,7 +88,7 @@ mod tests {
 
     #[test]
     fn what_waits_comes_in_order_when_its_key_is_free() {
-        let mut turns = Turns::new();
+        let mut turns = Turns::default();
         let (key, other) = ((1, 5), (2, 5));
         assert!(!turns.may_be_under_way(key));
         turns.enter(key);

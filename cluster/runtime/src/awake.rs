@@ -14,12 +14,14 @@ pub struct Awake {
     before: Duration,
 }
 
-impl Awake {
+impl Default for Awake {
     /// It begins now.
-    pub fn new() -> Awake {
+    fn default() -> Awake {
         Awake { last: Instant::now(), before: Duration::ZERO }
     }
+}
 
+impl Awake {
     /// A turn of the loop has ended.
     pub fn turn(&mut self) {
         self.turn_of(self.last.elapsed());
@@ -42,7 +44,7 @@ mod tests {
 
     #[test]
     fn a_standstill_counts_as_one_turn() {
-        let mut awake = Awake::new();
+        let mut awake = Awake::default();
         awake.turn_of(Duration::from_millis(20));
         awake.turn_of(Duration::from_secs(5));
         assert_eq!(awake.now(), Duration::from_millis(220));
