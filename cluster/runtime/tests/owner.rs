@@ -1,6 +1,5 @@
 //! An owner over nodes in one process: three hosts and a coordinator, whose messages are brought when a test says so.
 
-use sevunthi::message::framed;
 use sevunthi::{Address, Answer, Envelope, Fault, Id, Node, Ready, Shape, Work};
 use sevunthi_runtime::owner::{Condition, Entry, Ground, KEYS, Outcome, Owner, Page, What};
 use std::borrow::Cow;
