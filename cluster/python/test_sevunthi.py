@@ -50,8 +50,8 @@ class Wire(unittest.TestCase):
         condition = struct.pack("<Q", 3) + b"hello"
         name = 'put "hello" at table 1, key 5, if its version is 3; number 7'
         self.assertEqual(page[name], request(sevunthi.PUT_IF, 7, 1, 5, condition))
-        hello = page["who operates the cluster, to the coordinator at place 4"]
-        self.assertEqual(hello, bytes([65, sevunthi.VERSION, 4, 4]))
+        hello = page["who operates the cluster, to the first coordinator"]
+        self.assertEqual(hello, bytes([65, sevunthi.VERSION, 64, 64]))
         create = request(sevunthi.CREATE, 1, 3, sevunthi.ANY_HOST)
         self.assertEqual(page["create table 3 at any host; number 1"], create)
 

@@ -77,15 +77,16 @@ pub fn run(config: Config) -> io::Result<()> {
 
 impl Coordinator {
     fn new(core: Core) -> Coordinator {
-        let hosts = usize::from(core.config.hosts);
+        let hosts = core.config.members.there().len();
         let needed = core.config.hear.map_or(hosts.saturating_sub(usize::from(core.config.factor)), usize::from);
+        let going = core.config.members.going();
         Coordinator {
             core,
             listening: Listening::default(),
             ready: HashMap::new(),
             hearing: Hearing::new(hosts, needed),
             cut_off: CutOff::default(),
-            left_out: Vec::new(),
+            left_out: going,
             last: None,
             refused: None,
             is_due: false,
@@ -199,13 +200,14 @@ impl Coordinator {
 
     /// Which hosts are waited for, in words. One whose folder was emptied can't say what it was told.
     fn waits_for(&self) -> String {
-        let unheard = (0..self.core.config.hosts).filter(|host| !self.core.guard.remembers(*host));
+        let hosts = self.core.config.members.there();
+        let unheard = hosts.iter().filter(|host| !self.core.guard.remembers(**host));
         let unheard: Vec<String> = unheard.map(|host| host.to_string()).collect();
         format!(
             "waits until {} of {} hosts were heard, and has not heard {}. Start them; or, where they are gone for \
              good, give --hear the number of those that are left",
             self.hearing.needed(),
-            self.core.config.hosts,
+            hosts.len(),
             unheard.join(", ")
         )
     }
@@ -246,6 +248,7 @@ impl Coordinator {
         }
         let mut silent: Vec<Id> = sight.up.iter().filter(|id| self.is_silent(id)).copied().collect();
         silent.extend(self.cut_off.suspects(&sight, &silent));
+        silent.extend(self.leaver(&sight).filter(|_| silent.is_empty()));
         let heard: Vec<Id> = sight.heard.iter().map(|(id, _)| *id).collect();
         let dues = self.core.node.dues(&heard, &silent, &[]).unwrap_or_default();
         let sight = if dues.is_empty() {
@@ -255,6 +258,16 @@ impl Coordinator {
             self.sight()
         };
         self.left_out = self.cut_off.left_out(&sight);
+        self.left_out.extend(self.core.config.members.going());
+    }
+
+    /// The server of a host that does not stay, which is suspected when that costs nothing but a recovery: nothing is
+    /// being recovered just now, and those that stay are enough for a segment.
+    fn leaver(&self, sight: &Sight) -> Option<Id> {
+        let going = self.core.config.members.going();
+        let stays = sight.heard.iter().filter(|(id, _)| sight.up.contains(id) && !going.contains(&id.index)).count();
+        let costs_nothing = !sight.is_recovering && sight.factor < stays;
+        sight.up.iter().copied().find(|id| costs_nothing && going.contains(&id.index))
     }
 
     /// A server is silent when nothing has come from it for the time that one waits, or for a quarter of that where its
@@ -530,7 +543,8 @@ impl Coordinator {
         let crashed = tablets.iter().filter(|tablet| tablet.crashed).count();
         let wanted = usize::from(self.core.config.factor) + 1;
         for (name, help, value) in [
-            ("hosts", "Hosts that the cluster has.", usize::from(self.core.config.hosts)),
+            ("hosts", "Hosts that the cluster has.", self.core.config.members.there().len()),
+            ("hosts_leaving", "Hosts that leave, or have left.", self.core.config.members.going().len()),
             ("hosts_up", "Hosts whose server is up.", sight.up.len()),
             ("hosts_heard", "Hosts that were heard within the time of silence.", sight.heard.len()),
             ("hosts_left_out", "Hosts whose servers are left out for now.", self.left_out.len()),
@@ -541,7 +555,7 @@ impl Coordinator {
             metrics.add(Kind::Gauge, &format!("sevunthi_{name}"), help, value);
         }
         let newest: HashMap<u8, bool> = servers.iter().map(|(id, is_up)| (id.index, *is_up)).collect();
-        let hosts = 0..self.core.config.hosts;
+        let hosts = self.core.config.members.there().into_iter();
         let rows =
             hosts.map(|host| (format!("peer=\"{host}\""), u8::from(newest.get(&host).copied().unwrap_or(false))));
         metrics.add_rows(Kind::Gauge, "sevunthi_host_up", "1 where the host's newest server is up.", rows);
