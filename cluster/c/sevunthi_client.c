@@ -394,6 +394,7 @@ static bool read_places(sevunthi_client *client, FILE *file) {
     } else {
       char *end;
       unsigned long index = strtoul(who, &end, 10);
+      if (strcmp(at, "gone") == 0) strcpy(at, "127.0.0.1:1"); /* a host that has left: nobody listens */
       if (*end != 0 || MOST_HOSTS <= index || !note_place(client, (unsigned)index, at)) return false;
       hosts++;
     }

@@ -40,6 +40,7 @@ MOST_VALUE = 1024
 MOST_NAME = 256
 TRIES = 1000
 VERSION = 2
+MOST_HOSTS = 64
 
 
 class Refusal(enum.Enum):
@@ -176,7 +177,8 @@ class Target:
 
     @classmethod
     def of_file(cls, path: str) -> Target:
-        """The cluster of this file: on each line a host's index, or `coordinator`, and where it listens."""
+        """The cluster of this file: on each line a host's index, or `coordinator`, and where it listens. A host may have
+        `leaves` behind that, or `gone` in place of it."""
         hosts: dict[str, tuple[str, int]] = {}
         coordinators: list[tuple[str, int]] = []
         with open(path, encoding="utf-8") as lines:
@@ -184,8 +186,12 @@ class Target:
                 words = line.partition("#")[0].split()
                 if not words:
                     continue
+                if len(words) == 3 and words[2] == "leaves":
+                    words.pop()
                 if len(words) != 2 or words[0] in hosts:
                     raise ValueError(f"{path}: {line.strip()}")
+                if words[1] == "gone":
+                    words[1] = "127.0.0.1:1"  # nobody listens
                 name, _, port = words[1].rpartition(":")
                 at = (name.strip("[]"), int(port))
                 if words[0] == "coordinator":
@@ -557,7 +563,8 @@ class Client:
         if not self.operates:
             raise Refused(Refusal.NOT_ALLOWED)
         self._number += 1
-        hello = bytes([ord("A"), VERSION, place, place])
+        seat = MOST_HOSTS + place - self.target.hosts
+        hello = bytes([ord("A"), VERSION, seat, seat])
         end = time.monotonic() + self.wait
         try:
             line = _Line(self.target.places[place], self.wait, hello)

@@ -52,8 +52,8 @@ class Wire(unittest.TestCase):
         self.assertEqual(page[name], request(sevunthi.PUT_IF, 7, 1, 5, condition))
         name = "scan of table 1, keys 5 to 9, at most 100 values; number 7"
         self.assertEqual(page[name], request(sevunthi.SCAN, 7, 1, 5, struct.pack("<QI", 9, 100)))
-        hello = page["who operates the cluster, to the coordinator at place 4"]
-        self.assertEqual(hello, bytes([65, sevunthi.VERSION, 4, 4]))
+        hello = page["who operates the cluster, to the first coordinator"]
+        self.assertEqual(hello, bytes([65, sevunthi.VERSION, 64, 64]))
         create = request(sevunthi.CREATE, 1, 3, sevunthi.ANY_HOST)
         self.assertEqual(page["create table 3 at any host; number 1"], create)
 

@@ -297,6 +297,7 @@ impl Client {
         let reply = self.ask_coordinators(Op::Owner, table, key, PATIENCE_WITH_COORDINATOR);
         match reply.map(|reply| (reply.code, reply.version as u8)) {
             Ok((DONE, index)) => {
+                self.learn_of(index)?;
                 self.owners.insert(table, Owner { index, is_doubted: false });
                 Ok(index)
             }
@@ -310,6 +311,18 @@ impl Client {
                 None => Err(self.silent(lost)),
             },
         }
+    }
+
+    /// A host that came since this client has read where all are is in the file by now.
+    fn learn_of(&mut self, index: u8) -> Result<(), Missing> {
+        if index < self.target.hosts {
+            return Ok(());
+        }
+        let later = self.target.read_again().ok().filter(|later| index < later.hosts);
+        self.target = later.ok_or(Missing::NoHost(index))?;
+        // (coordinators have other places here now)
+        self.connections.clear();
+        Ok(())
     }
 
     /// The same, tried until it is known, or it is of no use to wait, or one has waited long enough.
@@ -335,6 +348,9 @@ impl Client {
             Lost::Before => {}
         }
         let refuses = |place| {
+            if self.target.is_gone(place) {
+                return true;
+            }
             let stream = addresses::connect(&self.target.at(place), CONNECTING);
             stream.is_err_and(|error| error.kind() == ErrorKind::ConnectionRefused)
         };
@@ -441,7 +457,8 @@ impl Client {
     fn dial_operator(&self, place: u8, secret: Option<&Secret>) -> Result<Channel<TcpStream>, Refused> {
         let mut channel = dial(&self.target, place, Role::Operator, secret)?;
         channel.stream().set_read_timeout(Some(self.wait))?;
-        hello::say(&mut channel, Hello { role: Role::Operator, from: place, to: place })?;
+        let seat = self.target.seat(place);
+        hello::say(&mut channel, Hello { role: Role::Operator, from: seat, to: seat })?;
         Ok(channel)
     }
 
@@ -698,7 +715,7 @@ mod tests {
             for verdict in [hello::IN_CLEAR, hello::TAKEN] {
                 let (mut stream, mut said) = (listener.accept()?.0, [0; 4]);
                 stream.read_exact(&mut said)?;
-                assert_eq!(said, [b'A', hello::VERSION, 1, 1]);
+                assert_eq!(said, [b'A', hello::VERSION, 64, 64]);
                 stream.write_all(&[hello::ANSWER, hello::VERSION, verdict])?;
                 if verdict == hello::TAKEN {
                     let mut request = vec![0; 25];

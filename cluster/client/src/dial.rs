@@ -27,13 +27,13 @@ pub(crate) fn dial(
     stream.set_nodelay(true)?;
     match secret {
         None => Ok(Channel::plain(stream)),
-        Some(secret) => secured(stream, place, role, secret),
+        Some(secret) => secured(stream, target.seat(place), role, secret),
     }
 }
 
 #[cfg(feature = "security")]
-fn secured(stream: TcpStream, place: u8, role: Role, secret: &Secret) -> Result<Channel<TcpStream>, Refused> {
-    Ok(crate::security::connect(stream, role, place, secret, CONNECTING)?)
+fn secured(stream: TcpStream, seat: u8, role: Role, secret: &Secret) -> Result<Channel<TcpStream>, Refused> {
+    Ok(crate::security::connect(stream, role, seat, secret, CONNECTING)?)
 }
 
 #[cfg(not(feature = "security"))]

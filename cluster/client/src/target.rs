@@ -1,14 +1,15 @@
 //! Where a cluster is.
 
-use crate::addresses::{self, Listed};
+use crate::addresses::{self, Going, Listed, MOST_HOSTS};
 use crate::error::Missing;
 use crate::hello::NotLetIn;
 use crate::refusal::Refusal;
 use crate::secret::SecretFile;
-use std::path::Path;
+use std::collections::BTreeMap;
+use std::path::{Path, PathBuf};
 
 /// Where a cluster is.
-#[derive(Clone, Debug)]
+#[derive(Clone, Debug, Default, PartialEq, Eq)]
 pub struct Target {
     /// The address that all listen on.
     pub address: String,
@@ -20,6 +21,10 @@ pub struct Target {
     pub coordinators: u8,
     /// Where each listens, by its place, where a file says that; else all do on the one address.
     pub listed: Vec<String>,
+    /// The hosts that do not stay, where a file says that.
+    pub going: BTreeMap<u8, Going>,
+    /// That file.
+    pub file: Option<PathBuf>,
     /// The file of the clients' secret, where its processes want a proof of it; else all is said in clear.
     pub secret: Option<SecretFile>,
 }
@@ -28,7 +33,7 @@ impl Target {
     /// A cluster of so many hosts that all listen on this address: host 0 at this port, the others at those that
     /// follow, and then the one coordinator.
     pub fn on(address: &str, port: u16, hosts: u8) -> Target {
-        Target { address: address.to_string(), port, hosts, coordinators: 1, listed: Vec::new(), secret: None }
+        Target { address: address.to_string(), port, hosts, coordinators: 1, ..Target::default() }
     }
 
     /// The same with so many coordinators, at least one, at ports one behind the other.
@@ -52,9 +57,30 @@ impl Target {
     ///
     /// What is wrong with the file, in words.
     pub fn of_file(file: &Path) -> Result<Target, String> {
-        let Listed { all: listed, coordinators } = addresses::of_file(file)?;
+        let Listed { all: listed, coordinators, going } = addresses::of_file(file)?;
         let hosts = listed.len() as u8 - coordinators;
-        Ok(Target { address: String::new(), port: 0, hosts, coordinators, listed, secret: None })
+        Ok(Target { hosts, coordinators, listed, going, file: Some(file.into()), ..Target::default() })
+    }
+
+    /// The same cluster as its file says now: hosts may have come, and gone.
+    ///
+    /// # Errors
+    ///
+    /// What is wrong with the file, or that there is none, in words.
+    pub fn read_again(&self) -> Result<Target, String> {
+        let file = self.file.as_ref().ok_or("no file says where the cluster is")?;
+        Ok(Target { secret: self.secret.clone(), ..Target::of_file(file)? })
+    }
+
+    /// The place, as the wire has it, of whoever has this one here: the coordinators' are behind those of all hosts that
+    /// there may be, and stay so where hosts come.
+    pub fn seat(&self, place: u8) -> u8 {
+        place.checked_sub(self.hosts).map_or(place, |coordinator| MOST_HOSTS + coordinator)
+    }
+
+    /// Whether a host does not stay, or is not there any more.
+    pub fn is_gone(&self, place: u8) -> bool {
+        self.going.get(&place) == Some(&Going::Gone)
     }
 
     /// Where whoever has this place listens: hosts first, and then the coordinators.

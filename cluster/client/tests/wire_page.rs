@@ -41,7 +41,7 @@ fn reply(code: u8, number: u64, version: u64, value: &[u8]) -> Vec<u8> {
 
 /// What the code makes of each example.
 fn made() -> BTreeMap<String, Vec<u8>> {
-    let hello = Hello { role: Role::Operator, from: 4, to: 4 }.code();
+    let hello = Hello { role: Role::Operator, from: 64, to: 64 }.code();
     let secret = Secret::of(b"0123456789abcdefghijklmnopqrstuv".to_vec()).expect("it is long enough");
     let (identity, key) = key_of(Role::Client, 4, &secret).expect("there is one");
     let entry = Entry { key: 5, version: 3, value: b"hello".to_vec() };
@@ -71,7 +71,7 @@ fn made() -> BTreeMap<String, Vec<u8>> {
         ),
         ("the identity, in ASCII", identity.into_bytes()),
         ("the key", key.to_vec()),
-        ("who operates the cluster, to the coordinator at place 4", hello.to_vec()),
+        ("who operates the cluster, to the first coordinator", hello.to_vec()),
         ("let in", vec![ANSWER, VERSION, TAKEN]),
         ("create table 3 at any host; number 1", request(Op::Create, 1, 3, ANY_HOST, b"")),
     ];

@@ -16,6 +16,8 @@ pub struct Suspicion {
     pub hearing: Hearing,
     /// Who waits for whom.
     pub cut_off: CutOff,
+    /// Hosts that leave, or have left: none of their servers enlists any more.
+    pub going: Vec<u8>,
     factor: usize,
     silence: Duration,
     left_out: Vec<u8>,
@@ -29,6 +31,7 @@ impl Suspicion {
             listening: Listening::default(),
             hearing: Hearing::new(hosts, needed),
             cut_off: CutOff::default(),
+            going: Vec::new(),
             factor,
             silence,
             left_out: Vec::new(),
@@ -68,8 +71,18 @@ impl Suspicion {
         }
         let mut silent: Vec<Id> = sight.up.iter().filter(|id| self.is_silent(id, now)).copied().collect();
         silent.extend(self.cut_off.suspects(&sight, &silent));
+        silent.extend(self.leaver(&sight).filter(|_| silent.is_empty()));
         let heard: Vec<Id> = sight.heard.iter().map(|(id, _)| *id).collect();
         node.dues(&heard, &silent, &[]).unwrap_or_default()
+    }
+
+    /// The server of a host that leaves, which is suspected when that costs nothing but a recovery: nothing is being
+    /// recovered just now, and those that stay are enough for a segment.
+    fn leaver(&self, sight: &Sight) -> Option<Id> {
+        let is_going = |id: &Id| self.going.contains(&id.index);
+        let stays = sight.heard.iter().filter(|(id, _)| sight.up.contains(id) && !is_going(id)).count();
+        let costs_nothing = !sight.is_recovering && sight.factor < stays;
+        sight.up.iter().copied().find(|id| costs_nothing && is_going(id))
     }
 
     /// Sees who is left out from now on.
@@ -78,14 +91,14 @@ impl Suspicion {
         self.left_out = self.cut_off.left_out(&sight);
     }
 
-    /// Whether the servers of this host can't enlist for now: they would be waited for again. Their Enlists are not
-    /// delivered.
+    /// Whether the servers of this host can't enlist for now, since they would be waited for again, or it leaves. Their
+    /// Enlists are not delivered.
     pub fn is_left_out(&self, index: u8) -> bool {
-        self.left_out.contains(&index)
+        self.left_out.contains(&index) || self.going.contains(&index)
     }
 
     /// How many hosts are left out.
     pub fn count_left_out(&self) -> usize {
-        self.left_out.len()
+        self.left_out.len() + self.going.len()
     }
 }

@@ -72,13 +72,15 @@ pub fn run(config: Config) -> io::Result<()> {
 
 impl Coordinator {
     fn new(core: Core) -> Coordinator {
-        let hosts = usize::from(core.config.hosts);
+        let hosts = core.config.members.there().len();
         let factor = usize::from(core.config.factor);
         let needed = core.config.hear.map_or(hosts.saturating_sub(factor), usize::from);
         let silence = Duration::from_millis(core.config.silence);
+        let mut suspicion = Suspicion::new(hosts, needed, factor, silence);
+        suspicion.going = core.config.members.going();
         Coordinator {
             core,
-            suspicion: Suspicion::new(hosts, needed, factor, silence),
+            suspicion,
             ready: HashMap::new(),
             last: None,
             refused: None,
@@ -194,13 +196,14 @@ impl Coordinator {
 
     /// Which hosts are waited for, in words. One whose folder was emptied can't say what it was told.
     fn waits_for(&self) -> String {
-        let unheard = (0..self.core.config.hosts).filter(|host| !self.core.guard.remembers(*host));
+        let hosts = self.core.config.members.there();
+        let unheard = hosts.iter().filter(|host| !self.core.guard.remembers(**host));
         let unheard: Vec<String> = unheard.map(|host| host.to_string()).collect();
         format!(
             "waits until {} of {} hosts were heard, and has not heard {}. Start them; or, where they are gone for \
              good, give --hear the number of those that are left",
             self.suspicion.hearing.needed(),
-            self.core.config.hosts,
+            hosts.len(),
             unheard.join(", ")
         )
     }
@@ -235,6 +238,7 @@ impl Coordinator {
     /// What is due, for who was heard and who was not.
     fn do_dues(&mut self) {
         let now = self.core.awake.now();
+        self.suspicion.going = self.core.config.members.going();
         let dues = self.suspicion.dues(&mut self.core.kept.node, now);
         dues.into_iter().for_each(|due| self.do_due(due));
         self.suspicion.look(&mut self.core.kept.node, now);
@@ -489,7 +493,8 @@ impl Coordinator {
         let crashed = tablets.iter().filter(|tablet| tablet.crashed).count();
         let wanted = usize::from(self.core.config.factor) + 1;
         for (name, help, value) in [
-            ("hosts", "Hosts that the cluster has.", usize::from(self.core.config.hosts)),
+            ("hosts", "Hosts that the cluster has.", self.core.config.members.there().len()),
+            ("hosts_leaving", "Hosts that leave, or have left.", self.core.config.members.going().len()),
             ("hosts_up", "Hosts whose server is up.", sight.up.len()),
             ("hosts_heard", "Hosts that were heard within the time of silence.", sight.heard.len()),
             ("hosts_left_out", "Hosts whose servers are left out for now.", self.suspicion.count_left_out()),
@@ -500,7 +505,7 @@ impl Coordinator {
             metrics.add(Kind::Gauge, &format!("sevunthi_{name}"), help, value);
         }
         let newest: HashMap<u8, bool> = servers.iter().map(|(id, is_up)| (id.index, *is_up)).collect();
-        let hosts = 0..self.core.config.hosts;
+        let hosts = self.core.config.members.there().into_iter();
         let rows =
             hosts.map(|host| (format!("peer=\"{host}\""), u8::from(newest.get(&host).copied().unwrap_or(false))));
         metrics.add_rows(Kind::Gauge, "sevunthi_host_up", "1 where the host's newest server is up.", rows);

@@ -3,7 +3,6 @@
 mod opening;
 mod transacting;
 
-use crate::addresses;
 use crate::awake::Awake;
 use crate::dialer::Dialer;
 use crate::door::{self, Door, Opening};
@@ -12,6 +11,7 @@ use crate::faults::{Failing, Mangle, Wrong};
 use crate::guard::{COORDINATOR, Guard, Position, Shown, Standing, WORD, Word};
 use crate::hello::{Hello, Role};
 pub use crate::log::{failed, must_not_start, tell};
+use crate::members::{COORDINATORS, Members};
 use crate::metrics::{self, Kind, Metrics};
 use crate::net::{PeerWriter, Writer};
 use crate::pace::Pace;
@@ -42,12 +42,8 @@ pub use transacting::{add_counts, add_fenced};
 pub struct Config {
     /// The host's index; none is the coordinator.
     pub index: Option<u8>,
-    /// How many hosts there are.
-    pub hosts: u8,
-    /// The address that all listen on.
-    pub address: String,
-    /// The port of host 0; the others follow, and then the coordinators.
-    pub port: u16,
+    /// Who is of the cluster, and where each listens.
+    pub members: Members,
     /// How many coordinators there are, of which one leads; and which of them this is.
     pub coordinators: u8,
     pub coordinator: u8,
@@ -55,8 +51,6 @@ pub struct Config {
     pub store: Vec<String>,
     /// And what keys of this cluster begin with there.
     pub store_name: String,
-    /// Where each listens, by its place, where a file says that.
-    pub listed: Vec<String>,
     /// Where this process listens, where that is not where others reach it.
     pub listen: Option<String>,
     /// The node's folder.
@@ -91,12 +85,12 @@ pub struct Config {
 impl Config {
     /// This process's place among all: the hosts have the first ones.
     pub fn place(&self) -> usize {
-        self.index.map_or(usize::from(self.hosts) + usize::from(self.coordinator), usize::from)
+        self.index.map_or(COORDINATORS + usize::from(self.coordinator), usize::from)
     }
 
     /// The places of the coordinators.
     fn coordinator_places(&self) -> Range<usize> {
-        usize::from(self.hosts)..usize::from(self.hosts) + usize::from(self.coordinators)
+        COORDINATORS..COORDINATORS + usize::from(self.coordinators)
     }
 
     /// Whether a coordinator has this place.
@@ -106,20 +100,19 @@ impl Config {
 
     /// The name that metrics have for who has this place.
     pub fn label(&self, place: usize) -> String {
-        metrics::label(place, self.hosts)
+        metrics::label(place, COORDINATORS)
     }
 
     /// Where whoever has this place listens.
     pub fn at(&self, place: usize) -> String {
-        let listed = self.listed.get(place).cloned();
-        listed.unwrap_or_else(|| addresses::with_port(&self.address, self.port + place as u16))
+        self.members.at(place)
     }
 
     /// Opens this process's port.
     pub fn open_door(&self, events: EventSender) -> io::Result<Arc<Door>> {
         let opening = Opening {
             place: self.place() as u8,
-            places: self.coordinator_places().end,
+            places: usize::from(self.members.hosts()) + usize::from(self.coordinators),
             name: self.label(self.place()),
             secrets: self.secrets.clone(),
             folder: self.folder.clone(),
@@ -129,7 +122,7 @@ impl Config {
 
     fn dialer(&self, place: usize) -> Dialer {
         let hello = Hello { role: Role::Peer, from: self.place() as u8, to: place as u8 };
-        Dialer::new(hello, self.hosts, self.at(place), self.secrets.peers.clone())
+        Dialer::new(hello, self.members.clone(), self.secrets.peers.clone())
     }
 }
 
@@ -154,7 +147,8 @@ pub struct Core {
     clock: u64,
     began: Instant,
     base: u64,
-    peers: Vec<PeerWriter>,
+    /// By their places: those to whom something was said.
+    peers: Vec<Option<PeerWriter>>,
     outs: Vec<Vec<u8>>,
     /// How far this node had come, as each peer was told last.
     said: Vec<Position>,
@@ -224,7 +218,7 @@ impl Core {
             clock: record.as_ref().map_or(0, Record::noted).max(clock),
             began: Instant::now(),
             base: opening::since_boot(),
-            peers: places.clone().map(|place| PeerWriter::new(config.dialer(place))).collect(),
+            peers: places.clone().map(|_| None).collect(),
             said: places.clone().map(|_| Position::default()).collect(),
             outs: places.map(|_| Vec::new()).collect(),
             clients: BTreeMap::new(),
@@ -329,7 +323,7 @@ impl Core {
 
     /// Says it to each host that has spoken, where nothing else is said to it just now.
     pub fn greet(&mut self) {
-        for host in 0..usize::from(self.config.hosts) {
+        for host in 0..COORDINATORS {
             if self.guard.standing(host as u8) != Standing::Unheard && self.outs[host].is_empty() {
                 self.say_word(host);
             }
@@ -490,9 +484,10 @@ impl Core {
         let help = "Answers to clients, by what became of the request: done, or why it was refused.";
         metrics.add_rows(Kind::Counter, "sevunthi_answers_total", help, codes);
         let place = self.config.place();
-        let others = self.peers.iter().enumerate().filter(|(peer, _)| *peer != place);
-        let rows =
-            others.map(|(peer, writer)| (format!("peer=\"{}\"", self.config.label(peer)), u8::from(writer.is_open())));
+        let hosts = self.config.members.there().into_iter().map(usize::from);
+        let others = hosts.chain(self.config.coordinator_places()).filter(|peer| *peer != place);
+        let is_open = |peer: usize| self.peers[peer].as_ref().is_some_and(PeerWriter::is_open);
+        let rows = others.map(|peer| (format!("peer=\"{}\"", self.config.label(peer)), u8::from(is_open(peer))));
         let help = "1 where there was a connection to this peer when something was last sent to it.";
         metrics.add_rows(Kind::Gauge, "sevunthi_peer_connected", help, rows);
         metrics
@@ -588,8 +583,9 @@ impl Core {
             let written = record.note(self.clock).and_then(|()| record.write());
             written.unwrap_or_else(|error| failed("the record can't be written", error));
         }
-        for (out, peer) in self.outs.iter_mut().zip(&self.peers).filter(|(out, _)| !out.is_empty()) {
-            peer.send(out);
+        let peers = self.peers.iter_mut().enumerate();
+        for (out, (place, peer)) in self.outs.iter_mut().zip(peers).filter(|(out, _)| !out.is_empty()) {
+            peer.get_or_insert_with(|| PeerWriter::new(self.config.dialer(place))).send(out);
         }
         for (client, bytes) in std::mem::take(&mut self.answers) {
             match self.clients.get(&client) {

@@ -3,6 +3,7 @@
 use crate::addresses;
 use crate::core::tell;
 use crate::hello::{self, Hello, Refused};
+use crate::members::{COORDINATORS, Members};
 use crate::secret::SecretFile;
 use sevunthi_client::{Channel, security};
 use std::io;
@@ -40,7 +41,7 @@ const AGAIN: Duration = Duration::from_secs(60);
 pub struct Dialer {
     hello: Hello,
     name: String,
-    address: String,
+    members: Members,
     /// The file of what peers share; none where all is said in clear.
     secret: Option<SecretFile>,
     /// How often it was tried in vain since it was reached, and since when.
@@ -54,15 +55,19 @@ pub struct Dialer {
 }
 
 impl Dialer {
-    /// One for who listens at this address, a name or a number with its port. There are so many hosts, and the places
-    /// behind them are the coordinators'.
-    pub fn new(hello: Hello, hosts: u8, address: String, secret: Option<SecretFile>) -> Dialer {
-        let name = match hello.to.checked_sub(hosts) {
+    /// One for whoever of these it says hello to.
+    pub fn new(hello: Hello, members: Members, secret: Option<SecretFile>) -> Dialer {
+        let name = match usize::from(hello.to).checked_sub(COORDINATORS) {
             None => format!("host {}", hello.to),
             Some(0) => "the coordinator".to_string(),
             Some(number) => format!("coordinator {number}"),
         };
-        Dialer { hello, name, address, secret, tries: 0, is_near: None, since: None, last: None, told: None }
+        Dialer { hello, name, members, secret, tries: 0, is_near: None, since: None, last: None, told: None }
+    }
+
+    /// Where the peer listens now.
+    fn address(&self) -> String {
+        self.members.at(usize::from(self.hello.to))
     }
 
     /// A connection, which does not block, if the peer is reached now, and has proved itself.
@@ -75,7 +80,7 @@ impl Dialer {
             Ok(open) => {
                 self.is_near = Some(began.elapsed() < NEAR);
                 if self.told.take().is_some() {
-                    tell(format_args!("{} at {} is reached", self.name, self.address));
+                    tell(format_args!("{} at {} is reached", self.name, self.address()));
                 }
                 (self.tries, self.since, self.last) = (0, None, None);
                 Some(open)
@@ -102,7 +107,7 @@ impl Dialer {
     }
 
     fn try_once(&self, wait: Duration) -> Result<Channel<TcpStream>, Refused> {
-        let stream = addresses::connect(&self.address, wait)?;
+        let stream = addresses::connect(&self.address(), wait)?;
         stream.set_nodelay(true)?;
         sevunthi_system::end_when_silent(&stream, SILENT)?;
         stream.set_read_timeout(Some(ANSWERING))?;
@@ -122,6 +127,9 @@ impl Dialer {
 
     /// What is to be told of an attempt in vain: nothing while it may pass, or was told lately.
     fn line(&mut self, refused: &Refused, now: Instant) -> Option<String> {
+        if self.address().is_empty() {
+            return None;
+        }
         let since = *self.since.get_or_insert(now);
         let why = refused.to_string();
         let was_told = self.told.as_ref().is_some_and(|(told, at)| *told == why && now - *at < AGAIN);
@@ -129,18 +137,23 @@ impl Dialer {
             return None;
         }
         self.told = Some((why.clone(), now));
-        Some(format!("{} at {} is not reached: {why}", self.name, self.address))
+        Some(format!("{} at {} is not reached: {why}", self.name, self.address()))
     }
 }
 
 #[cfg(test)]
 mod tests {
     use super::*;
+    use crate::client::Target;
     use crate::hello::{NotLetIn, Role};
     use std::net::TcpListener;
 
+    /// One for the coordinator at this address.
     fn dialer(address: String) -> Dialer {
-        Dialer::new(Hello { role: Role::Peer, from: 0, to: 2 }, 2, address, None)
+        let listed = vec![String::new(), String::new(), address];
+        let target = Target { hosts: 2, coordinators: 1, listed, ..Target::default() };
+        let hello = Hello { role: Role::Peer, from: 0, to: COORDINATORS as u8 };
+        Dialer::new(hello, Members::new(target), None)
     }
 
     #[test]

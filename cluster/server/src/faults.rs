@@ -1,6 +1,7 @@
 //! What a test has a process do wrong: it asks for it by `Op::Fail`, where the process was started with `--faults`.
 //! That a disk is full, or nearly, says a file beside the journal, so that it outlives the process.
 
+use crate::members::COORDINATORS;
 use crate::wire::put_frame;
 pub use sevunthi_runtime::failing::{BEFORE, FULL, Failing, NEARLY_FULL, SAFE_BEFORE};
 
@@ -67,10 +68,18 @@ pub struct Mangle {
     drawn: u64,
 }
 
+/// The bit of whoever has this place, where there are but few hosts: those behind them are the coordinators'.
+pub fn bit(place: usize) -> u64 {
+    1 << place.checked_sub(COORDINATORS).map_or(place.min(OF_COORDINATORS - 1), |number| OF_COORDINATORS + number)
+}
+
+/// From this bit on they are.
+const OF_COORDINATORS: usize = 48;
+
 impl Mangle {
     /// Whether nothing is sent to this peer.
     pub fn is_deaf(self, place: usize) -> bool {
-        self.deaf.checked_shr(place as u32).is_some_and(|bits| bits & 1 == 1)
+        self.deaf & bit(place) != 0
     }
 
     /// A drawn number below this one.

@@ -21,10 +21,12 @@ mod door;
 mod etcd;
 mod events;
 mod faults;
+mod growing;
 mod guard;
 mod histogram;
 mod host;
 mod http;
+mod members;
 mod metrics;
 mod moving;
 mod net;
@@ -66,6 +68,10 @@ const USAGE: &str = "usage: sevunthi COMMAND ..
       loopback they need not, else); --insecure: nobody proves anything
   restart                 has each process of `up` begin anew, one after another, while the cluster goes on
       --folder cluster-data
+  add                     a host more; in the folder of `up`, which starts it
+      --folder cluster-data, --at ADDRESS:PORT (else the next port)
+  leave HOST              a host leaves: what it owns and keeps is made elsewhere
+      --folder cluster-data; or --cluster FILE, where its line ends in `leaves`: then it waits until that is done
   move etcd, move file    moves the coordinator's journal into etcd, or back into its folder, while nothing runs
       --store etcd=URL,.., --folder cluster-data/coordinator, --secret cluster-data/secret, --store-name NAME
   create TABLE [HOST]     makes a table, at this host or at the one that owns least
@@ -165,6 +171,8 @@ fn run(command: &str, words: Vec<String>) -> Result<bool, String> {
     match command {
         "serve" => supervisor::serve(options).map(|()| true),
         "restart" => rolling::ask(options),
+        "add" => growing::add(options),
+        "leave" => growing::leave(options),
         "move" => moving::run(options),
         "up" => up::up(options).map(|()| true),
         "put" | "get" | "delete" => ask(command, options),
@@ -339,9 +347,9 @@ fn status(target: &Target) -> Result<bool, String> {
     client.wait = Duration::from_secs(1);
     let mut all = true;
     let mut leads = false;
-    for place in (0..target.places()).rev() {
+    for place in (0..target.places()).rev().filter(|place| !target.is_gone(*place)) {
         let is_coordinator = target.hosts <= place;
-        let label = metrics::label(usize::from(place), target.hosts);
+        let label = metrics::label(usize::from(place), usize::from(target.hosts));
         let name = if is_coordinator { label } else { format!("host {label}") };
         let text = client.status(place);
         let is_host = |text: &String| text.starts_with("sevunthi_");

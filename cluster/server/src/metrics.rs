@@ -28,8 +28,8 @@ pub struct Metrics {
 
 /// A name for who has this place, where there are so many hosts: the index of a host, or `coordinator`, of which those
 /// behind the first one have a number.
-pub fn label(place: usize, hosts: u8) -> String {
-    match place.checked_sub(usize::from(hosts)) {
+pub fn label(place: usize, hosts: usize) -> String {
+    match place.checked_sub(hosts) {
         None => place.to_string(),
         Some(0) => "coordinator".to_string(),
         Some(number) => format!("coordinator{number}"),

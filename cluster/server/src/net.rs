@@ -258,8 +258,10 @@ fn whole(bytes: &[u8], most: usize) -> Option<usize> {
 #[cfg(test)]
 mod tests {
     use super::*;
+    use crate::client::Target;
     use crate::hello::{Hello, Role, VERSION};
     use crate::line::{self, Line};
+    use crate::members::Members;
     use crate::secret::SecretFile;
     use crate::wire::{frames, put_frame};
     use sevunthi_client::security::Acceptor;
@@ -293,7 +295,9 @@ mod tests {
         for secret in [None, Some(SecretFile::new(&file))] {
             let listener = TcpListener::bind("127.0.0.1:0")?;
             let hello = Hello { role: Role::Peer, from: 0, to: 1 };
-            let dialer = Dialer::new(hello, 2, listener.local_addr()?.to_string(), secret.clone());
+            let listed = vec![String::new(), listener.local_addr()?.to_string()];
+            let members = Members::new(Target { hosts: 2, listed, ..Target::default() });
+            let dialer = Dialer::new(hello, members, secret.clone());
             let (writer, count) = (PeerWriter::new(dialer), 4000);
             let acceptor = secret.map(|file| Acceptor::new(1, vec![(Role::Peer, file)])).transpose()?;
             let reader = thread::spawn(move || hear(&listener, acceptor.as_ref(), count));

@@ -37,7 +37,7 @@ const fn command(
 }
 
 /// All commands.
-const COMMANDS: [Command; 14] = [
+const COMMANDS: [Command; 16] = [
     command("up", &[], &[ON_ONE_MACHINE, &["folder"], NODE], UP_FLAGS),
     command(
         "serve",
@@ -46,6 +46,8 @@ const COMMANDS: [Command; 14] = [
         SERVE_FLAGS,
     ),
     command("restart", &[], &[&["folder"]], &[]),
+    command("add", &[], &[&["folder", "at", "client-secret"]], &[]),
+    command("leave", &["HOST"], &[&["folder", "cluster", "client-secret"]], &[]),
     command("move", &["TO"], &[&["folder", "secret", "store", "store-name"]], &[]),
     command("create", &["TABLE", "[HOST]"], &[WHERE, &["operator"]], OPERATES),
     command("split", &["TABLE", "KEY"], &[WHERE, &["operator"]], OPERATES),

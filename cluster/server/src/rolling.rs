@@ -103,9 +103,11 @@ impl Rolling {
     /// Restarts the next one, where it is time for that.
     pub fn go_on(&mut self, keeper: &mut Keeper) {
         let (places, hosts) = (keeper.cluster.places(), usize::from(keeper.cluster.target.hosts));
+        let there: VecDeque<usize> = (0..places).filter(|place| !keeper.cluster.is_gone(*place)).collect();
+        let wanted = there.iter().filter(|place| **place < hosts).count();
         let Some(rest) = &mut self.rest else {
             if self.folder.join(ASKED).exists() {
-                self.rest = Some((0..places).collect());
+                self.rest = Some(there);
                 self.last = Last { when: Instant::now(), before: None, what: "the cluster".to_string() };
                 self.well_since = None;
             }
@@ -113,7 +115,7 @@ impl Rolling {
         };
         let now = Instant::now();
         let text = status_text(&keeper.cluster.target).unwrap_or_default();
-        let status = Status::read(&text).filter(|status| is_well(status, hosts, self.last.before));
+        let status = Status::read(&text).filter(|status| is_well(status, wanted, self.last.before));
         let Some(status) = status else {
             self.well_since = None;
             if PATIENCE <= now - self.last.when {

@@ -8,6 +8,7 @@ use crate::faults::Failing;
 use crate::guard::{Guard, Position, WORD, Word, new_shared};
 use crate::journal::lock_folder;
 use crate::listening::Listening;
+use crate::members::COORDINATORS;
 use crate::metrics::{Kind, Metrics};
 use crate::moving::MOVING;
 use crate::net::Writer;
@@ -197,13 +198,13 @@ impl Standby {
         for (_, message) in frames(batch) {
             match message.split_first() {
                 Some((&WORD, _)) => {
-                    if let Some(word) = Word::read(message).filter(|word| word.from < self.config.hosts) {
+                    if let Some(word) = Word::read(message).filter(|word| usize::from(word.from) < COORDINATORS) {
                         self.heard.words.insert(word.from, (message.to_vec(), now));
                     }
                 }
                 Some((&HEARTBEAT, ids)) => {
                     let mut ids = ids.chunks_exact(5).filter_map(Id::read);
-                    if let Some(id) = ids.next().filter(|id| id.index < self.config.hosts) {
+                    if let Some(id) = ids.next().filter(|id| usize::from(id.index) < COORDINATORS) {
                         self.heard.listening.hear(connection, id, now);
                         self.heard.waits.insert(id.index, (id, ids.collect(), now));
                     }

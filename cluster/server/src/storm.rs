@@ -21,7 +21,7 @@ mod stores;
 
 use crate::client::{Client, Error, Refusal, Target};
 use crate::dice::Dice;
-use crate::faults::{FULL, NEARLY_FULL, Wrong};
+use crate::faults::{FULL, NEARLY_FULL, Wrong, bit};
 use crate::options::Options;
 use crate::protocol::Op;
 use crate::secret::{OPERATOR, Secret};
@@ -212,8 +212,7 @@ fn target(options: &Options) -> Result<Target, String> {
         port: options.between("--port", 7600, 1, u16::MAX - 30)?,
         hosts: 4,
         coordinators: options.between("--coordinators", 1, 1, 3)?,
-        listed: Vec::new(),
-        secret: None,
+        ..Target::default()
     })
 }
 
@@ -329,6 +328,11 @@ impl Storm {
 
     fn say(&self, what: &str) {
         say!("{:6} ms: {what}", self.began.elapsed().as_millis());
+    }
+
+    /// The place that processes know whoever has this one here by.
+    fn seat(&self, place: usize) -> usize {
+        usize::from(self.cluster.target.seat(place as u8))
     }
 
     fn coordinator(&self) -> usize {
@@ -557,9 +561,9 @@ impl Storm {
             "{one} sends nothing to {other}{} for {pause} ms",
             if both { ", nor that to it," } else { "" }
         ));
-        self.ask(one, Wrong::Deaf(1 << other));
+        self.ask(one, Wrong::Deaf(bit(self.seat(other))));
         if both {
-            self.ask(other, Wrong::Deaf(1 << one));
+            self.ask(other, Wrong::Deaf(bit(self.seat(one))));
         }
         thread::sleep(Duration::from_millis(pause));
         [one, other].into_iter().for_each(|place| self.ask(place, Wrong::Deaf(0)));

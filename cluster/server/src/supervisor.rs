@@ -3,6 +3,7 @@
 use crate::addresses::{self, Listed};
 use crate::client::Target;
 use crate::core::{Config, tell};
+use crate::members::Members;
 use crate::metrics;
 use crate::options::Options;
 use crate::secret::{self, CLIENTS, OPERATOR, PEERS, SecretFile, Secrets};
@@ -13,6 +14,7 @@ use std::ffi::OsString;
 use std::fs::{File, TryLockError};
 use std::io::{ErrorKind, Read, Seek, SeekFrom};
 use std::net::TcpListener;
+use std::ops::Range;
 use std::path::{Path, PathBuf};
 use std::process::{Child, Command, ExitStatus, Stdio};
 use std::thread;
@@ -47,6 +49,7 @@ pub fn serve(options: &Options) -> Result<(), String> {
     for file in config.secrets.open_files() {
         tell(format_args!("{} can be read by others than who runs this: `chmod 600` ends that", file.path().display()));
     }
+    config.members.watch();
     if options.has("--supervised") {
         thread::spawn(|| {
             let mut input = std::io::stdin();
@@ -84,21 +87,18 @@ pub fn config(
     index: Option<u8>,
     secrets: Secrets,
 ) -> Result<Config, String> {
-    let Target { address, port, hosts, coordinators, listed, .. } = target;
+    let Target { hosts, coordinators, .. } = target;
     let store = store(options)?;
     if store.is_empty() && coordinators != 1 && index.is_none() {
         return Err("several coordinators have their journal in etcd: --store etcd=URL,.. says where that is".into());
     }
     Ok(Config {
         index,
-        hosts,
-        address,
-        port,
+        members: Members::new(target),
         coordinators,
         coordinator: options.between("--coordinator", 0, 0, coordinators - 1)?,
         store,
         store_name: String::new(),
-        listed,
         listen: options.given("--listen").map(String::from),
         folder,
         secrets,
@@ -120,7 +120,7 @@ pub fn config(
 }
 
 /// The file of a cluster's folder that says who listens where.
-const CLUSTER: &str = "cluster";
+pub const CLUSTER: &str = "cluster";
 
 /// Who has to prove what in a cluster of processes on this machine.
 #[derive(Clone, Copy, Debug, PartialEq, Eq)]
@@ -146,6 +146,23 @@ impl Safety {
             }
         }
     }
+}
+
+/// The cluster of this file, where it was made for the same first port and address: hosts may have come and gone since.
+/// Else the file is made anew.
+fn listed_in(file: &Path, target: Target) -> std::io::Result<Target> {
+    let first = format!("# {}\n", target.at(0));
+    let text = std::fs::read_to_string(file).unwrap_or_default();
+    let kept = Target::of_file(file).ok().filter(|kept| {
+        text.starts_with(&first) && kept.hosts == target.hosts && kept.coordinators == target.coordinators
+    });
+    if let Some(kept) = kept {
+        return Ok(kept);
+    }
+    let all: Vec<String> = (0..target.places()).map(|place| target.at(place)).collect();
+    let listed = Listed { all, coordinators: target.coordinators, ..Listed::default() };
+    disk::write_whole(file, (first + &addresses::file_of(&listed)).as_bytes())?;
+    Ok(target)
 }
 
 /// A cluster of processes on this machine.
@@ -182,12 +199,34 @@ impl Cluster {
             Safety::None | Safety::Peers => target,
             Safety::All => target.with_secret(SecretFile::new(folder.join(CLIENTS))),
         };
-        let all: Vec<String> = (0..target.places()).map(|place| target.at(place)).collect();
-        let listed = Listed { all, coordinators: target.coordinators };
-        disk::write_whole(&folder.join(CLUSTER), addresses::file_of(&listed).as_bytes()).map_err(told)?;
+        let target = listed_in(&folder.join(CLUSTER), target).map_err(told)?;
         let program = std::env::current_exe().map_err(told)?;
         let children = (0..target.places()).map(|_| None).collect();
         Ok(Cluster { target, folder, safety, program, more, own: BTreeMap::new(), children, _lock: lock })
+    }
+
+    /// Takes what the folder's file says now. Gives the places of hosts that have come.
+    pub fn follow(&mut self) -> Range<usize> {
+        let before = usize::from(self.target.hosts);
+        let file = self.folder.join(CLUSTER);
+        let secret = self.target.secret.clone();
+        if let Ok(later) = Target::of_file(&file)
+            && self.target.hosts <= later.hosts
+            && self.target.coordinators == later.coordinators
+        {
+            self.target = Target { secret, ..later };
+        }
+        let came = before..usize::from(self.target.hosts);
+        came.clone().for_each(|place| self.children.insert(place, None));
+        let own = std::mem::take(&mut self.own).into_iter();
+        self.own =
+            own.map(|(place, words)| (if before <= place { place + came.len() } else { place }, words)).collect();
+        came
+    }
+
+    /// Whether the host of this place has left.
+    pub fn is_gone(&self, place: usize) -> bool {
+        u8::try_from(place).is_ok_and(|place| self.target.is_gone(place))
     }
 
     /// How many processes it has: the hosts, and the coordinators, which have the last places.
@@ -202,14 +241,14 @@ impl Cluster {
 
     /// The folder of a node.
     pub fn folder(&self, place: usize) -> PathBuf {
-        let name = metrics::label(place, self.target.hosts);
+        let name = metrics::label(place, usize::from(self.target.hosts));
         self.folder.join(if place < usize::from(self.target.hosts) { format!("host{name}") } else { name })
     }
 
     /// Tries whether all ports are free. Processes that end just now are waited for.
     pub fn try_ports(&self) -> Result<(), String> {
         let end = Instant::now() + Duration::from_secs(2);
-        for place in 0..self.target.places() {
+        for place in (0..self.target.places()).filter(|place| !self.target.is_gone(*place)) {
             let at = self.target.at(place);
             while let Err(error) = TcpListener::bind(&at) {
                 let is_used = error.kind() == ErrorKind::AddrInUse;
@@ -275,7 +314,8 @@ impl Cluster {
 
     /// Starts all.
     pub fn start_all(&mut self) -> Result<(), String> {
-        (0..self.places()).rev().try_for_each(|place| self.start(place))
+        let there: Vec<usize> = (0..self.places()).rev().filter(|place| !self.is_gone(*place)).collect();
+        there.into_iter().try_for_each(|place| self.start(place))
     }
 
     /// Those whose process has ended, with how.

@@ -68,7 +68,7 @@ fn kept_options(folder: &Path) -> Result<Options, String> {
 fn keep_options(folder: &Path, kept: &Options, config: &Config) -> Result<(), String> {
     let factor = kept.get("--factor", config.factor)?;
     let segment = kept.get("--segment", config.segment)?;
-    let text = format!("--hosts {}\n--factor {factor}\n--segment {segment}\n", config.hosts);
+    let text = format!("--hosts {}\n--factor {factor}\n--segment {segment}\n", config.members.hosts());
     let file = folder.join(KEPT_IN);
     if fs::read_to_string(&file).is_ok_and(|kept| kept == text) {
         return Ok(());
@@ -115,7 +115,7 @@ pub fn up(options: &Options) -> Result<(), String> {
     cluster.try_ports()?;
     keep_options(&folder, &kept, &config)?;
     cluster.start_all()?;
-    (0..cluster.places()).for_each(|place| show_process(&cluster, place));
+    (0..cluster.places()).filter(|place| !cluster.is_gone(*place)).for_each(|place| show_process(&cluster, place));
     Keeper::new(cluster).keep()
 }
 
@@ -139,6 +139,7 @@ impl Keeper {
         let mut rolling = Rolling::of(self.cluster.whole_folder());
         loop {
             thread::sleep(LOOK);
+            self.follow();
             self.take_ended();
             self.start_due();
             rolling.go_on(&mut self);
@@ -150,8 +151,31 @@ impl Keeper {
         }
     }
 
+    /// Starts hosts that have come, and ends those that have left, as the folder's file says.
+    fn follow(&mut self) {
+        let came = self.cluster.follow();
+        if !came.is_empty() {
+            let hosts = came.end;
+            let kept = fs::read_to_string(self.cluster.whole_folder().join(KEPT_IN)).unwrap_or_default();
+            let lines = kept.lines().filter(|line| !line.starts_with("--hosts ")).map(|line| format!("{line}\n"));
+            let text = format!("--hosts {hosts}\n") + &lines.collect::<String>();
+            if let Err(error) = disk::write_whole(&self.cluster.whole_folder().join(KEPT_IN), text.as_bytes()) {
+                say!("how many hosts there are can't be kept: {error}");
+            }
+        }
+        for place in came {
+            self.restarts.insert(place, Restarts::new(Instant::now()));
+            self.start(place);
+        }
+        let gone: Vec<usize> = (0..self.cluster.places()).filter(|place| self.cluster.is_gone(*place)).collect();
+        gone.into_iter().for_each(|place| self.cluster.kill(place));
+    }
+
     fn take_ended(&mut self) {
         for (place, status) in self.cluster.ended() {
+            if self.cluster.is_gone(place) {
+                continue;
+            }
             let (folder, last) = (self.cluster.folder(place), self.cluster.last_line(place));
             let again = match self.restarts[place].ended(status.code(), &folder, Instant::now()) {
                 Some(pause) => format!("is started again in {} ms", pause.as_millis()),
@@ -163,7 +187,8 @@ impl Keeper {
 
     fn start_due(&mut self) {
         for place in 0..self.cluster.places() {
-            if self.restarts[place].is_due(&self.cluster.folder(place), Instant::now()) {
+            if !self.cluster.is_gone(place) && self.restarts[place].is_due(&self.cluster.folder(place), Instant::now())
+            {
                 self.start(place);
             }
         }
