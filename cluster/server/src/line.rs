@@ -1,4 +1,5 @@
-//! A connection as who reads it has it: up to a time, while its other side has not proved itself; and what it says first.
+//! A connection as who reads it has it: up to a time, while its other side has not proved itself; and what that says
+//! first.
 
 use crate::hello::{NotLetIn, Refused, Role};
 use sevunthi_client::Channel;
