@@ -5,7 +5,7 @@ use crate::bytes::framed;
 use crate::channel::Channel;
 use crate::connection::Connection;
 use crate::dial::{CONNECTING, connect, dial};
-use crate::error::{Error, Found, Missing};
+use crate::error::{Error, Found, Lost, Missing};
 use crate::hello::{self, Hello, NotLetIn, Refused, Role};
 use crate::protocol::{
     ANY_HOST, DONE, IN_CLEAR, MISMATCH, MISMATCH_NO_VALUE, MOST_VALUE, NO_HINT, NO_VALUE, NOT_LEADING, Op, Reply,
@@ -479,27 +479,6 @@ impl Client {
         let reply = exchange(&mut channel, &bytes, self.number, self.wait).map_err(|_| Lost::After)?;
         self.connections.insert(place, channel);
         Ok(reply)
-    }
-}
-
-/// When an answer was lost: before the request was sent, or after.
-#[derive(Clone, Copy, Debug, PartialEq, Eq)]
-pub enum Lost {
-    /// It was not sent.
-    Before,
-    /// It was sent.
-    After,
-    /// It was not sent: the other side does not let this one in, or is not believed.
-    NotLetIn(NotLetIn),
-}
-
-impl Lost {
-    /// What came of connecting.
-    fn of(refused: &Refused) -> Lost {
-        match refused {
-            Refused::Broken(_) => Lost::Before,
-            Refused::NotLetIn(why) => Lost::NotLetIn(*why),
-        }
     }
 }
 

@@ -1,6 +1,6 @@
 //! What has become of a request that was not done, or of which nobody knows.
 
-use crate::hello::NotLetIn;
+use crate::hello::{NotLetIn, Refused};
 use crate::refusal::Refusal;
 use std::fmt::{self, Display, Formatter};
 
@@ -65,6 +65,27 @@ impl Missing {
             | Missing::Table
             | Missing::NotLetIn(..) => true,
             Missing::Coordinator | Missing::Leader | Missing::Owner | Missing::Host(_) => false,
+        }
+    }
+}
+
+/// When an answer was lost: before the request was sent, or after.
+#[derive(Clone, Copy, Debug, PartialEq, Eq)]
+pub enum Lost {
+    /// It was not sent.
+    Before,
+    /// It was sent.
+    After,
+    /// It was not sent: the other side does not let this one in, or is not believed.
+    NotLetIn(NotLetIn),
+}
+
+impl Lost {
+    /// What came of connecting.
+    pub(crate) fn of(refused: &Refused) -> Lost {
+        match refused {
+            Refused::Broken(_) => Lost::Before,
+            Refused::NotLetIn(why) => Lost::NotLetIn(*why),
         }
     }
 }

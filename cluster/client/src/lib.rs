@@ -48,9 +48,9 @@ mod target;
 
 pub use bytes::framed;
 pub use channel::Channel;
-pub use client::{Client, Lost, STANDS_BY};
+pub use client::{Client, STANDS_BY};
 pub use connection::{Answer, Connection};
-pub use error::{Error, Found, Missing};
+pub use error::{Error, Found, Lost, Missing};
 pub use hello::NotLetIn;
 pub use refusal::Refusal;
 pub use secret::{Secret, SecretFile};

@@ -1,4 +1,4 @@
-//! A connection as who reads it has it: up to a time, while its other side has not proved itself; and what it says
+//! A connection as who reads it has it: up to a time, while its other side has not proved itself; and what that says
 //! first.
 
 use sevunthi_client::Channel;

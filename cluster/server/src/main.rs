@@ -107,9 +107,9 @@ const USAGE: &str = "usage: sevunthi COMMAND ..
       --coordinator 0 (which of several it is)
   help, version           this text, and which program it is
 Clients take --client-secret FILE, else that of SEVUNTHI_CLIENT_SECRET, where clients have to prove themselves.
-All but trace, storm, restart and move take --address 127.0.0.1, --port 7300, the port of host 0, --hosts 4, and
---coordinators 1, of which one leads: clients those of `up`. All but these and up take --cluster FILE in their place: its
-lines have a host's index, or `coordinator`, and where it listens, as in `0 10.0.0.1:7300`. An option's value may also
+All but trace, storm, restart, add, leave and move take --address 127.0.0.1, --port 7300, the port of host 0, --hosts 4,
+and --coordinators 1, of which one leads: clients those of `up`. All but these and up take --cluster FILE in their place:
+its lines have a host's index, or `coordinator`, and where it listens, as in `0 10.0.0.1:7300`. An option's value may also
 stand behind a sign, as in --port=7300.";
 
 fn main() -> ExitCode {

@@ -1,5 +1,5 @@
-//! Who is of the cluster, and where each listens. The file that says so is read again when it is another: hosts come, and
-//! leave, while the cluster runs.
+//! Who is of the cluster, and where each listens. The file that says so is read again when it is another: hosts come,
+//! and leave, while the cluster runs.
 
 use crate::client::Target;
 use crate::core::tell;

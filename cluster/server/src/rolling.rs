@@ -102,8 +102,8 @@ impl Rolling {
 
     /// Restarts the next one, where it is time for that.
     pub fn go_on(&mut self, keeper: &mut Keeper) {
-        let (places, hosts) = (keeper.cluster.places(), usize::from(keeper.cluster.target.hosts));
-        let there: VecDeque<usize> = (0..places).filter(|place| !keeper.cluster.is_gone(*place)).collect();
+        let hosts = usize::from(keeper.cluster.target.hosts);
+        let there: VecDeque<usize> = keeper.cluster.there().collect();
         let wanted = there.iter().filter(|place| **place < hosts).count();
         let Some(rest) = &mut self.rest else {
             if self.folder.join(ASKED).exists() {
@@ -131,12 +131,8 @@ impl Rolling {
         match rest.pop_front() {
             None => self.end(DONE),
             Some(place) => {
-                let name = match place.checked_sub(hosts) {
-                    None => format!("host {place}"),
-                    Some(0) => "the coordinator".to_string(),
-                    Some(number) => format!("coordinator {number}"),
-                };
-                self.last = Last { when: now, before: up_server(&status, place), what: name };
+                let what = name_of(place, hosts);
+                self.last = Last { when: now, before: up_server(&status, place), what };
                 self.well_since = None;
                 self.say(&format!("{} begins anew", self.last.what));
                 keeper.restart(place);
@@ -148,6 +144,15 @@ impl Rolling {
         self.rest = None;
         self.say(&what.replace('\n', "; "));
         let _ = fs::remove_file(self.folder.join(ASKED));
+    }
+}
+
+/// Who has this place, where there are so many hosts.
+fn name_of(place: usize, hosts: usize) -> String {
+    match place.checked_sub(hosts) {
+        None => format!("host {place}"),
+        Some(0) => "the coordinator".to_string(),
+        Some(number) => format!("coordinator {number}"),
     }
 }
 

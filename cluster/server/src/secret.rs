@@ -123,9 +123,7 @@ mod tests {
         assert_eq!(of("--insecure --secret FILE"), Ok(Secrets::default()));
         assert_eq!(of("--folder x"), Err("--secret is missing".to_string()));
         assert_eq!(of("--insecure --client-secret FILE"), Err("--insecure is without --client-secret".to_string()));
-        assert!(
-            of("--secret FILE --operator FILE.no").is_err_and(|why| why.contains("FILE.no: ") || why.contains(".no: "))
-        );
+        assert!(of("--secret FILE --operator FILE.no").is_err_and(|why| why.contains(".no: ")));
         fs::remove_file(&file).map_err(|error| error.to_string())
     }
 

@@ -229,6 +229,11 @@ impl Cluster {
         u8::try_from(place).is_ok_and(|place| self.target.is_gone(place))
     }
 
+    /// The places of those that are there.
+    pub fn there(&self) -> impl DoubleEndedIterator<Item = usize> {
+        (0..self.places()).filter(|place| !self.is_gone(*place))
+    }
+
     /// How many processes it has: the hosts, and the coordinators, which have the last places.
     pub fn places(&self) -> usize {
         self.children.len()
@@ -248,8 +253,8 @@ impl Cluster {
     /// Tries whether all ports are free. Processes that end just now are waited for.
     pub fn try_ports(&self) -> Result<(), String> {
         let end = Instant::now() + Duration::from_secs(2);
-        for place in (0..self.target.places()).filter(|place| !self.target.is_gone(*place)) {
-            let at = self.target.at(place);
+        for place in self.there() {
+            let at = self.target.at(place as u8);
             while let Err(error) = TcpListener::bind(&at) {
                 let is_used = error.kind() == ErrorKind::AddrInUse;
                 if !is_used || end < Instant::now() {
@@ -314,8 +319,8 @@ impl Cluster {
 
     /// Starts all.
     pub fn start_all(&mut self) -> Result<(), String> {
-        let there: Vec<usize> = (0..self.places()).rev().filter(|place| !self.is_gone(*place)).collect();
-        there.into_iter().try_for_each(|place| self.start(place))
+        let there: Vec<usize> = self.there().collect();
+        there.into_iter().rev().try_for_each(|place| self.start(place))
     }
 
     /// Those whose process has ended, with how.
