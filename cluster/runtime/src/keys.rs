@@ -25,10 +25,11 @@ fn points(body: &[u8]) -> impl Iterator<Item = (u32, u64)> {
     (0..count).map_while(move |_| {
         // term, table, key, version, and the value: a byte, and where that is not 0 its length and bytes
         let point = (u32_at(body, at + 4)?, u64_at(body, at + 8)?);
-        at += match body.get(at + 24)? {
+        let length = match body.get(at + 24)? {
             0 => 25,
-            _ => 33 + usize::try_from(u64_at(body, at + 25)?).ok()?,
+            _ => usize::try_from(u64_at(body, at + 25)?).ok()?.checked_add(33)?,
         };
+        at = at.checked_add(length).filter(|next| *next <= body.len())?;
         Some(point)
     })
 }
