@@ -18,7 +18,8 @@ import { Turns } from "./turns.mjs";
 import { scriptOf } from "./unscript.mjs";
 import { byId, isPartShown, parts, say, setAddress, showPart, shown, unpacked } from "./view.mjs";
 
-const FIRST_RULE = "stores_after_gather", MOST_UNDONE = 50, MOST_TEXT = 4_000_000, MOST_IN_LOG = 500, MOST_HINTS = 6;
+const FIRST_RULE = "stores_after_gather", MOST_UNDONE = 50, MOST_TEXT = 4_000_000, MOST_IN_LOG = 500,
+  MANY_MESSAGES = 20_000, MOST_HINTS = 6;
 // what is in each folder of examples
 const FOLDERS = { "": "The protocol", broken: "Where a broken rule shows", codes: "For each code of a refusal",
   hints: "Something may not have been meant", stuck: "What does not come back by itself", wrong: "Mistakes" };
@@ -38,10 +39,16 @@ async function run(note = "") {
     return;
   }
   const begun = performance.now();
-  await show(await asking.order("play", { text }, (report) => {
-    byId("report").textContent = report.told;
-    say(`${report.told.match(/^audit .*/m)?.[0] ?? ""}; the events are still read ..`);
-  }), text, note, begun);
+  await show(await asking.order("play", { text }, tellReport), text, note, begun);
+}
+
+// Tells the report of a long run, while its events are still read.
+function tellReport({ told: report }) {
+  const [, count] = report.match(/^messages (\d+)$/m) ?? [], [audit] = report.match(/^audit .*/m) ?? [];
+  if (Number(count) > MANY_MESSAGES) {
+    byId("report").textContent = report;
+    say(`${audit.replace("audit", "Audit")}; ${count} messages; its events are still read ..`, audit !== "audit clean");
+  }
 }
 
 async function show({ report, story, told, why, hints, scenario, lines, judged }, text, note, begun) {
