@@ -85,8 +85,10 @@ def held(value: Any) -> str:
 
 
 def pictures() -> str:
-    """The pictures of runs that were drawn before, for a browser that can't run the program."""
-    return "".join(f"<h2>{file.stem}</h2>{file.read_text()}" for file in sorted((TOP / "docs/pictures").glob("*.svg")))
+    """The pictures of runs that were drawn before, for a browser that can't run the program; the zombie's first."""
+    files = sorted((TOP / "docs/pictures").glob("*.svg"), key=lambda file: (file.stem != "zombie", file))
+    said = {name: f"{name}: {title}" for name, title in titles().items()}
+    return "".join(f"<h2>{said.get(file.stem, file.stem)}</h2>{file.read_text()}" for file in files)
 
 
 def packed(content: bytes) -> str:
