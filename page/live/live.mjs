@@ -24,8 +24,8 @@ const FIRST_RULE = "stores_after_gather", MOST_UNDONE = 50, MOST_TEXT = 4_000_00
 const FOLDERS = { "": "The protocol", broken: "Where a broken rule shows", codes: "For each code of a refusal",
   hints: "Something may not have been meant", stuck: "What does not come back by itself", wrong: "Mistakes" };
 const undone = [], broken = {};
-// the story that is to be drawn, and what was not made of it yet
-const stale = { told: "", isLogStale: false, logFrom: 0, isDrawnStale: false };
+// the story that is to be drawn, what was not made of it yet, and the cards that are shown
+const stale = { told: "", isLogStale: false, logFrom: 0, isDrawnStale: false, cards: [] };
 const turns = new Turns((isBusy) => {
   byId("stop").hidden = !isBusy;
 }, (error) => say(`The program did not end: ${error.message}`, true));
@@ -127,7 +127,7 @@ function choose(event, isTold = true) {
   byId("slide").value = Math.max(0, shown.event);
   if (shown.event < 0) {
     byId("says").textContent = "There is no event.";
-    byId("cards").innerHTML = "";
+    showCards([]);
     return;
   }
   byId("says").innerHTML = saysOf(played, shown.event);
@@ -147,13 +147,22 @@ function choose(event, isTold = true) {
 // The picture may still be that of another run: it follows if it is of this one.
 const tellPicture = () => byId("drawn").contentWindow?.postMessage({ choose: shown.event, run: shown.number }, "*");
 
-// Shows other cards, with the focus where it was.
+// Shows other cards, with the focus where it was. Those that say the same stay.
 function showCards(made) {
-  const { node, message } = document.activeElement?.closest("#cards button")?.dataset ?? {};
-  byId("cards").innerHTML = made;
+  const { node, message } = document.activeElement?.closest("#cards button")?.dataset ?? {}, all = byId("cards");
+  if (all.children.length === made.length) {
+    made.forEach((card, at) => {
+      if (card !== stale.cards[at]) {
+        all.children[at].outerHTML = card;
+      }
+    });
+  } else {
+    all.innerHTML = made.join("");
+  }
+  stale.cards = made;
   const again = message === undefined ? node && `button[data-node="${node}"]` : `button[data-message="${message}"]`;
   if (again) {
-    byId("cards").querySelector(again)?.focus();
+    all.querySelector(again)?.focus();
   }
 }
 
