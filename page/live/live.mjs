@@ -86,8 +86,8 @@ function fillLog() {
   const { run: played, event } = shown, log = byId("log"), last = played.events.length;
   if (stale.isLogStale || event < stale.logFrom || event >= stale.logFrom + MOST_IN_LOG) {
     const from = Math.max(0, Math.min(event - MOST_IN_LOG / 2, last - MOST_IN_LOG)), until = from + MOST_IN_LOG;
-    const more = last > MOST_IN_LOG ? `<p>Events ${from} to ${until - 1} of ${last}: the others are shown where the cursor is.</p>` : "";
-    log.innerHTML = `<div>${logOf(played, from, until)}</div>${more}`;
+    const more = `<p>Events ${from} to ${until - 1} of ${last}: the others are shown where the cursor is.</p>`;
+    log.innerHTML = `<div>${logOf(played, from, until)}</div>${last > MOST_IN_LOG ? more : ""}`;
     Object.assign(stale, { isLogStale: false, logFrom: from });
   }
   log.querySelector(".at")?.classList.remove("at");
