@@ -90,8 +90,7 @@ function head(fromX, fromY, toX, toY, hollow) {
 }
 
 function shaped(message, shape) {
-  const tones = `message ${toneOf(message)}${message.lost ? " lost" : ""}` +
-    (chosen.message === message.n ? " chosen" : "");
+  const tones = `message ${toneOf(message)}${message.lost ? " lost" : ""}`;
   return `<g class="${tones}" data-message="${message.n}" tabindex="0" role="button" ` +
     `aria-label="${escaped(messageLine(message))}">${shape}</g>`;
 }
@@ -323,17 +322,40 @@ function reach() {
     Math.min(shown.length - 1, Math.ceil((begin + tall - TOP) / ROW) + 1)];
 }
 
+// What the picture is drawn of, save what is chosen in it.
+let drawn = "";
+
+// Marks what is chosen, in the picture as it stands.
+function highlight() {
+  const row = picture.querySelector(".row");
+  row.setAttribute("y", chosen.event < 0 ? -ROW : y(chosen.event) - ROW / 2);
+  row.setAttribute("width", full);
+  for (const group of picture.querySelectorAll(".message.chosen")) {
+    group.classList.remove("chosen");
+  }
+  for (const group of picture.querySelectorAll(`[data-message="${chosen.message}"]`)) {
+    group.classList.add("chosen");
+  }
+}
+
 function draw() {
-  const [first, last] = reach();
+  const [first, last] = reach(), { event, message, ...filters } = chosen;
+  const now = JSON.stringify([first, last, begin, tall, aside, view.clientWidth, filters]);
+  if (now !== drawn) {
+    drawRows(first, last);
+    drawn = now;
+  }
+  highlight();
+  heads();
+}
+
+function drawRows(first, last) {
   folded = spread(shown.length ? shown[Math.min(first, last)].event : 0, shown.length ? shown[last].event : 0);
   const focused = document.activeElement && document.activeElement.dataset.message;
   const parts = [], layers = { arrows: [], words: [] };
   parts.push(PATTERNS);
   lifelines(parts);
-  const row = rowOf[chosen.event];
-  if (chosen.event >= 0 && row >= first && row <= last) {
-    parts.push(`<rect class="row" width="${full}" height="${ROW}" y="${yOf(row) - ROW / 2}"/>`);
-  }
+  parts.push(`<rect class="row" height="${ROW}"/>`);
   copies(parts);
   ownings(parts);
   arrows(first, last, layers);
@@ -349,7 +371,6 @@ function draw() {
   picture.setAttribute("width", full);
   picture.setAttribute("height", tall);
   picture.innerHTML = parts.join("");
-  heads();
   const again = focused && picture.querySelector(`[data-message="${focused}"]`);
   if (again) {
     again.focus({ preventScroll: true });

@@ -100,9 +100,9 @@ function coordinatorCard(run, world, isActing, waiting) {
 // The node at which an event happens: of a delivery the addressee.
 export const actorOf = (run, event) => run.events[event].e === "deliver" ? run.messages[run.events[event].n].to : null;
 
-// The cards of all nodes whose host has no newer server, after an event.
+// The cards of all nodes whose host has no newer server, after an event, the coordinator's first.
 export function cards(run, states, event, actor) {
   const world = states.at(event), newest = [...world.running.values()].map((name) => world.nodes.get(name));
-  return coordinatorCard(run, world, actor === "c", states.waiting("c", event)) + newest.map((node) =>
-    serverCard(run, world, node, actor === node.id, states.waiting(node.id, event))).join("");
+  return [coordinatorCard(run, world, actor === "c", states.waiting("c", event)), ...newest.map((node) =>
+    serverCard(run, world, node, actor === node.id, states.waiting(node.id, event)))];
 }

@@ -33,8 +33,9 @@ function keyPart(key, operations, { first, last }, refuting) {
   const rowOf = new Map(operations.map((one, place) => [one, place * row + down]));
   const bars = operations.map((one) => {
     const kinds = `bar ${one.f}${one.isOpen ? " open" : ""}${isRefutedBy(refuting)(one) ? " refutes" : ""}`;
-    return `<text x="${put.x}" y="${rowOf.get(one) - put.up}" text-anchor="${put.anchor}">${safe(labelOf(one))}</text>` +
-      `<rect class="${kinds}" x="${x(one.from)}" y="${rowOf.get(one) - 7}" height="14" rx="3" ` +
+    const at = rowOf.get(one);
+    return `<text x="${put.x}" y="${at - put.up}" text-anchor="${put.anchor}">${safe(labelOf(one))}</text>` +
+      `<rect class="${kinds}" x="${x(one.from)}" y="${at - 7}" height="14" rx="3" ` +
       `width="${Math.max(4, x(one.until) - x(one.from))}"><title>${safe(labelOf(one))}, from time ${one.from} to ` +
       `${one.until}</title></rect>`;
   });
@@ -44,7 +45,8 @@ function keyPart(key, operations, { first, last }, refuting) {
     `<text x="${x(moment) + 6}" y="${rowOf.get(one) + 4}">${place + 1}</text>`);
   const told = order.map(({ one }, place) => `${place + 1}. ${labelOf(one)}`).join("; ");
   const drawn = `${bars.join("")}${line}${numbers.join("")}`, label = safe(`Operations of key ${key}, in order: ${told}`);
-  return `<h3>Key ${safe(key)}</h3><svg width="${wide}" height="${height}" role="img" aria-label="${label}">${drawn}</svg>`;
+  return `<h3>Key ${safe(key)}</h3>` +
+    `<svg width="${wide}" height="${height}" role="img" aria-label="${label}">${drawn}</svg>`;
 }
 
 // Shows a history with its verdict, or why there is none.

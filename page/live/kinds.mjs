@@ -8,8 +8,8 @@ function objectOf(text) {
   }
 }
 
-// A history of clients, as `history` prints one: its first line is an object of a process. A trace, as `trace` prints one:
-// an object with messages and no events. Else a scenario or a script.
+// A history of clients, as `history` prints one: its first line is an object of a process. A trace, as `trace` prints
+// one: an object with messages and no events. Else a scenario or a script.
 export function textKindOf(text) {
   const trimmed = text.trimStart();
   if (!trimmed.startsWith("{")) {

@@ -18,13 +18,14 @@ import { Turns } from "./turns.mjs";
 import { scriptOf } from "./unscript.mjs";
 import { byId, isPartShown, parts, say, setAddress, showPart, shown, unpacked } from "./view.mjs";
 
-const FIRST_RULE = "stores_after_gather", MOST_UNDONE = 50, MOST_TEXT = 4_000_000, MOST_IN_LOG = 500, MOST_HINTS = 6;
+const FIRST_RULE = "stores_after_gather", MOST_UNDONE = 50, MOST_TEXT = 4_000_000, MOST_IN_LOG = 500,
+  MANY_MESSAGES = 20_000, MOST_HINTS = 6;
 // what is in each folder of examples
 const FOLDERS = { "": "The protocol", broken: "Where a broken rule shows", codes: "For each code of a refusal",
   hints: "Something may not have been meant", stuck: "What does not come back by itself", wrong: "Mistakes" };
 const undone = [], broken = {};
-// the story that is to be drawn, and what was not made of it yet
-const stale = { told: "", isLogStale: false, logFrom: 0, isDrawnStale: false };
+// the story that is to be drawn, what was not made of it yet, and the cards that are shown
+const stale = { told: "", isLogStale: false, logFrom: 0, isDrawnStale: false, cards: [] };
 const turns = new Turns((isBusy) => {
   byId("stop").hidden = !isBusy;
 }, (error) => say(`The program did not end: ${error.message}`, true));
@@ -38,10 +39,16 @@ async function run(note = "") {
     return;
   }
   const begun = performance.now();
-  await show(await asking.order("play", { text }, (report) => {
-    byId("report").textContent = report.told;
-    say(`${report.told.match(/^audit .*/m)?.[0] ?? ""}; the events are still read ..`);
-  }), text, note, begun);
+  await show(await asking.order("play", { text }, tellReport), text, note, begun);
+}
+
+// Tells the report of a long run, while its events are still read.
+function tellReport({ told: report }) {
+  const [, count] = report.match(/^messages (\d+)$/m) ?? [], [audit] = report.match(/^audit .*/m) ?? [];
+  if (Number(count) > MANY_MESSAGES) {
+    byId("report").textContent = report;
+    say(`${audit.replace("audit", "Audit")}; ${count} messages; its events are still read ..`, audit !== "audit clean");
+  }
 }
 
 async function show({ report, story, told, why, hints, scenario, lines, judged }, text, note, begun) {
@@ -79,8 +86,8 @@ function fillLog() {
   const { run: played, event } = shown, log = byId("log"), last = played.events.length;
   if (stale.isLogStale || event < stale.logFrom || event >= stale.logFrom + MOST_IN_LOG) {
     const from = Math.max(0, Math.min(event - MOST_IN_LOG / 2, last - MOST_IN_LOG)), until = from + MOST_IN_LOG;
-    const more = last > MOST_IN_LOG ? `<p>Events ${from} to ${until - 1} of ${last}: the others are shown where the cursor is.</p>` : "";
-    log.innerHTML = `<div>${logOf(played, from, until)}</div>${more}`;
+    const more = `<p>Events ${from} to ${until - 1} of ${last}: the others are shown where the cursor is.</p>`;
+    log.innerHTML = `<div>${logOf(played, from, until)}</div>${last > MOST_IN_LOG ? more : ""}`;
     Object.assign(stale, { isLogStale: false, logFrom: from });
   }
   log.querySelector(".at")?.classList.remove("at");
@@ -120,7 +127,7 @@ function choose(event, isTold = true) {
   byId("slide").value = Math.max(0, shown.event);
   if (shown.event < 0) {
     byId("says").textContent = "There is no event.";
-    byId("cards").innerHTML = "";
+    showCards([]);
     return;
   }
   byId("says").innerHTML = saysOf(played, shown.event);
@@ -140,13 +147,22 @@ function choose(event, isTold = true) {
 // The picture may still be that of another run: it follows if it is of this one.
 const tellPicture = () => byId("drawn").contentWindow?.postMessage({ choose: shown.event, run: shown.number }, "*");
 
-// Shows other cards, with the focus where it was.
+// Shows other cards, with the focus where it was. Those that say the same stay.
 function showCards(made) {
-  const { node, message } = document.activeElement?.closest("#cards button")?.dataset ?? {};
-  byId("cards").innerHTML = made;
+  const { node, message } = document.activeElement?.closest("#cards button")?.dataset ?? {}, all = byId("cards");
+  if (all.children.length === made.length) {
+    made.forEach((card, at) => {
+      if (card !== stale.cards[at]) {
+        all.children[at].outerHTML = card;
+      }
+    });
+  } else {
+    all.innerHTML = made.join("");
+  }
+  stale.cards = made;
   const again = message === undefined ? node && `button[data-node="${node}"]` : `button[data-message="${message}"]`;
   if (again) {
-    byId("cards").querySelector(again)?.focus();
+    all.querySelector(again)?.focus();
   }
 }
 

@@ -18,7 +18,8 @@ export function logOf(played, from, until) {
   const sends = (number) => safe(shortened(`    ${messageText(number, played.messages[number])}`));
   return played.events.slice(from, until).map((event, at) => {
     const number = from + at, line = `event ${number} at ${event.place}: ${safe(whatOf(played, number))}`;
-    const more = [...event.sent.map(sends), ...event.phase === undefined ? [] : [`    ${event.master} is now ${event.phase}`]];
+    const becomes = event.phase === undefined ? [] : [`    ${event.master} is now ${event.phase}`];
+    const more = [...event.sent.map(sends), ...becomes];
     return `<div>${[`<a href="#event-${number}" data-event="${number}">${line}</a>`, ...more].join("\n")}</div>`;
   }).join("");
 }

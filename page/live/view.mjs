@@ -2,8 +2,8 @@
 export const byId = (id) => document.getElementById(id);
 export const parts = JSON.parse(byId("parts").textContent);
 
-// The run and its number, its states, the text that it is of, with the line of each event where that is a script; the event at the
-// cursor; who was picked; what can be done next; and a history that stands in the place of a scenario, with its verdict.
+// The run and its number, its states, the text that it is of, with the line of each event where that is a script; the
+// event at the cursor; who was picked; what can be done next; and a history in the place of a scenario, with its verdict.
 export const shown = { run: null, number: 0, states: null, text: "", scenario: "", lines: null, event: -1, node: null,
   message: null, choices: [], judged: null };
 

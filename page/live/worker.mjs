@@ -26,8 +26,8 @@ const answer = (words, text, rule = "") => ask(moduleOf(rule), words, encoded(te
 
 const waitingOf = (rule) => (text) => waitingIn(answer(["log", "--json"], text, rule));
 
-// What comes of a text, by what it is: of a history of clients the verdict, of a trace the audit, of a scenario or a script
-// its run. `tells` is given the report of a run before the rest is made.
+// What comes of a text, by what it is: of a history of clients the verdict, of a trace the audit, of a scenario or a
+// script its run. `tells` is given the report of a run before the rest is made.
 function answerTo(text, tells) {
   const kind = textKindOf(text);
   if (kind === "history") {
@@ -70,7 +70,8 @@ const lastLineOf = (text) => text.trim().split("\n").at(-1);
 
 // How `check` judges a history; where it can't, why.
 function judgedOf(history) {
-  const judged = answer(["check"], history), [, line] = `${judged.told}${judged.said}`.match(/^error F17 at (\d+)$/m) ?? [];
+  const judged = answer(["check"], history);
+  const [, line] = `${judged.told}${judged.said}`.match(/^error F17 at (\d+)$/m) ?? [];
   return line === undefined ? { history, verdict: lastLineOf(judged.told) } :
     { why: `line ${line} is none of a history, or does not fit the lines before it: ${history.split("\n")[line - 1]}` };
 }

@@ -65,6 +65,16 @@ class Browser:
         """What a script answers in the page."""
         return self._ask("POST", f"/session/{self.session}/execute/sync", {"script": script, "args": []})
 
+    def later(self, script):
+        """What a script gives to `done` in the page, which it may do later."""
+        self._ask("POST", f"/session/{self.session}/timeouts", {"script": ANSWERS_IN * 1000})
+        return self._ask("POST", f"/session/{self.session}/execute/async",
+                         {"script": f"const done = arguments[0];\n{script}", "args": []})
+
+    def devtool(self, command, **more):
+        """What a command of the browser's tools for developers answers."""
+        return self._ask("POST", f"/session/{self.session}/goog/cdp/execute", {"cmd": command, "params": more})
+
     def comes(self, condition, seconds=60):
         """Whether a condition comes to hold in the page."""
         end = time.monotonic() + seconds

@@ -31,8 +31,8 @@ def titles() -> dict[str, str]:
 
 
 def examples() -> dict[str, str]:
-    """The texts of all examples, by the names of their files: of a script where there is one, else of the scenario; those
-    first that have titles. One that is no UTF-8 can't stand in a text field."""
+    """The texts of all examples, by the names of their files: of a script where there is one, else of the scenario.
+    Those that have titles come first. One that is no UTF-8 can't stand in a text field."""
     found, told = {}, [*titles()]
     order = {name: place for place, name in enumerate(told)}
     for file in sorted((TOP / "examples").rglob("*.json"),
@@ -85,8 +85,10 @@ def held(value: Any) -> str:
 
 
 def pictures() -> str:
-    """The pictures of runs that were drawn before, for a browser that can't run the program."""
-    return "".join(f"<h2>{file.stem}</h2>{file.read_text()}" for file in sorted((TOP / "docs/pictures").glob("*.svg")))
+    """The pictures of runs that were drawn before, for a browser that can't run the program; the zombie's first."""
+    files = sorted((TOP / "docs/pictures").glob("*.svg"), key=lambda file: (file.stem != "zombie", file))
+    said = {name: f"{name}: {title}" for name, title in titles().items()}
+    return "".join(f"<h2>{said.get(file.stem, file.stem)}</h2>{file.read_text()}" for file in files)
 
 
 def packed(content: bytes) -> str:
@@ -100,8 +102,8 @@ def page(base: tuple[Path, bool], broken: dict[str, tuple[Path, bool]]) -> str:
     right = module.read_bytes()
     others = "\n".join(f'<script type="text/plain" class="broken" data-rule="{rule}">'
                        f"{packed(difference(right, file.read_bytes()))}</script>" for rule, (file, _) in broken.items())
-    parts = {"examples": examples(), "titles": titles(), "steps": steps(), "book": book(), "worker": bundle(LIVE, "worker.mjs"),
-             "frame": frame()}
+    parts = {"examples": examples(), "titles": titles(), "steps": steps(), "book": book(),
+             "worker": bundle(LIVE, "worker.mjs"), "frame": frame()}
     runs = packed(held(stored()).encode())
     return Template((LIVE / "live.html").read_text()).substitute(
         style=(TOP / "page/page.css").read_text() + (LIVE / "live.css").read_text(),

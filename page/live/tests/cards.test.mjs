@@ -15,7 +15,7 @@ const message = (kind, from, to, more = {}) => ({ kind, from, to, ...more });
 function cardsOf(events, messages, name, places) {
   const run = new Run({ events, messages, masters: [], replicas: [], audit: "clean", stopped: null });
   const states = new States(run), form = new RegExp(`<section [^>]*data-node="${name}">(.*?)</section>`);
-  return places.map((place) => cards(run, states, place, null).match(form)[1]);
+  return places.map((place) => cards(run, states, place, null).join("").match(form)[1]);
 }
 
 test("the coordinator's card has the rows of its list, and nobody before the first Enlist", () => {
