@@ -53,11 +53,8 @@ impl Sockets {
         thread::spawn(move || door.listen(&listener));
         let peers = (0_u8..).zip(addresses).map(|(to, address)| {
             let (sender, queue) = mpsc::sync_channel(QUEUE);
-            let dialer = Dialer {
-                address: *address,
-                hello: Hello { role: Role::Peer, from, to },
-                secret: secret.clone(),
-            };
+            let dialer =
+                Dialer { address: *address, hello: Hello { role: Role::Peer, from, to }, secret: secret.clone() };
             thread::spawn(move || dialer.pump(&queue));
             sender
         });

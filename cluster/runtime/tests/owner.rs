@@ -1,11 +1,12 @@
-//! An owner over nodes in one process: three hosts and a coordinator, whose messages are brought when a test says so.
+//! An owner over nodes in one process: four hosts and a coordinator, whose messages are brought when a test says so.
 
+use sevunthi::message;
 use sevunthi::{Address, Answer, Envelope, Fault, Id, Node, Ready, Shape, Work};
 use sevunthi_runtime::owner::{Condition, Entry, Ground, KEYS, Outcome, Owner, Page, What};
 use std::borrow::Cow;
 use std::collections::VecDeque;
 
-const HOSTS: u8 = 3;
+const HOSTS: u8 = 4;
 const TABLE: u32 = 7;
 
 /// All nodes, of which the host of index 0 is the owner's; and what has become of requests.
@@ -187,6 +188,33 @@ fn a_range_is_read_in_order_page_by_page() -> Result<(), Fault> {
     assert_eq!(world.done, [(9, Outcome::Refused(2))]);
     // what was deleted is no key any more
     assert_eq!(owner.keys_count(), 4);
+    Ok(())
+}
+
+#[test]
+fn what_a_recovery_brings_is_in_its_range() -> Result<(), Fault> {
+    let (mut world, mut owner) = (World::new()?, Owner::default());
+    owner.begin(&mut world, Id { index: 0, generation: 1 });
+    world.settle(&mut owner);
+    let (other, coordinator) = (Id { index: 1, generation: 1 }, usize::from(HOSTS));
+    world.nodes[coordinator].step(Work::Create { table: TABLE, owner: other })?;
+    world.settle(&mut owner);
+    // (as many as a segment takes)
+    for (key, value) in [(30, Some(&b"x"[..])), (20, Some(b"x")), (20, None), (10, Some(b"x"))] {
+        let mut code = Vec::new();
+        message::write(other, TABLE, 2 * key, value, &mut code);
+        world.nodes[1].deliver(&code)?;
+        world.settle(&mut owner);
+    }
+    assert_eq!((owner.ranges().count(), owner.keys_count()), (0, 0));
+    for work in [Work::Suspect(other), Work::Decide(other)] {
+        world.nodes[coordinator].step(work)?;
+        world.settle(&mut owner);
+    }
+    assert_eq!((owner.ranges().count(), owner.keys_count()), (1, 3));
+    let page = owner.entries(&mut world, TABLE, 0..=KEYS - 1, 9).map_err(|_| Fault::Refused)?;
+    assert_eq!(page.entries.iter().map(|entry| entry.key).collect::<Vec<_>>(), [10, 30]);
+    assert_eq!(page.next, None);
     Ok(())
 }
 
