@@ -4,7 +4,7 @@
  *   host put SECRET PORT KEY VALUE        writes a value of at most 64 bytes, and prints its version
  *   host get SECRET PORT KEY              reads it, confirmed
  *
- * SECRET is a file of 32 bytes or more that all have, and nobody else; the nodes listen at PORT and the ports behind it.
+ * SECRET is a file of 32 bytes or more that all have, and nobody else; nodes listen at PORT and the ports behind it.
  * Four hosts, each segment with its master and one replica: any host may be killed, and one at a time is no loss. It is
  * small, and no more than an example: datagrams have at most 60,000 bytes, so it serves as long as what one node says
  * about a log fits there; a journal is never made short (sevunthi_save does that); and nothing guards against an older
@@ -29,9 +29,9 @@
 
 enum { HOSTS = 4, TABLE = 1, SEGMENT = 64, MOST = 60000, SUM = 32, TICK = 100, SILENCE = 1000, LATER = 64, VALUE = 64 };
 
-/* What the first byte says of what is no message, which begins with 1: a heartbeat with an id; "begin anew", with an id; a
- * client's request, with a number and a key of eight bytes and perhaps a value; and the answer to it, with the number,
- * a version and a value. */
+/* What the first byte says of what is no message, which begins with 1: a heartbeat with an id; "begin anew", with an
+ * id; a client's request, with a number and a key of eight bytes and perhaps a value; and the answer to it, with the
+ * number, a version and a value. */
 enum { BEAT = 0, NOT_UP = 255, PUT = 'P', GET = 'G', DONE = 'D', REFUSED = 'R' };
 
 /* A client's request until the write at its place is acknowledged: of a get that is the write that confirms it. */
@@ -123,7 +123,8 @@ static void open_node(const char *path) {
   } else {
     if (safe != 0)
       fail("this node must not start: its journal is gone");
-    uint32_t made = place == HOSTS ? sevunthi_coordinator(&node) : sevunthi_host(&node, (uint8_t)place, 1, SEGMENT, true);
+    uint32_t made =
+        place == HOSTS ? sevunthi_coordinator(&node) : sevunthi_host(&node, (uint8_t)place, 1, SEGMENT, true);
     journal = openat(folder, "journal", O_RDWR | O_APPEND | O_CREAT, 0600);
     if (made != SEVUNTHI_DONE || journal < 0)
       fail("new node");
@@ -183,8 +184,8 @@ static void leave(request *found) {
   }
 }
 
-/* A client's request: of a key its node's is twice as great, and the last one of the range is this host's own. No answer
- * names its request: where the head has one entry more, that is the write. */
+/* A client's request: of a key its node's is twice as great, and the last one of the range is this host's own. No
+ * answer names its request: where the head has one entry more, that is the write. */
 static void ask(struct sockaddr_in client, const uint8_t *bytes, size_t length) {
   request asked = {.client = client, .length = 18, .answer = {DONE}};
   request *free_one = later;
@@ -239,7 +240,8 @@ static void take(struct sockaddr_in from, const uint8_t *bytes, size_t length) {
     ask(from, bytes, length);
   } else if (sevunthi_read_envelope(bytes, length, &envelope)) {
     int to = envelope.to.sort == SEVUNTHI_AT_SERVER ? envelope.to.id.index : HOSTS;
-    if (envelope.to.sort == SEVUNTHI_AT_OUTSIDE || to != place || sevunthi_deliver(&node, bytes, length) != SEVUNTHI_DONE)
+    if (envelope.to.sort == SEVUNTHI_AT_OUTSIDE || to != place ||
+        sevunthi_deliver(&node, bytes, length) != SEVUNTHI_DONE)
       return;
     if (sevunthi_read_granted(&envelope, &granted) && envelope.to.id.generation == server.generation) {
       has_range = true;
@@ -271,8 +273,8 @@ static void do_dues(uint64_t began) {
   }
   for (int list = 0; list < 2; list++)
     sevunthi_put_number(lists[list], counts[list], 8);
-  if (sevunthi_dues(&node, lists[0], (size_t)(ends[0] - lists[0]), lists[1], (size_t)(ends[1] - lists[1]), none, 8, rows,
-                    sizeof rows, &needed) == SEVUNTHI_DONE)
+  if (sevunthi_dues(&node, lists[0], (size_t)(ends[0] - lists[0]), lists[1], (size_t)(ends[1] - lists[1]), none, 8,
+                    rows, sizeof rows, &needed) == SEVUNTHI_DONE)
     for (size_t at_row = 0; at_row + 7 <= needed; at_row += 7) {
       sevunthi_id id = sevunthi_read_id(rows + at_row + 2);
       uint8_t not_up[6] = {NOT_UP};
@@ -373,6 +375,7 @@ int main(int count, char **words) {
     if (count == (strcmp(words[1], "put") == 0 ? 6 : 5))
       return call(words + 4, count == 6);
   }
-  fputs("usage: host node SECRET PORT INDEX FOLDER | host put SECRET PORT KEY VALUE | host get SECRET PORT KEY\n", stderr);
+  fputs("usage: host node SECRET PORT INDEX FOLDER | host put SECRET PORT KEY VALUE | host get SECRET PORT KEY\n",
+        stderr);
   return 2;
 }

@@ -109,7 +109,8 @@ static inline sevunthi_id sevunthi_read_id(const uint8_t *bytes) {
 
 /* The next of the messages that stand behind one another, each behind its length in four bytes, as sevunthi_leave gives
  * them. `*bytes` and `*length` are what is left behind it. */
-static inline bool sevunthi_next(const uint8_t **bytes, size_t *length, const uint8_t **message, size_t *message_length) {
+static inline bool sevunthi_next(const uint8_t **bytes, size_t *length, const uint8_t **message,
+                                 size_t *message_length) {
   if (*length < 4)
     return false;
   uint64_t count = sevunthi_number(*bytes, 4);
@@ -211,8 +212,8 @@ static inline size_t sevunthi_put_read(uint8_t *to, sevunthi_id server, uint32_t
 }
 
 /* A client's write, of 30 bytes and those of the value, 1,024 at most; null deletes. Deliver each at most once. */
-static inline size_t sevunthi_put_write(uint8_t *to, sevunthi_id server, uint32_t table, uint64_t key, const void *value,
-                                        size_t length) {
+static inline size_t sevunthi_put_write(uint8_t *to, sevunthi_id server, uint32_t table, uint64_t key,
+                                        const void *value, size_t length) {
   uint8_t *at = to + sevunthi_put_read(to, server, table, key);
   to[8] = SEVUNTHI_KIND_WRITE;
   *at++ = value != NULL;
