@@ -11,7 +11,7 @@ use crate::places::{Limits, Place, Places};
 use crate::protocol::{DONE, IN_CLEAR, Op, Reply, Request};
 use crate::secret::{Secrets, is_loopback};
 use crate::seldom::Seldom;
-use crate::wire::{MOST, Parted, parted, sound};
+use crate::wire::{MOST, Parted};
 use sevunthi::message::framed;
 use sevunthi_client::Channel;
 use sevunthi_client::security::Acceptor;
@@ -206,7 +206,7 @@ impl Door {
         }
         place.prove_peer();
         line.lift()?;
-        read_pieces(channel, MOST, |frames| give(&self.events, number, frames));
+        read_pieces(channel, MOST, |batches| give(&self.events, number, batches));
         self.events.send(Event::PeerDown(number));
         Ok(())
     }
@@ -350,14 +350,13 @@ impl<'a> Asker<'a> {
     }
 }
 
-/// Hands the frames of a batch over, of each part up to the first whose sum is wrong. Says whether somebody is there to
+/// Hands the frames of whole batches over, of each up to the first whose sum is wrong. Says whether somebody is there to
 /// take them.
-fn give(events: &EventSender, number: u64, frames: &[u8]) -> bool {
-    let Parted { roll, urgent, others, is_closing } = parted(frames);
+fn give(events: &EventSender, number: u64, batches: &[u8]) -> bool {
+    let mut parted = Parted::default();
+    framed(batches).for_each(|batch| parted.add(batch));
+    let Parted { roll, urgent, others, is_closing } = parted;
     let of_others = if is_closing { Event::Closing } else { Event::Peer };
     let parts = [(roll, Event::Roll as fn(u64, Vec<u8>) -> Event), (urgent, Event::Urgent), (others, of_others)];
-    parts.into_iter().all(|(mut part, event)| {
-        part.truncate(sound(&part).len());
-        part.is_empty() || events.send(event(number, part))
-    })
+    parts.into_iter().all(|(part, event)| part.is_empty() || events.send(event(number, part)))
 }

@@ -106,6 +106,8 @@ pub struct PeerWriter {
 #[derive(Default)]
 struct Link {
     open: Option<Channel<TcpStream>>,
+    /// The last batch, before it was sealed.
+    plain: Vec<u8>,
     batch: Vec<u8>,
     written: usize,
 }
@@ -166,8 +168,11 @@ impl Link {
     fn begin(&mut self, frames: &[u8]) {
         self.batch.clear();
         self.written = 0;
+        self.plain.clear();
+        self.plain.extend_from_slice(&(frames.len() as u32).to_le_bytes());
+        self.plain.extend_from_slice(frames);
         if let Some(open) = &self.open
-            && open.seal(frames, &mut self.batch).is_err()
+            && open.seal(&self.plain, &mut self.batch).is_err()
         {
             self.open = None;
         }
@@ -210,8 +215,10 @@ impl Link {
                 self.open = None;
             }
         }
-        self.batch.clear();
-        self.batch.shrink_to(LONG);
+        for room in [&mut self.plain, &mut self.batch] {
+            room.clear();
+            room.shrink_to(LONG);
+        }
         self.written = 0;
     }
 }
@@ -280,8 +287,8 @@ mod tests {
         line.lift()?;
         thread::sleep(Duration::from_millis(300));
         let mut clocks = Vec::new();
-        read_pieces(channel, MOST, |pieces| {
-            clocks.extend(frames(pieces).map(|(clock, _)| clock));
+        read_pieces(channel, MOST, |batches| {
+            clocks.extend(framed(batches).flat_map(frames).map(|(clock, _)| clock));
             clocks.len() < count
         });
         Ok(clocks)

@@ -1,9 +1,9 @@
-//! Frames: what peers say to one another, one behind the other. A frame is its length in four bytes, the sender's clock
-//! in eight, a message, and a sum over clock and message in four. Frames that are sent or come together are a batch.
+//! Frames and batches. A frame is its length in four bytes, the sender's clock in eight, a message, and a sum over clock
+//! and message in four. A batch is its length in four bytes, and frames: what a damaged frame spoils ends with it.
 
 use sevunthi::message::{Stored, framed, kind, kind_between, u32_at, u64_at};
 
-/// The longest frame; and so much may wait to be sent.
+/// The longest batch; and so much may wait to be sent.
 pub const MOST: usize = 256 << 20;
 
 /// The first byte of what is no message of the protocol: a heartbeat of a server, with its id, and whom it waits for.
@@ -55,7 +55,7 @@ pub fn frames(bytes: &[u8]) -> impl Iterator<Item = (u64, &[u8])> {
     framed(bytes).map_while(|frame| Some((u64_at(frame, 0)?, frame.get(8..frame.len().checked_sub(4)?)?)))
 }
 
-/// The frames of a batch, each kind in order.
+/// The frames of batches, each kind in order.
 #[derive(Default)]
 pub struct Parted {
     /// A Place, or a Stored of a replica that is new or closed: a roll waits for it. An owner takes no writes until its
@@ -69,29 +69,27 @@ pub struct Parted {
     pub is_closing: bool,
 }
 
-/// Takes the frames of a batch apart: those that need nothing that came before them, and all else.
-pub fn parted(bytes: &[u8]) -> Parted {
-    let mut parted = Parted::default();
-    let mut length = 0;
-    for frame in framed(bytes) {
-        let message = frame.get(8..).unwrap_or_default();
-        let to = match kind_between(message) {
-            Some(kind::PLACE) => &mut parted.roll,
-            Some(kind::STORED) => match Stored::read(message) {
-                Some(Stored { length: 1.., is_closed: false, .. }) | None => &mut parted.urgent,
-                Some(_) => &mut parted.roll,
-            },
-            other => {
-                parted.is_closing |= other == Some(kind::CLOSE);
-                &mut parted.others
-            }
-        };
-        to.extend_from_slice(&(frame.len() as u32).to_le_bytes());
-        to.extend_from_slice(frame);
-        length += 4 + frame.len();
+impl Parted {
+    /// Takes the frames of a batch apart, up to the first that is not sound: those that need nothing that came before
+    /// them, and all else.
+    pub fn add(&mut self, batch: &[u8]) {
+        for frame in framed(sound(batch)) {
+            let message = frame.get(8..).unwrap_or_default();
+            let to = match kind_between(message) {
+                Some(kind::PLACE) => &mut self.roll,
+                Some(kind::STORED) => match Stored::read(message) {
+                    Some(Stored { length: 1.., is_closed: false, .. }) | None => &mut self.urgent,
+                    Some(_) => &mut self.roll,
+                },
+                other => {
+                    self.is_closing |= other == Some(kind::CLOSE);
+                    &mut self.others
+                }
+            };
+            to.extend_from_slice(&(frame.len() as u32).to_le_bytes());
+            to.extend_from_slice(frame);
+        }
     }
-    parted.others.extend_from_slice(&bytes[length..]);
-    parted
 }
 
 /// Whether a frame has a Place.
@@ -120,15 +118,23 @@ mod tests {
         };
         let (urgent, close) = (stored(9, 0), message(kind::CLOSE, b"c"));
         let mixed = put_all(&[&rest[0], &of_roll[0], &urgent, &rest[1], &of_roll[1], &of_roll[2], &rest[2]]);
+        let parted = |batches: &[&[u8]]| {
+            let mut parted = Parted::default();
+            batches.iter().for_each(|batch| parted.add(batch));
+            parted
+        };
         for end in [&b""[..], b"no frame"] {
-            let parts = parted(&[&mixed, end].concat());
+            let parts = parted(&[&[&mixed, end].concat()]);
             assert_eq!(parts.roll, put_all(&of_roll.each_ref()));
             assert_eq!(parts.urgent, put_all(&[&urgent]));
-            assert_eq!(parts.others, [&put_all(&rest.each_ref()), end].concat());
+            assert_eq!(parts.others, put_all(&rest.each_ref()));
             assert!(!parts.is_closing);
         }
         let closing = put_all(&[&rest[0], &close]);
-        let parts = parted(&closing);
+        // what a batch ends with is lost, and nothing of the next one
+        let parts = parted(&[&closing[..closing.len() - 1], &closing]);
+        assert_eq!(parts.others, [put_all(&[&rest[0]]), closing.clone()].concat());
+        let parts = parted(&[&closing]);
         assert!(parts.is_closing && parts.others == closing && parts.roll.is_empty() && parts.urgent.is_empty());
         assert_eq!(framed(&put_all(&of_roll.each_ref())).map(is_place).collect::<Vec<_>>(), [true, false, false]);
     }
