@@ -5,6 +5,7 @@ use Rattle.std.specs.List.{All}
 use Rattle.std.proofs.lemmas.Bool.{and_parts, eqb-true}
 use Rattle.std.proofs.lemmas.List.Elements.{All-nil, All-cons}
 use Rattle.rc_model.specs.Model.{ServerId, PlanRow, Member, Told, Message, Body, Append, Close, Commit, Free, Ready, Recovered, WriteOk}
+use Rattle.rc_model.specs.Model.{Enlist, is_writing, asks_anyhow}
 use Rattle.rc_model.specs.Model.{between, to_coordinator, to_outside, Log, LogPlace, numbers_to, PartState}
 use Rattle.rc_model.specs.Model.{Master, Task, to_ids, to_unlost, place_of, frees_segments, write_oks, attempt_of, standing, to_remind}
 use Rattle.rc_model.specs.Model.{lacking, reminds_member, reminds_members, reminds_open, reminds_shut_members}
@@ -86,6 +87,7 @@ pub record Asked (P : Message → Type 0) (master : Master) : Type 0 where
   pub recovered : (state : PartState) → In state master.ownership.parts → awaits_grant master state ≡ true →
       P (to_coordinator master.log.own (Recovered (attempt_of state.part.term master.tasks) state.part.term))
   pub ready : P (to_coordinator master.log.own Ready)
+  pub enlist : P (to_coordinator master.log.own Enlist)
 
 module _ (P : Message → Type 0) (log : Log) (says : Copied P log) where
   each-lacking : (seg : ℕ) (member : Member) (told : Option Told) → In seg (numbers_to log.head) → (log.segments seg).shut ≡ false →
@@ -155,8 +157,14 @@ module _ (P : Message → Type 0) (master : Master) (says : Asked P master) wher
       (filter (awaits_grant master) master.ownership.parts)
       (λ state at. (let found = In-filter (awaits_grant master) state master.ownership.parts at in says.recovered state found.0 found.1))
 
+  each-anyhow : Each P (asks_anyhow master)
+  each-anyhow = each-if P (to_coordinator master.log.own (cond (is_writing master.log.phase) Ready Enlist) ∷ []) (λ _. each-one P
+      (either (λ (body : Body). P (to_coordinator master.log.own body)) (is_writing master.log.phase) Ready Enlist (λ _. says.ready)
+      (λ _. says.enlist)))
+
   pub each-ready : Each P (ready_again master)
-  each-ready = each-if P (to_coordinator master.log.own Ready ∷ []) (λ _. each-one P says.ready)
+  each-ready = either (Each P) (is_writing master.log.phase && nat_eq (length master.ownership.grants) 0)
+      (to_coordinator master.log.own Ready ∷ []) (asks_anyhow master) (λ _. each-one P says.ready) (λ _. each-anyhow)
 
 -- all of it
 pub each-reminds : (P : Message → Type 0) (before : Log) {master : Master} → Copied P master.log →

@@ -349,7 +349,7 @@ again-reminds before master =
     (each-recovered (Again master.log) master asked)) (each-ready (Again master.log) master asked)
   where
     asked : Asked (Again master.log) master
-    asked = record { fetch = λ task row at among. tt; recovered = λ state at awaits. tt; ready = tt }
+    asked = record { fetch = λ task row at among. tt; recovered = λ state at awaits. tt; ready = tt; enlist = tt }
 
 -- Whole steps
 

@@ -157,18 +157,23 @@ backup_takes backup _ _ = (backup, [])
 abbrev pub is_kept : List (ServerId × ℕ) → ServerId → ℕ → Bool
 is_kept kept master seg = list_any (λ name. same_id name.0 master && nat_eq name.1 seg) kept
 
--- a closed replica stays, and an open one that is named
-abbrev pub stays : List (ServerId × ℕ) → ServerId → ℕ × Replica → Bool
-stays kept master one = one.1.closed || is_kept kept master one.0
+-- a replica stays that need not be named: a closed one, unless the setup is lasting
+abbrev pub stays_unnamed : Bool → Replica → Bool
+stays_unnamed lasting replica = not lasting && replica.closed
+
+-- so does one that is named
+abbrev pub stays : Bool → List (ServerId × ℕ) → ServerId → ℕ × Replica → Bool
+stays lasting kept master one = stays_unnamed lasting one.1 || is_kept kept master one.0
 
 -- of each master the replicas that stay, whole; nobody is fenced, and nothing is marked freed
-abbrev pub restarted : List (ServerId × ℕ) → ServerId → Held → Held
-restarted kept master held = record { fenced = false; replicas = filter (stays kept master) held.replicas; freed = [] }
+abbrev pub restarted : Bool → List (ServerId × ℕ) → ServerId → Held → Held
+restarted lasting kept master held =
+    record { fenced = false; replicas = filter (stays lasting kept master) held.replicas; freed = [] }
 
--- the backup of the host's next server
-abbrev pub restart : ServerId → List (ServerId × ℕ) → Backup → Backup
-restart own kept backup =
-    record { own = own; held = λ master. restarted kept master (backup.held master); masters = backup.masters }
+-- the backup of the host's next server, by whether the setup is lasting
+abbrev pub restart : Bool → ServerId → List (ServerId × ℕ) → Backup → Backup
+restart lasting own kept backup =
+    record { own = own; held = λ master. restarted lasting kept master (backup.held master); masters = backup.masters }
 
 -- Names of open replicas, in order of master, then segment
 

@@ -10,7 +10,7 @@ use Rattle.rc_types.specs.declared.messages.Message.{Message}
 use Rattle.rc_types.specs.declared.messages.Body.TheVariants.{Place, Append, Close, Free, Gather, Fetch, Replicas, Data}
 use Rattle.rc_model.specs.Replica.{Replica}
 use Rattle.rc_model.specs.Backup.{Backup, replica_of, replica_after, is_freed, stores, frees, backup_takes, is_kept}
-use Rattle.rc_model.specs.Backup.{restart}
+use Rattle.rc_model.specs.Backup.{restart, stays_unnamed}
 use Rattle.rc_model.specs.Headline.{In}
 
 -- One replica
@@ -116,21 +116,24 @@ FreedStoresNothing = (backup : Backup) (master : ServerId) (seg : ℕ) (body : B
 
 -- A restart
 
--- a closed replica stays as it is, and an open one that is named
+-- a replica that need not be named stays as it is, and so does one that is named
 abbrev pub RestartKeeps : Type 0
-RestartKeeps = (own : ServerId) (kept : List (ServerId × ℕ)) (backup : Backup) (master : ServerId) (seg : ℕ)
-    (replica : Replica) →
-    replica_of seg (backup.held master).replicas ≡ Some replica → replica.closed || is_kept kept master seg ≡ true →
-    replica_of seg ((restart own kept backup).held master).replicas ≡ Some replica
+RestartKeeps = (lasting : Bool) (own : ServerId) (kept : List (ServerId × ℕ)) (backup : Backup) (master : ServerId)
+    (seg : ℕ) (replica : Replica) →
+    replica_of seg (backup.held master).replicas ≡ Some replica →
+    stays_unnamed lasting replica || is_kept kept master seg ≡ true →
+    replica_of seg ((restart lasting own kept backup).held master).replicas ≡ Some replica
 
 -- there are no others
 abbrev pub RestartKeepsNoOther : Type 0
-RestartKeepsNoOther = (own : ServerId) (kept : List (ServerId × ℕ)) (backup : Backup) (master : ServerId) (seg : ℕ)
-    (replica : Replica) →
-    replica_of seg ((restart own kept backup).held master).replicas ≡ Some replica →
-    replica.closed || is_kept kept master seg ≡ true
+RestartKeepsNoOther = (lasting : Bool) (own : ServerId) (kept : List (ServerId × ℕ)) (backup : Backup)
+    (master : ServerId) (seg : ℕ) (replica : Replica) →
+    replica_of seg ((restart lasting own kept backup).held master).replicas ≡ Some replica →
+    stays_unnamed lasting replica || is_kept kept master seg ≡ true
 
 -- nobody is fenced, and nothing is marked freed
 abbrev pub RestartFencesNobody : Type 0
-RestartFencesNobody = (own : ServerId) (kept : List (ServerId × ℕ)) (backup : Backup) (master : ServerId) →
-    (((restart own kept backup).held master).fenced ≡ false) × (((restart own kept backup).held master).freed ≡ [])
+RestartFencesNobody = (lasting : Bool) (own : ServerId) (kept : List (ServerId × ℕ)) (backup : Backup)
+    (master : ServerId) →
+    (((restart lasting own kept backup).held master).fenced ≡ false)
+    × (((restart lasting own kept backup).held master).freed ≡ [])

@@ -29,6 +29,8 @@ pub record Master : Type 0 where
   pub log : Log
   -- whether it frees segments that are dead
   pub free : Bool
+  -- whether its setup is lasting
+  pub lasting : Bool
   pub ownership : Ownership
   -- the parts that it was given, in the order in which they were begun
   pub tasks : List Task
@@ -40,6 +42,7 @@ new_master own setup = record {
   known = no_servers;
   log = new_log own setup.factor setup.size;
   free = setup.free;
+  lasting = setup.lasting;
   ownership = owns_nothing;
   tasks = [];
   deposed = false;

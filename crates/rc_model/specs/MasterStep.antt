@@ -39,10 +39,11 @@ takes_plan attempt crashed rows (part ∷ parts) master =
     then_does (begins_task (task_of attempt crashed rows part) master)
     (λ after. takes_plan attempt crashed rows parts after)
 
--- the refusal says that the coordinator holds the sender for dead
-abbrev pub says_deposed : Code → Bool
-says_deposed code.Deposed = true
-says_deposed _ = false
+-- the refusal says that the coordinator holds the sender for dead; that of an Enlist counts where the setup is lasting
+abbrev pub says_deposed : Bool → Code → Bool
+says_deposed lasting code.Deposed = true
+says_deposed lasting code.StaleGeneration = lasting
+says_deposed lasting _ = false
 
 -- what a message does, before the rules that follow up
 abbrev pub master_takes_first : Master → Addr → Body → Master × List Message
@@ -53,7 +54,7 @@ master_takes_first master (Server from) (Stored seg epoch len closed) =
     (with_log master (stored seg from epoch len closed master.log), [])
 master_takes_first master from (CommitOk seg epoch) = (with_log master (commit_noted seg epoch master.log), [])
 master_takes_first master Coordinator (Refused reason) =
-    (if says_deposed reason then record master { deposed = true } else master, [])
+    (if says_deposed master.lasting reason then record master { deposed = true } else master, [])
 master_takes_first master from (Plan head attempt crashed rows parts) = takes_plan attempt crashed rows parts master
 master_takes_first master (Server from) (Data attempt seg term entries) =
     (record master { ownership = put_data term seg from entries master.ownership }, [])

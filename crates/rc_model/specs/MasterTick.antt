@@ -101,10 +101,17 @@ recovered_again master =
     map (λ state. to_coordinator master.log.own (Recovered (attempt_of state.part.term master.tasks) state.part.term))
     (filter (awaits_grant master) master.ownership.parts)
 
+-- where the setup is lasting, a master asks at each Tick, so that one that was replaced learns of it: Ready in Writing,
+-- and else Enlist
+abbrev pub asks_anyhow : Master → List Message
+asks_anyhow master =
+    if master.lasting
+    then to_coordinator master.log.own (if is_writing master.log.phase then Ready else Enlist) ∷ [] else []
+
 abbrev pub ready_again : Master → List Message
 ready_again master =
     if is_writing master.log.phase && nat_eq (length master.ownership.grants) 0
-    then to_coordinator master.log.own Ready ∷ [] else []
+    then to_coordinator master.log.own Ready ∷ [] else asks_anyhow master
 
 -- all that was not answered, but for what the list rules have just sent
 abbrev pub reminds : Log → Master → Master × List Message

@@ -51,6 +51,7 @@ pub use Rattle.rc_model.specs.Backup.{Backup, Held, answers_fetch, backup_takes,
 pub use Rattle.rc_model.specs.Backup.{is_in_part, is_kept, is_refused, keeps, new_backup, nothing_held, open_names}
 pub use Rattle.rc_model.specs.Backup.{open_names_among, open_names_of, put_replica, replica_after, replica_of}
 pub use Rattle.rc_model.specs.Backup.{restart, restarted, row_of_replica, rows_of_replicas, stays, stored_of, stores}
+pub use Rattle.rc_model.specs.Backup.{stays_unnamed}
 pub use Rattle.rc_model.specs.Backup.{with_held, without_replica}
 pub use Rattle.rc_model.specs.BackupClaims.{ClosedStaysTheSame, ClosesAtTheStatedLength, FencedReplicasStay}
 pub use Rattle.rc_model.specs.BackupClaims.{FencedStoresNothing, FreedIsMarked, FreedStoresNothing, GatherFences}
@@ -112,7 +113,7 @@ pub use Rattle.rc_model.specs.Master.{places_head, to_ids, to_unlost, with_log}
 pub use Rattle.rc_model.specs.MasterClaims.{FollowUpsLower, NoneAppliesAfterwards, ShutIsMarked}
 pub use Rattle.rc_model.specs.MasterStep.{begins_task, deposed_takes, master_takes, master_takes_first, master_ticks}
 pub use Rattle.rc_model.specs.MasterStep.{says_deposed, takes_plan, task_of}
-pub use Rattle.rc_model.specs.MasterTick.{awaits_commit, awaits_grant, commits_again, fetch_of, fetches_again}
+pub use Rattle.rc_model.specs.MasterTick.{asks_anyhow, awaits_commit, awaits_grant, commits_again, fetch_of, fetches_again}
 pub use Rattle.rc_model.specs.MasterTick.{has_not_come, is_closing_old, lacking, ready_again, recovered_again}
 pub use Rattle.rc_model.specs.MasterTick.{reminds, reminds_member, reminds_members, reminds_open, reminds_shut}
 pub use Rattle.rc_model.specs.MasterTick.{reminds_shut_members, standing, stood, ticks, to_remind}

@@ -77,7 +77,12 @@ abbrev pub factor_of : Setup → ℕ → ℕ
 factor_of setup index = unwrap_or (slice_get setup.factors index) setup.factor
 
 abbrev pub master_setup : Setup → ℕ → MasterSetup
-master_setup setup index = record { factor = factor_of setup index; size = setup.segment; free = setup.free }
+master_setup setup index = record {
+  factor = factor_of setup index;
+  size = setup.segment;
+  free = setup.free;
+  lasting = setup.lasting;
+}
 
 abbrev pub new_host : ℕ → MasterSetup → HostNode
 new_host index setup =
@@ -135,7 +140,7 @@ ticks_if_running host running = option_map_or (λ master. with_master host (mast
 -- a start gives the next generation, a new master, and the backup restarted; the server enlists
 abbrev pub starts_host : HostNode → ServerId → List (ServerId × ℕ) → HostNode × List Message
 starts_host host own kept =
-    let backup = restart own kept host.backup in
+    let backup = restart host.setup.lasting own kept host.backup in
     let master = new_master own host.setup in
     (record host { generation = own.generation; backup = backup; master = Some master }, to_coordinator own Enlist ∷ [])
 

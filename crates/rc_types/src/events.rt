@@ -16,6 +16,8 @@ pub struct Setup {
     pub segment: u16,
     /// Whether masters free segments that have become wholly dead.
     pub free: bool,
+    /// Whether logs are to live for years. That needs freeing.
+    pub lasting: bool,
     /// At the place of a host's index, how many replicas each segment of its masters has, 1 to 5.
     pub factors: Seq<u8>,
 }
@@ -27,6 +29,7 @@ impl TryClone for Setup {
             factor: self.factor,
             segment: self.segment,
             free: self.free,
+            lasting: self.lasting,
             factors,
         })
     }
@@ -41,6 +44,8 @@ pub struct MasterSetup {
     pub size: u16,
     /// Whether segments that have become wholly dead are freed.
     pub free: bool,
+    /// Whether logs are to live for years. That needs freeing.
+    pub lasting: bool,
 }
 
 /// One event of a world: one input, taken by one node.
