@@ -173,7 +173,7 @@ module _ (world : World) (one : Event) (i : ℕ) (good : GoodWorld world) where
         own = refl;
         runs = λ master e. (let is : new_master (next_server (world.hosts i)) (world.hosts i).setup ≡ master = cc in started ∙ is);
         unstarted = λ g above. was.unstarted g (omega arith);
-        held = λ m. moved-restart world.masters kept quiet (omega arith) (was.held m);
+        held = λ m. moved-restart world.masters _ kept quiet (omega arith) (was.held m);
       }) (λ message at. fine message at))
     where
       was : GoodHost world.sent world.masters i (world.hosts i)

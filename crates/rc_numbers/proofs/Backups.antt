@@ -161,9 +161,9 @@ module _ (n : ℕ) where
   }
   backup-done backup from body h p = still h
 
-  pub restart-within : (own : ServerId) (kept : List (ServerId × ℕ)) (backup : Backup) → BackupWithin n backup →
-      BackupWithin n (restart own kept backup)
-  restart-within own kept backup h = λ master. All-filter (stays kept master)
+  pub restart-within : (lasting : Bool) (own : ServerId) (kept : List (ServerId × ℕ)) (backup : Backup) → BackupWithin n backup →
+      BackupWithin n (restart lasting own kept backup)
+  restart-within lasting own kept backup h = λ master. All-filter (stays lasting kept master)
       (λ (one : ℕ × Replica). VersionsUpTo n one.1.entries) (backup.held master).replicas (h master)
 
 -- more events allow more

@@ -113,6 +113,7 @@ module _ (n : ℕ) where
         fetch = λ task row given among. tt;
         recovered = λ state among awaits. tt;
         ready = tt;
+        enlist = tt;
       }));
     };
   }

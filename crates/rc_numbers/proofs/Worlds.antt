@@ -99,7 +99,7 @@ starts-within : {n : ℕ} {host : HostNode} (kept : List (ServerId × ℕ)) → 
 starts-within {n} {host} kept h = record {
   host = record {
     generation = omega (arith, h.generation);
-    backup = restart-within (n + 1) (next_server host) kept host.backup (backup-more (omega arith) host.backup h.backup);
+    backup = restart-within (n + 1) host.setup.lasting (next_server host) kept host.backup (backup-more (omega arith) host.backup h.backup);
     master = λ other e. subst (MasterWithin (n + 1)) (some-same e) new-master;
   };
   messages = one-within (n + 1) (to_coordinator (next_server host) Enlist) tt;

@@ -324,6 +324,7 @@ module _ (sent : List Message) (m : ServerId) where
         attempt_is = refl;
       };
       ready = tt;
+      enlist = tt;
     });
   }
 

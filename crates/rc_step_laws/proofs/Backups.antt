@@ -424,11 +424,11 @@ moved-backup sent masters hosts hosts_now c i from _ good at placed = moved-stil
 
 -- what a restarted backup keeps is a part of what it had
 pub moved-restart : {sent messages : List Message} (masters : ServerId → Master) {m : ServerId}
-    {index generation generation_now : ℕ} (kept : List (ServerId × ℕ)) {held : Held} → Quiet messages →
+    {index generation generation_now : ℕ} (lasting : Bool) (kept : List (ServerId × ℕ)) {held : Held} → Quiet messages →
     generation ≤ generation_now →
     GoodHeld sent m (masters m).log index generation held →
-    GoodHeld (sent ++ messages) m (masters m).log index generation_now (restarted kept m held)
-moved-restart masters kept {held} quiet up good =
+    GoodHeld (sent ++ messages) m (masters m).log index generation_now (restarted lasting kept m held)
+moved-restart masters lasting kept {held} quiet up good =
     held-quiet masters quiet up (record {
       ascending = Ascending-filter _ held.replicas good.ascending;
       each = λ s replica at. good.each s replica (replica_of-filter _ s held.replicas good.ascending at);

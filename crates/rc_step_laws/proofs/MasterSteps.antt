@@ -76,7 +76,7 @@ moved-first {sent} {m} {master} (Server from) (Stored s epoch len closed) view m
     epoch len closed view may
 moved-first {sent} {m} {master} from (CommitOk s epoch) view may = moved-commit sent m master s epoch view
     (commit-heard sent m from s epoch may)
-moved-first Coordinator (Refused reason) view may = moved-deposes (says_deposed reason) view
+moved-first Coordinator (Refused reason) view may = moved-deposes (says_deposed _ reason) view
 moved-first from (Plan head attempt crashed rows parts) view may = moved-takes_plan attempt crashed rows parts view
 moved-first (Server from) (Data attempt seg term entries) view may = quietly view refl refl
 moved-first from (Own range term previous attempt) view may = quietly view refl refl

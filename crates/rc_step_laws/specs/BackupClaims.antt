@@ -1,5 +1,5 @@
 -- What each step of a backup, and a restart, keeps.
-use Rattle.std.specs.Prelude.{◌≡◌, ℕ, ◌≤◌, List, [], ◌++◌}
+use Rattle.std.specs.Prelude.{◌≡◌, ℕ, ◌≤◌, Bool, List, [], ◌++◌}
 use Rattle.rc_types.specs.declared.ids.ServerId.{ServerId}
 use Rattle.rc_types.specs.declared.ids.Addr.{Addr}
 use Rattle.rc_types.specs.declared.ids.Addr.TheVariants.{Server}
@@ -24,6 +24,6 @@ BackupStepsKeep = (sent : List Message) (masters : ServerId → Master) (hosts h
 -- a restart, by which nothing is sent
 abbrev pub RestartsKeep : Type 0
 RestartsKeep = (sent : List Message) (masters : ServerId → Master) (m : ServerId)
-    (index generation generation_now : ℕ) (kept : List (ServerId × ℕ)) (held : Held) →
+    (index generation generation_now : ℕ) (lasting : Bool) (kept : List (ServerId × ℕ)) (held : Held) →
     generation ≤ generation_now → GoodHeld sent m (masters m).log index generation held →
-    GoodHeld (sent ++ []) m (masters m).log index generation_now (restarted kept m held)
+    GoodHeld (sent ++ []) m (masters m).log index generation_now (restarted lasting kept m held)

@@ -100,7 +100,7 @@ module _ (Asked : Entry → Type 0) (R : Master → Master × List Message → T
       (kept.again master)) (each-fetches_again is_soft master rest)) (each-recovered is_soft master rest)) (each-ready is_soft master rest)
     where
       rest : Asked_again is_soft master
-      rest = record { fetch = λ task row given among. refl; recovered = λ state among awaits. refl; ready = refl }
+      rest = record { fetch = λ task row given among. refl; recovered = λ state among awaits. refl; ready = refl; enlist = refl }
 
       -- this is said besides, and the view stays
       told : (first second : List Message) → R master (master, first) → Each is_soft second → R master (master, first ++ second)

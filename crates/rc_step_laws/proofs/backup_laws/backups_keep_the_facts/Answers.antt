@@ -4,6 +4,6 @@ use Rattle.rc_step_laws.proofs.backup_laws.backups_keep_the_facts.Goals as goal
 pub returns : goal.returns
 returns c = record {
   steps = moved-backup;
-  restarts = λ sent masters m index generation generation_now kept held up good.
-      moved-restart masters kept quiet-none up good;
+  restarts = λ sent masters m index generation generation_now lasting kept held up good.
+      moved-restart masters lasting kept quiet-none up good;
 }
