@@ -22,7 +22,7 @@ id index generation = record { index = index; generation = generation }
 
 -- one replica for each segment
 abbrev pub setup : Setup
-setup = record { factor = 1; segment = 8; free = false; factors = [] }
+setup = record { factor = 1; segment = 8; free = false; lasting = false; factors = [] }
 
 abbrev pub write : ServerId → List ℕ → Piece
 write to value = Whole TheOutside (Ask to (Write 7 5 (Some value)))

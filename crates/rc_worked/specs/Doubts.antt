@@ -13,7 +13,7 @@ close_to_a_lost_member =
 
 abbrev pub CloseToALostMemberReports : Type 0
 CloseToALostMemberReports =
-    report_of (record { factor = 2; segment = 2; free = false; factors = [] }) close_to_a_lost_member
+    report_of (record { factor = 2; segment = 2; free = false; lasting = false; factors = [] }) close_to_a_lost_member
     ≡ codes "own 0.1 term 1 table 7 from 0 to 18446744073709551615 after 0 attempt 0\n"
     ++ codes "ack 0.1 seg 1 at 0 term 1 table 7 key 1 version 1\n"
     ++ codes "ack 0.1 seg 1 at 1 term 1 table 7 key 2 version 1\n"
@@ -34,7 +34,7 @@ commit_answers_its_own_pair =
 
 abbrev pub CommitAnswersItsOwnPairReports : Type 0
 CommitAnswersItsOwnPairReports =
-    report_of (record { factor = 2; segment = 8; free = false; factors = [] }) commit_answers_its_own_pair
+    report_of (record { factor = 2; segment = 8; free = false; lasting = false; factors = [] }) commit_answers_its_own_pair
     ≡ codes "own 0.1 term 1 table 7 from 0 to 18446744073709551615 after 0 attempt 0\n"
     ++ codes "messages 70\n"
     ++ codes "acknowledged 0\n"
@@ -56,7 +56,7 @@ steps_one_by_one =
 
 abbrev pub StepsOneByOneReports : Type 0
 StepsOneByOneReports =
-    report_of (record { factor = 1; segment = 2; free = false; factors = [] }) steps_one_by_one
+    report_of (record { factor = 1; segment = 2; free = false; lasting = false; factors = [] }) steps_one_by_one
     ≡ codes "own 0.1 term 1 table 7 from 0 to 18446744073709551615 after 0 attempt 0\n"
     ++ codes "split table 7 at 10\n"
     ++ codes "ack 0.1 seg 1 at 0 term 1 table 7 key 1 version 1\n"

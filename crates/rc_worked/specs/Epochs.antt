@@ -10,7 +10,7 @@ append_after_fence =
 
 abbrev pub AppendAfterFenceReports : Type 0
 AppendAfterFenceReports =
-    report_of (record { factor = 2; segment = 8; free = false; factors = [] }) append_after_fence
+    report_of (record { factor = 2; segment = 8; free = false; lasting = false; factors = [] }) append_after_fence
     ≡ codes "own 0.1 term 1 table 7 from 0 to 18446744073709551615 after 0 attempt 0\n"
     ++ codes "messages 65\n"
     ++ codes "acknowledged 0\n"
@@ -27,7 +27,7 @@ commit_lost_new =
 
 abbrev pub CommitLostNewReports : Type 0
 CommitLostNewReports =
-    report_of (record { factor = 2; segment = 8; free = false; factors = [] }) commit_lost_new
+    report_of (record { factor = 2; segment = 8; free = false; lasting = false; factors = [] }) commit_lost_new
     ≡ codes "own 0.1 term 1 table 7 from 0 to 18446744073709551615 after 0 attempt 0\n"
     ++ codes "ack 0.1 seg 1 at 0 term 1 table 7 key 5 version 1\n"
     ++ codes "plan 1 of 0.1 to 2.1 head 1 rows 1:3.1:1\n"
@@ -46,7 +46,7 @@ commit_lost_old =
 
 abbrev pub CommitLostOldReports : Type 0
 CommitLostOldReports =
-    report_of (record { factor = 2; segment = 8; free = false; factors = [] }) commit_lost_old
+    report_of (record { factor = 2; segment = 8; free = false; lasting = false; factors = [] }) commit_lost_old
     ≡ codes "own 0.1 term 1 table 7 from 0 to 18446744073709551615 after 0 attempt 0\n"
     ++ codes "ack 0.1 seg 1 at 0 term 1 table 7 key 5 version 1\n"
     ++ codes "plan 1 of 0.1 to 2.1 head 1 rows 1:2.1:1\n"
@@ -65,7 +65,7 @@ commit_of_crashed =
 
 abbrev pub CommitOfCrashedReports : Type 0
 CommitOfCrashedReports =
-    report_of (record { factor = 2; segment = 8; free = false; factors = [] }) commit_of_crashed
+    report_of (record { factor = 2; segment = 8; free = false; lasting = false; factors = [] }) commit_of_crashed
     ≡ codes "own 0.1 term 1 table 7 from 0 to 18446744073709551615 after 0 attempt 0\n"
     ++ codes "refused 5 from c to 0.1\n"
     ++ codes "refused 5 from 0.1 to out\n"
@@ -85,7 +85,7 @@ stale_replica_returns =
 
 abbrev pub StaleReplicaReturnsReports : Type 0
 StaleReplicaReturnsReports =
-    report_of (record { factor = 2; segment = 8; free = false; factors = [] }) stale_replica_returns
+    report_of (record { factor = 2; segment = 8; free = false; lasting = false; factors = [] }) stale_replica_returns
     ≡ codes "own 0.1 term 1 table 7 from 0 to 18446744073709551615 after 0 attempt 0\n"
     ++ codes "ack 0.1 seg 1 at 0 term 1 table 7 key 5 version 1\n"
     ++ codes "refused 8 from c to out\n"

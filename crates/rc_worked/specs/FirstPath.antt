@@ -9,7 +9,7 @@ nothing =
 
 abbrev pub NothingReports : Type 0
 NothingReports =
-    report_of (record { factor = 1; segment = 1; free = false; factors = [] }) nothing
+    report_of (record { factor = 1; segment = 1; free = false; lasting = false; factors = [] }) nothing
     ≡ codes "messages 0\n"
     ++ codes "acknowledged 0\n"
     ++ codes "refused 0\n"
@@ -24,7 +24,7 @@ first_write =
 
 abbrev pub FirstWriteReports : Type 0
 FirstWriteReports =
-    report_of (record { factor = 2; segment = 8; free = false; factors = [] }) first_write
+    report_of (record { factor = 2; segment = 8; free = false; lasting = false; factors = [] }) first_write
     ≡ codes "own 0.1 term 1 table 7 from 0 to 18446744073709551615 after 0 attempt 0\n"
     ++ codes "ack 0.1 seg 1 at 0 term 1 table 7 key 5 version 1\n"
     ++ codes "plan 1 of 0.1 to 1.1 head 1 rows 1:1.1:1\n"
@@ -42,7 +42,7 @@ lost_stored =
 
 abbrev pub LostStoredReports : Type 0
 LostStoredReports =
-    report_of (record { factor = 2; segment = 8; free = false; factors = [] }) lost_stored
+    report_of (record { factor = 2; segment = 8; free = false; lasting = false; factors = [] }) lost_stored
     ≡ codes "own 0.1 term 1 table 7 from 0 to 18446744073709551615 after 0 attempt 0\n"
     ++ codes "messages 30\n"
     ++ codes "acknowledged 0\n"
@@ -59,7 +59,7 @@ refusals =
 
 abbrev pub RefusalsReports : Type 0
 RefusalsReports =
-    report_of (record { factor = 2; segment = 8; free = false; factors = [] }) refusals
+    report_of (record { factor = 2; segment = 8; free = false; lasting = false; factors = [] }) refusals
     ≡ codes "own 0.1 term 1 table 7 from 0 to 18446744073709551615 after 0 attempt 0\n"
     ++ codes "refused 2 from 1.1 to out\n"
     ++ codes "refused 7 from 1.1 to out\n"
@@ -81,7 +81,7 @@ twice_and_in_reverse =
 
 abbrev pub TwiceAndInReverseReports : Type 0
 TwiceAndInReverseReports =
-    report_of (record { factor = 2; segment = 8; free = false; factors = [] }) twice_and_in_reverse
+    report_of (record { factor = 2; segment = 8; free = false; lasting = false; factors = [] }) twice_and_in_reverse
     ≡ codes "own 0.1 term 1 table 7 from 0 to 18446744073709551615 after 0 attempt 0\n"
     ++ codes "ack 0.1 seg 1 at 0 term 1 table 7 key 5 version 1\n"
     ++ codes "messages 45\n"
@@ -97,7 +97,7 @@ deliver_unsent =
 
 abbrev pub DeliverUnsentReports : Type 0
 DeliverUnsentReports =
-    report_of (record { factor = 2; segment = 8; free = false; factors = [] }) deliver_unsent
+    report_of (record { factor = 2; segment = 8; free = false; lasting = false; factors = [] }) deliver_unsent
     ≡ codes "own 0.1 term 1 table 7 from 0 to 18446744073709551615 after 0 attempt 0\n"
     ++ codes "messages 35\n"
     ++ codes "acknowledged 0\n"

@@ -9,7 +9,7 @@ factors =
 
 abbrev pub FactorsReports : Type 0
 FactorsReports =
-    report_of (record { factor = 2; segment = 8; free = true; factors = 1 ∷ [] }) factors
+    report_of (record { factor = 2; segment = 8; free = true; lasting = false; factors = 1 ∷ [] }) factors
     ≡ codes "own 0.1 term 1 table 7 from 0 to 18446744073709551615 after 0 attempt 0\n"
     ++ codes "ack 0.1 seg 1 at 0 term 1 table 7 key 5 version 1\n"
     ++ codes "plan 1 of 0.1 to 1.1 head 1 rows 1:1.1:1\n"
@@ -30,7 +30,7 @@ freed =
 
 abbrev pub FreedReports : Type 0
 FreedReports =
-    report_of (record { factor = 2; segment = 2; free = true; factors = [] }) freed
+    report_of (record { factor = 2; segment = 2; free = true; lasting = false; factors = [] }) freed
     ≡ codes "own 0.1 term 1 table 7 from 0 to 18446744073709551615 after 0 attempt 0\n"
     ++ codes "ack 0.1 seg 1 at 0 term 1 table 7 key 1 version 1\n"
     ++ codes "ack 0.1 seg 1 at 1 term 1 table 7 key 1 version 2\n"

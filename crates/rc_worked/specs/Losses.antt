@@ -49,7 +49,7 @@ roll_nowhere =
     write (id 0 1) 7 2 (codes "b") ∷ settle_without_place ∷ tick (id 0 1) ∷ settle_without_place ∷ []
 
 abbrev pub of_one_entry : Setup
-of_one_entry = record { factor = 1; segment = 1; free = false; factors = [] }
+of_one_entry = record { factor = 1; segment = 1; free = false; lasting = false; factors = [] }
 
 abbrev pub FirstHeadNowhereIsNotLost : Type 0
 FirstHeadNowhereIsNotLost = IsNotLost (of_eight 1) first_head_nowhere

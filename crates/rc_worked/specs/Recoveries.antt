@@ -10,7 +10,7 @@ read_back =
 
 abbrev pub ReadBackReports : Type 0
 ReadBackReports =
-    report_of (record { factor = 2; segment = 8; free = false; factors = [] }) read_back
+    report_of (record { factor = 2; segment = 8; free = false; lasting = false; factors = [] }) read_back
     ≡ codes "own 0.1 term 1 table 7 from 0 to 18446744073709551615 after 0 attempt 0\n"
     ++ codes "ack 0.1 seg 1 at 0 term 1 table 7 key 5 version 1\n"
     ++ codes "read 0.1 table 7 key 5 version 1\n"
@@ -30,7 +30,7 @@ zombie_replies_in_flight =
 
 abbrev pub ZombieRepliesInFlightReports : Type 0
 ZombieRepliesInFlightReports =
-    report_of (record { factor = 2; segment = 8; free = false; factors = [] }) zombie_replies_in_flight
+    report_of (record { factor = 2; segment = 8; free = false; lasting = false; factors = [] }) zombie_replies_in_flight
     ≡ codes "own 0.1 term 1 table 7 from 0 to 18446744073709551615 after 0 attempt 0\n"
     ++ codes "plan 1 of 0.1 to 1.1 head 1 rows 1:1.1:1\n"
     ++ codes "own 1.1 term 2 table 7 from 0 to 18446744073709551615 after 1 attempt 1\n"
@@ -56,7 +56,7 @@ leftovers =
 
 abbrev pub LeftoversReports : Type 0
 LeftoversReports =
-    report_of (record { factor = 2; segment = 8; free = false; factors = [] }) leftovers
+    report_of (record { factor = 2; segment = 8; free = false; lasting = false; factors = [] }) leftovers
     ≡ codes "own 0.1 term 1 table 7 from 0 to 18446744073709551615 after 0 attempt 0\n"
     ++ codes "ack 0.1 seg 1 at 0 term 1 table 7 key 5 version 1\n"
     ++ codes "plan 1 of 0.1 to 1.1 head 1 rows 1:1.1:1\n"

@@ -11,7 +11,7 @@ restart_kept =
 
 abbrev pub RestartKeptReports : Type 0
 RestartKeptReports =
-    report_of (record { factor = 2; segment = 8; free = false; factors = [] }) restart_kept
+    report_of (record { factor = 2; segment = 8; free = false; lasting = false; factors = [] }) restart_kept
     ≡ codes "own 0.1 term 1 table 7 from 0 to 18446744073709551615 after 0 attempt 0\n"
     ++ codes "ack 0.1 seg 1 at 0 term 1 table 7 key 5 version 1\n"
     ++ codes "plan 1 of 0.1 to 2.1 head 1 rows 1:1.2:1\n"
@@ -30,7 +30,7 @@ restart_dropped =
 
 abbrev pub RestartDroppedReports : Type 0
 RestartDroppedReports =
-    report_of (record { factor = 2; segment = 8; free = false; factors = [] }) restart_dropped
+    report_of (record { factor = 2; segment = 8; free = false; lasting = false; factors = [] }) restart_dropped
     ≡ codes "own 0.1 term 1 table 7 from 0 to 18446744073709551615 after 0 attempt 0\n"
     ++ codes "ack 0.1 seg 1 at 0 term 1 table 7 key 5 version 1\n"
     ++ codes "refused 8 from c to out\n"

@@ -14,7 +14,7 @@ roll =
 
 abbrev pub RollReports : Type 0
 RollReports =
-    report_of (record { factor = 2; segment = 2; free = false; factors = [] }) roll
+    report_of (record { factor = 2; segment = 2; free = false; lasting = false; factors = [] }) roll
     ≡ codes "own 0.1 term 1 table 7 from 0 to 18446744073709551615 after 0 attempt 0\n"
     ++ codes "ack 0.1 seg 1 at 0 term 1 table 7 key 1 version 1\n"
     ++ codes "ack 0.1 seg 1 at 1 term 1 table 7 key 2 version 1\n"
@@ -37,7 +37,7 @@ suspected_while_opening =
 
 abbrev pub SuspectedWhileOpeningReports : Type 0
 SuspectedWhileOpeningReports =
-    report_of (record { factor = 2; segment = 2; free = false; factors = [] }) suspected_while_opening
+    report_of (record { factor = 2; segment = 2; free = false; lasting = false; factors = [] }) suspected_while_opening
     ≡ codes "own 0.1 term 1 table 7 from 0 to 18446744073709551615 after 0 attempt 0\n"
     ++ codes "ack 0.1 seg 1 at 0 term 1 table 7 key 1 version 1\n"
     ++ codes "ack 0.1 seg 1 at 1 term 1 table 7 key 2 version 1\n"
@@ -59,7 +59,7 @@ new_head_nowhere =
 
 abbrev pub NewHeadNowhereReports : Type 0
 NewHeadNowhereReports =
-    report_of (record { factor = 2; segment = 2; free = false; factors = [] }) new_head_nowhere
+    report_of (record { factor = 2; segment = 2; free = false; lasting = false; factors = [] }) new_head_nowhere
     ≡ codes "own 0.1 term 1 table 7 from 0 to 18446744073709551615 after 0 attempt 0\n"
     ++ codes "ack 0.1 seg 1 at 0 term 1 table 7 key 1 version 1\n"
     ++ codes "ack 0.1 seg 1 at 1 term 1 table 7 key 2 version 1\n"

@@ -67,13 +67,13 @@ report_of setup lines = report (runs (opening setup) lines).sent
 -- Short forms
 
 abbrev pub of_eight : ℕ → Setup
-of_eight factor = record { factor = factor; segment = 8; free = false; factors = [] }
+of_eight factor = record { factor = factor; segment = 8; free = false; lasting = false; factors = [] }
 
 abbrev pub of_two : Setup
-of_two = record { factor = 2; segment = 2; free = false; factors = [] }
+of_two = record { factor = 2; segment = 2; free = false; lasting = false; factors = [] }
 
 abbrev pub of_one : Setup
-of_one = record { factor = 2; segment = 1; free = false; factors = [] }
+of_one = record { factor = 2; segment = 1; free = false; lasting = false; factors = [] }
 
 abbrev pub id : ℕ → ℕ → ServerId
 id index generation = record { index = index; generation = generation }

@@ -118,7 +118,7 @@ freed_when_writing =
 
 abbrev pub FreedWhenWritingReports : Type 0
 FreedWhenWritingReports =
-    report_of (record { factor = 2; segment = 2; free = true; factors = [] }) freed_when_writing
+    report_of (record { factor = 2; segment = 2; free = true; lasting = false; factors = [] }) freed_when_writing
     ≡ own_line
     ++ codes "ack 0.1 seg 1 at 0 term 1 table 7 key 1 version 1\n"
     ++ codes "ack 0.1 seg 1 at 1 term 1 table 7 key 1 version 2\n"

@@ -8,7 +8,7 @@ two_tables =
 
 abbrev pub TwoTablesReports : Type 0
 TwoTablesReports =
-    report_of (record { factor = 2; segment = 8; free = false; factors = [] }) two_tables
+    report_of (record { factor = 2; segment = 8; free = false; lasting = false; factors = [] }) two_tables
     ≡ codes "own 0.1 term 1 table 7 from 0 to 18446744073709551615 after 0 attempt 0\n"
     ++ codes "own 0.1 term 2 table 8 from 0 to 18446744073709551615 after 0 attempt 0\n"
     ++ codes "messages 26\n"
@@ -24,7 +24,7 @@ split_twice =
 
 abbrev pub SplitTwiceReports : Type 0
 SplitTwiceReports =
-    report_of (record { factor = 2; segment = 8; free = false; factors = [] }) split_twice
+    report_of (record { factor = 2; segment = 8; free = false; lasting = false; factors = [] }) split_twice
     ≡ codes "own 0.1 term 1 table 7 from 0 to 18446744073709551615 after 0 attempt 0\n"
     ++ codes "split table 7 at 9\n"
     ++ codes "refused 14 from c to out\n"
