@@ -16,6 +16,7 @@ pub mod Growing
 pub mod Fencing
 pub mod Staying
 pub mod EachMaster
+pub mod SetUp
 pub mod Keeping
 pub mod KeptWorlds
 pub mod Crashing

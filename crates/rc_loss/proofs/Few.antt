@@ -10,7 +10,7 @@ use Rattle.rc_step_laws.proofs.Copies.{split}
 use Rattle.rc_log_laws.specs.WordClaims.{log_of}
 use Rattle.rc_log_laws.proofs.Replays.{good-world}
 use Rattle.rc_log_laws.proofs.Since.{since-more}
-use Rattle.rc_loss.specs.Loss.{WasDropped, IsGone, config_after}
+use Rattle.rc_loss.specs.Loss.{WasDropped, HasDroppedClosed, IsGone, config_after}
 use Rattle.rc_loss.specs.LossClaims.{FewDropsAreNoLoss, FewMissingAreNoLoss}
 use Rattle.rc_loss.proofs.Worlds.{loss-facts}
 use Rattle.rc_loss.proofs.Refusals.{IsGoneBut, Refusal, refused-gone, refusals-mean-loss}
@@ -87,13 +87,27 @@ not-gone setup events m s hosts few on gone =
     unshut = split ((log_of setup gone.placed.before m).segments s).shut
         (λ is. absurd (was-not gone.placed.before gone.placed.beginning is)) (λ isn't. isn't)
 
+-- nor is a shut one, where fewer hosts than it has replicas have dropped one or are missing
+not-away : (setup : Setup) (events : List Event) (m : ServerId) (t : ℕ) (hosts : List ℕ) → length hosts < factor_of setup m.index →
+    ((x : ServerId) (e : ℕ) → WasDropped setup events x m t e → In x.index hosts) → (ids : List ServerId) →
+    length ids ≡ factor_of setup m.index → OnDifferentHosts ids →
+    ((x : ServerId) → In x ids → In x.index hosts ⊎ HasDroppedClosed setup events x m t) → ⊥
+not-away setup events m t hosts few on ids many apart away =
+    (let less : length ids ≤ length hosts = no-more ids hosts apart (λ x at. by x (away x at)) in omega (arith, many, less, few))
+  where
+    by : (x : ServerId) → In x.index hosts ⊎ HasDroppedClosed setup events x m t → In x.index hosts
+    by x (inl missing) = missing
+    by x (inr gone) = on x gone.epoch gone.dropped
+
 pub few-drops-are-no-loss : FewDropsAreNoLoss
 few-drops-are-no-loss setup events m replies fault ready answers all_rows hosts few on refused =
     by (refusals-mean-loss setup events m replies fault ready answers all_rows refused)
   where
     by : (s : ℕ) × IsGone setup events m s → ⊥
-    by (s, gone) = not-gone setup events m s (hosts s) (few s) (λ x e. on x s e)
+    by (s, inl gone) = not-gone setup events m s (hosts s) (few s) (λ x e. on x s e)
         (record { unshut = gone.unshut; placed = gone.placed; dropped = λ x at. inr (gone.dropped x at) })
+    by (s, inr gone) = not-away setup events m s (hosts s) (few s) (λ x e. on x s e) gone.tellers gone.many gone.apart
+        (λ x at. inr (gone.dropped x at))
 
 pub few-missing-are-no-loss : FewMissingAreNoLoss
 few-missing-are-no-loss setup events m replies fault ready answers hosts few rows on refused =
@@ -101,6 +115,10 @@ few-missing-are-no-loss setup events m replies fault ready answers hosts few row
   where
     by : Refusal setup events m hosts replies answers rows fault → ⊥
     by (inl (s, gone)) = not-gone setup events m s (hosts s) (few s) (λ x e. on x s e) gone
-    by (inr (t, _, _, (some, w, missing))) =
-        (let many = w.many in let less : length w.ids ≤ length (hosts t) = no-more w.ids (hosts t) w.apart missing in
-        let fewer = few t in omega (arith, many, less, fewer))
+    by (inr (t, _, _, (some, w, away))) = not-away setup events m t (hosts t) (few t) (λ x e. on x t e) w.ids w.many w.apart
+        (λ x at. which x (away x at))
+      where
+        which : (x : ServerId) → In x.index (hosts t) ⊎ ((setup.lasting ≡ true) × HasDroppedClosed setup events x m t) →
+            In x.index (hosts t) ⊎ HasDroppedClosed setup events x m t
+        which x (inl missing) = inl missing
+        which x (inr (_, gone)) = inr gone

@@ -29,7 +29,8 @@ pub record IsStart (world : World) (one : Event) (i : ℕ) (after : World) : Typ
   pub kept : List (ServerId × ℕ)
   pub is : one ≡ event.Start i kept
   pub possible : is_possible world one ≡ true
-  pub backup : (after.hosts i).backup ≡ restart (next_server (world.hosts i)) kept (world.hosts i).backup
+  pub backup : (after.hosts i).backup ≡
+      restart (world.hosts i).setup.lasting (next_server (world.hosts i)) kept (world.hosts i).backup
   pub says : after.sent ≡ world.sent ++ to_coordinator (next_server (world.hosts i)) Enlist ∷ []
 
 -- two jobs that are one have one node and one work

@@ -41,7 +41,7 @@ module _ (sent : List Message) (host : HostNode) (up : (m : ServerId) → Ascend
   kept-host : (i : ℕ) (work : NodeWork) → IsGiven sent (TheHost i) work → KeptAfter (host_step host work)
   kept-host i (Deliver message) given = kept-takes host.master message given.0
   kept-host i Tick given = kept-ticks host.master
-  kept-host i (Start list) given = λ m. kept-restarted list (up m) (all m)
+  kept-host i (Start list) given = λ m. kept-restarted host.setup.lasting list (up m) (all m)
   kept-host i _ given = all
 
 abbrev pub AllHosts : List Message → (ℕ → HostNode) → Type 0

@@ -27,7 +27,7 @@ use Rattle.rc_log_laws.proofs.Since.{since-more}
 use Rattle.rc_log_laws.proofs.Covers.{head-not-below}
 use Rattle.rc_write_laws.proofs.Quiet.{All-In}
 use Rattle.rc_write_laws.proofs.Leasts.{least-pairs-are-in-order}
-use Rattle.rc_loss.specs.Loss.{WasPlaced, HasStored, WasDropped, IsGone, AreAnswers, HasRow, WasReady, config_after}
+use Rattle.rc_loss.specs.Loss.{WasPlaced, HasStored, WasDropped, HasDroppedClosed, IsGone, AreAnswers, HasRow, WasReady, config_after}
 use Rattle.rc_loss.specs.LossClaims.{RefusalsMeanLoss, IsRefused}
 use Rattle.rc_loss.proofs.Placings.{IsNext, Some_placed}
 use Rattle.rc_loss.proofs.Follows.{closed-next}
@@ -358,10 +358,14 @@ module _ (setup : Setup) (events : List Event) (m : ServerId) (hosts : ℕ → L
 
   -- A segment has no row
 
-  -- all of as many hosts as it has replicas are missing for it
+  -- the server's host is one of these, or has dropped what it told closed, where the setup is lasting
+  abbrev pub Away : ℕ → ServerId → Type 0
+  Away t x = In x.index (hosts t) ⊎ ((setup.lasting ≡ true) × HasDroppedClosed setup events x m t)
+
+  -- as many servers as it has replicas are away
   abbrev pub Absent : ℕ → Type 0
   Absent t = (0 < factor_of setup m.index) × (w : Tellers (factor_of setup m.index) (sent_after setup events) m t) ×
-      ((x : ServerId) → In x w.ids → In x.index (hosts t))
+      ((x : ServerId) → In x w.ids → Away t x)
 
   -- a segment is gone, or this one is shut
   abbrev Outcome : ℕ → Type 0
@@ -423,13 +427,13 @@ module _ (setup : Setup) (events : List Event) (m : ServerId) (hosts : ℕ → L
                 (subst (λ (one : Row). is_valid ((replay setup events).coordinator.least m) one ≡ true) (sym found.2)
                 (or_left stands.replica.closed _ (stands.closed_too refl))))
 
-        missing : (x : ServerId) (e : ℕ) → HasToldClosed (sent_after setup events) x m t e → In x.index (hosts t)
+        missing : (x : ServerId) (e : ℕ) → HasToldClosed (sent_after setup events) x m t e → Away t x
         missing x e told = which ((loss-facts setup events).told x m t e told.len true told.told)
           where
-            which : Standing setup events (replay setup events) x m t e told.len true → In x.index (hosts t)
-            which (inl stands) = stands-valid x e told.len stands
+            which : Standing setup events (replay setup events) x m t e told.len true → Away t x
+            which (inl stands) = inl (stands-valid x e told.len stands)
             which (inr (inl out)) = absurd (freed (freed-is-left-out setup events m t out))
-            which (inr (inr (never, _))) = absurd (never refl)
+            which (inr (inr (why, dropped))) = inr (why refl, record { epoch = e; told = told; dropped = dropped })
 
     -- one that isn't shut is the one before the head
     if-unshut : ((log_of setup events m).segments t).shut ≡ false → (s : ℕ) × Gone s
@@ -487,14 +491,28 @@ refusals-mean-loss setup events m replies fault ready answers all_rows refused =
     by (refused-gone setup events m (λ _. []) replies answers (λ i s. inr (all_rows i s)) ready refused)
   where
     by : Refusal setup events m (λ _. []) replies answers (λ i s. inr (all_rows i s)) fault → (s : ℕ) × IsGone setup events m s
-    by (inl (s, gone)) = (s, record { unshut = gone.unshut; placed = gone.placed; dropped = λ x at. which x (gone.dropped x at) })
+    by (inl (s, gone)) = (s, inl (record { unshut = gone.unshut; placed = gone.placed; dropped = λ x at. which x (gone.dropped x at) }))
       where
         which : (x : ServerId) → In x.index [] ⊎ WasDropped setup events x m s (config_after setup gone.placed.before m s).epoch →
             WasDropped setup events x m s (config_after setup gone.placed.before m s).epoch
         which x (inl never) = absurd never
         which x (inr dropped) = dropped
-    by (inr (t, _, _, (some, w, missing))) = absurd (none w.ids w.many missing)
+    by (inr (t, _, shut, (some, w, away))) = (t, inr (record {
+      lasting = lasts w.ids w.many away;
+      shut = shut;
+      tellers = w.ids;
+      many = w.many;
+      apart = w.apart;
+      dropped = λ x at. (gone x (away x at)).1;
+    }))
       where
-        none : (ids : List ServerId) → length ids ≡ factor_of setup m.index → ((x : ServerId) → In x ids → In x.index []) → ⊥
-        none [] many all = omega (arith, some, many)
-        none (x ∷ ids) many all = all x (inl refl)
+        gone : (x : ServerId) → In x.index [] ⊎ ((setup.lasting ≡ true) × HasDroppedClosed setup events x m t) →
+            (setup.lasting ≡ true) × HasDroppedClosed setup events x m t
+        gone x (inl never) = absurd never
+        gone x (inr dropped) = dropped
+
+        lasts : (ids : List ServerId) → length ids ≡ factor_of setup m.index →
+            ((x : ServerId) → In x ids → In x.index [] ⊎ ((setup.lasting ≡ true) × HasDroppedClosed setup events x m t)) →
+            setup.lasting ≡ true
+        lasts [] many all = absurd (omega (arith, some, many))
+        lasts (x ∷ ids) many all = (gone x (all x (inl refl))).0

@@ -1,14 +1,15 @@
 -- Each world that a list of events leads to: what was placed, what backups keep, and what was told stands or is lost.
 use Rattle.std.proofs.Common.{◌≡◌, ◌⊎◌, ℕ, Bool, true, false, ◌||◌, nat_lt, List, [], ◌∷◌, ◌++◌, length, Some}
-use Rattle.std.proofs.Common.{refl, sym, subst, inl, inr, arith}
+use Rattle.std.proofs.Common.{refl, sym, ◌∙◌, subst, inl, inr, arith}
 use Rattle.std.proofs.lemmas.Bool.{or_parts, lt-ltb, le-leb}
 use Rattle.std.proofs.lemmas.List.{append-nil, append_assoc}
 use Rattle.rc_model.specs.Model.{ServerId, Setup, Event, Stored}
 use Rattle.rc_model.specs.Model.{between, Backup, Held, replica_of, is_freed, is_kept}
-use Rattle.rc_model.specs.Model.{stays, Log, has_segment}
+use Rattle.rc_model.specs.Model.{Replica, stays, stays_unnamed, Log, has_segment, is_possible}
 use Rattle.rc_model.specs.Model.{factor_of, World, opening, step, replay, In}
 use Rattle.rc_model.proofs.Replays.{replay_from-push}
 use Rattle.rc_model.proofs.Storing.{stay-found}
+use Rattle.rc_model.proofs.Tests.{true_false}
 use Rattle.rc_step_laws.specs.All.{Begins, IsOpened, held_at, StillStands, HeldLater}
 use Rattle.rc_step_laws.proofs.Copies.{split}
 use Rattle.rc_step_laws.proofs.Lists.{begins-trans}
@@ -16,6 +17,7 @@ use Rattle.rc_log_laws.specs.WordClaims.{log_of}
 use Rattle.rc_log_laws.specs.FreedClaims.{HasFreed}
 use Rattle.rc_log_laws.proofs.Replays.{GoodStep, led-step, good-world}
 use Rattle.rc_log_laws.proofs.EachMaster.{led-by}
+use Rattle.rc_log_laws.proofs.SetUp.{hosts-last}
 use Rattle.rc_loss.specs.Loss.{WasPlaced, HasStored, WasDropped, config_after}
 use Rattle.rc_loss.proofs.Placings.{Placings, PlacedNow, HasClosed, placings-wider}
 use Rattle.rc_loss.proofs.Kept.{closed-more, freed-more}
@@ -64,7 +66,7 @@ placed-now {events} p = record {
 -- it stands at its host, or the master has freed it, or the host has dropped it since
 abbrev pub Standing : Setup → List Event → World → ServerId → ServerId → ℕ → ℕ → ℕ → Bool → Type 0
 Standing setup events world x m s e len closed = StillStands (held_at world.hosts x.index m) s e len closed
-    ⊎ (HasFreed world.sent m s ⊎ ((closed ≡ true → ⊥) × WasDropped setup events x m s e))
+    ⊎ (HasFreed world.sent m s ⊎ ((closed ≡ true → setup.lasting ≡ true) × WasDropped setup events x m s e))
 
 dropped-later : {setup : Setup} {events : List Event} (one : Event) {x m : ServerId} {s e : ℕ} → WasDropped setup events x m s e →
     WasDropped setup (events ++ one ∷ []) x m s e
@@ -79,6 +81,12 @@ stands-then {new} {s} {e} {len} {closed} later p = by (later.replicas s p.replic
         StillStands new s e len closed ⊎ (is_freed s new ≡ true)
     by (inl q) = search arith
     by (inr freed) = inr freed
+
+-- a closed one that has to be named is one of a lasting setup
+unnamed-lasting : (lasting : Bool) {replica : Replica} → replica.closed ≡ true → stays_unnamed lasting replica ≡ false →
+    lasting ≡ true
+unnamed-lasting true closed e = refl
+unnamed-lasting false closed e = true_false (sym closed ∙ e)
 
 -- All of it
 
@@ -138,23 +146,47 @@ module _ (setup : Setup) (events : List Event) (one : Event) (p : LossFacts setu
     -- the host starts anew
     restarts : HasStored (replay setup events).sent x m s e → IsStart (replay setup events) one x.index (step (replay setup events) one) →
         StillStands (held_at (replay setup events).hosts x.index m) s e len closed → StandsNow
-    restarts told start stands = split (stands.replica.closed || is_kept start.kept m s) kept lost
+    restarts told start stands = split (stays_unnamed host_lasting stands.replica || is_kept start.kept m s) kept lost
       where
         old : Held
         old = held_at (replay setup events).hosts x.index m
 
-        kept : (stands.replica.closed || is_kept start.kept m s) ≡ true → StandsNow
+        host_lasting : Bool
+        host_lasting = ((replay setup events).hosts x.index).setup.lasting
+
+        kept : (stays_unnamed host_lasting stands.replica || is_kept start.kept m s) ≡ true → StandsNow
         kept stay = inl (record {
           replica = stands.replica;
           kept = subst (λ (backup : Backup). replica_of s (backup.held m).replicas ≡ Some stands.replica) (sym start.backup)
-              (stay-found (stays start.kept m) old.replicas stands.kept stay);
+              (stay-found (stays host_lasting start.kept m) old.replicas stands.kept stay);
           epoch = stands.epoch;
           enough = stands.enough;
           closed_too = stands.closed_too;
         })
 
-        lost : (stands.replica.closed || is_kept start.kept m s) ≡ false → StandsNow
-        lost gone = search (arith, or_parts, kept, append-nil)
+        lost : (stays_unnamed host_lasting stands.replica || is_kept start.kept m s) ≡ false → StandsNow
+        lost gone = inr (inr (
+          λ is. unnamed-lasting setup.lasting (stands.closed_too is) goes,
+          record {
+            before = events;
+            kept = start.kept;
+            beginning = subst (λ (last : Event). Begins (events ++ last ∷ []) (events ++ one ∷ [])) start.is
+                ([], append-nil (events ++ one ∷ []));
+            told = told;
+            possible = subst (λ (last : Event). is_possible (replay setup events) last ≡ true) start.is start.possible;
+            replica = stands.replica;
+            had = stands.kept;
+            goes = goes;
+            since = stands.epoch;
+            unnamed = parts.1;
+          },
+        ))
+          where
+            parts : (stays_unnamed host_lasting stands.replica ≡ false) × (is_kept start.kept m s ≡ false)
+            parts = or_parts (stays_unnamed host_lasting stands.replica) (is_kept start.kept m s) gone
+
+            goes : stays_unnamed setup.lasting stands.replica ≡ false
+            goes = subst (λ b. stays_unnamed b stands.replica ≡ false) (hosts-last setup events x.index) parts.0
 
     -- or it stays the same
     stays-on : ((step (replay setup events) one).hosts x.index).generation ≡ ((replay setup events).hosts x.index).generation →

@@ -1,5 +1,5 @@
 -- What is lost: a segment that was placed on all its members, each of whose hosts has dropped its replica since.
-use Rattle.std.specs.Prelude.{◌≡◌, ◌⊎◌, ℕ, ◌≤◌, Bool, true, false, List, [], ◌∷◌, ◌++◌, Some}
+use Rattle.std.specs.Prelude.{◌≡◌, ◌⊎◌, ℕ, ◌≤◌, Bool, true, false, List, [], ◌∷◌, ◌++◌, length, Some}
 use Rattle.rc_types.specs.declared.ids.ServerId.{ServerId}
 use Rattle.rc_types.specs.declared.rows.Row.{Row}
 use Rattle.rc_types.specs.declared.events.Setup.{Setup}
@@ -9,17 +9,17 @@ use Rattle.rc_types.specs.declared.messages.Message.{Message}
 use Rattle.rc_types.specs.declared.messages.Body.TheVariants.{Stored, Ready, Replicas}
 use Rattle.rc_model.specs.Messages.{between, to_coordinator}
 use Rattle.rc_model.specs.Replica.{Replica}
-use Rattle.rc_model.specs.Backup.{replica_of, is_kept, row_of_replica, rows_of_replicas}
+use Rattle.rc_model.specs.Backup.{replica_of, is_kept, row_of_replica, rows_of_replicas, stays_unnamed}
 use Rattle.rc_model.specs.Config.{Config, all_placed}
 use Rattle.rc_model.specs.Log.{has_segment}
 use Rattle.rc_model.specs.Master.{ids_of}
 use Rattle.rc_model.specs.Pick.{HeldRow, held_rows}
 use Rattle.rc_model.specs.Attempts.{Attempt, has_answered}
 use Rattle.rc_model.specs.Coordinator.{attempt_at}
-use Rattle.rc_model.specs.Nodes.{server_of}
+use Rattle.rc_model.specs.Nodes.{factor_of, server_of}
 use Rattle.rc_model.specs.World.{replay, is_possible}
 use Rattle.rc_model.specs.Headline.{In}
-use Rattle.rc_step_laws.specs.Words.{Begins, IsOf}
+use Rattle.rc_step_laws.specs.Words.{Begins, HasToldClosed, IsOf, OnDifferentHosts}
 use Rattle.rc_log_laws.specs.WordClaims.{sent_after, log_of}
 use Rattle.rc_log_laws.specs.LogClaims.{held_after}
 
@@ -41,8 +41,8 @@ pub record HasStored (sent : List Message) (x m : ServerId) (s e : ℕ) : Type 0
   pub closed : Bool
   pub told : In (between x m (Stored s e len closed)) sent
 
--- x had told m that it has the segment under the epoch; then its host was started, had an open replica of the segment
--- under that epoch or a later one, and did not name it
+-- x had told m that it has the segment under the epoch; then its host was started, had a replica of the segment under
+-- that epoch or a later one, an open one unless the setup is lasting, and did not name it
 pub record WasDropped (setup : Setup) (events : List Event) (x m : ServerId) (s e : ℕ) : Type 0 where
   pub before : List Event
   pub kept : List (ServerId × ℕ)
@@ -51,17 +51,37 @@ pub record WasDropped (setup : Setup) (events : List Event) (x m : ServerId) (s 
   pub possible : is_possible (replay setup before) (Start x.index kept) ≡ true
   pub replica : Replica
   pub had : replica_of s (held_after setup before x.index m).replicas ≡ Some replica
-  pub unclosed : replica.closed ≡ false
+  pub goes : stays_unnamed setup.lasting replica ≡ false
   pub since : e ≤ replica.epoch
   pub unnamed : is_kept kept m s ≡ false
 
 -- a segment that isn't shut was once placed on all its members, and the host of each of them, since it told so, has
 -- dropped it
-pub record IsGone (setup : Setup) (events : List Event) (m : ServerId) (s : ℕ) : Type 0 where
+pub record IsOpenGone (setup : Setup) (events : List Event) (m : ServerId) (s : ℕ) : Type 0 where
   pub unshut : ((log_of setup events m).segments s).shut ≡ false
   pub placed : WasPlaced setup events m s
   pub dropped : (x : ServerId) → In x (ids_of (config_after setup placed.before m s).members) →
       WasDropped setup events x m s (config_after setup placed.before m s).epoch
+
+-- x has told m that it has the segment closed, and its host has dropped it since
+pub record HasDroppedClosed (setup : Setup) (events : List Event) (x m : ServerId) (s : ℕ) : Type 0 where
+  pub epoch : ℕ
+  pub told : HasToldClosed (sent_after setup events) x m s epoch
+  pub dropped : WasDropped setup events x m s epoch
+
+-- the setup is lasting, the segment is shut, and as many servers as it has replicas, each of a host of its own, have
+-- dropped it
+pub record IsShutGone (setup : Setup) (events : List Event) (m : ServerId) (s : ℕ) : Type 0 where
+  pub lasting : setup.lasting ≡ true
+  pub shut : ((log_of setup events m).segments s).shut ≡ true
+  pub tellers : List ServerId
+  pub many : length tellers ≡ factor_of setup m.index
+  pub apart : OnDifferentHosts tellers
+  pub dropped : (x : ServerId) → In x tellers → HasDroppedClosed setup events x m s
+
+-- the segment is gone
+abbrev pub IsGone : Setup → List Event → ServerId → ℕ → Type 0
+IsGone setup events m s = IsOpenGone setup events m s ⊎ IsShutGone setup events m s
 
 -- Answers
 

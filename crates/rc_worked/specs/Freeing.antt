@@ -1,5 +1,5 @@
 -- Worked runs.
-use Rattle.std.specs.Prelude.{◌≡◌, true, List, [], ◌∷◌, ◌++◌, codes}
+use Rattle.std.specs.Prelude.{◌≡◌, true, false, List, [], ◌∷◌, ◌++◌, codes}
 use Rattle.rc_worked.specs.Settling.{Line, report_of, create, decide, deliver, id, settle, start, suspect, write}
 
 abbrev pub factors : List Line

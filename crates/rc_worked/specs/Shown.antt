@@ -1,6 +1,6 @@
 -- Runs in which one rule each shows.
-use Rattle.std.specs.Prelude.{◌≡◌, ℕ, ◌-◌, Bool, true, List, [], ◌∷◌, ◌++◌, length, map, filter, Option, Some}
-use Rattle.std.specs.Prelude.{slice_get, codes}
+use Rattle.std.specs.Prelude.{◌≡◌, ℕ, ◌-◌, Bool, true, false, List, [], ◌∷◌, ◌++◌, length, map, filter, Option}
+use Rattle.std.specs.Prelude.{Some, slice_get, codes}
 use Rattle.rc_types.specs.declared.ids.Addr.{Addr}
 use Rattle.rc_types.specs.declared.ids.Addr.TheVariants.{Outside, Server}
 use Rattle.rc_types.specs.declared.messages.Message.{Message}
