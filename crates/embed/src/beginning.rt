@@ -30,6 +30,7 @@ fn setup(alloc: Global) -> Setup
         factor: 2,
         segment: 4,
         free: true,
+        lasting: false,
         factors: Seq::new(alloc),
     }
 }

@@ -279,23 +279,23 @@ stores-sends backup m seg body answer said =
 
 -- a restart of each master's part, as the definitions see it
 held_in-restarted : (kept : List (ServerId × ℕ)) (table : Table) (q : ServerId) →
-    held_in (with_each (restarted kept) table) q ≡ restarted kept q (held_in table q)
-held_in-restarted kept [] q = refl
-held_in-restarted kept (e ∷ es) q = by (same_id q e.0) refl (held_in-restarted kept es q)
+    held_in (with_each (restarted false kept) table) q ≡ restarted false kept q (held_in table q)
+held_in-restarted false kept [] q = refl
+held_in-restarted false kept (e ∷ es) q = by (same_id q e.0) refl (held_in-restarted false kept es q)
   where
-    by : (b : Bool) → same_id q e.0 ≡ b → held_in (with_each (restarted kept) es) q ≡ restarted kept q (held_in es q)
-        → unwrap_or (cond b (Some (restarted kept e.0 e.1)) (lookup (same_id q) (with_each (restarted kept) es))) nothing_held
-        ≡ restarted kept q (unwrap_or (cond b (Some e.1) (lookup (same_id q) es)) nothing_held)
-    by true is rest = ap (λ id. restarted kept id e.1) (sym (same_id-true is))
+    by : (b : Bool) → same_id q e.0 ≡ b → held_in (with_each (restarted false kept) es) q ≡ restarted false kept q (held_in es q)
+        → unwrap_or (cond b (Some (restarted false kept e.0 e.1)) (lookup (same_id q) (with_each (restarted false kept) es))) nothing_held
+        ≡ restarted false kept q (unwrap_or (cond b (Some e.1) (lookup (same_id q) es)) nothing_held)
+    by true is rest = ap (λ id. restarted false kept id e.1) (sym (same_id-true is))
     by false is rest = rest
 
 pub table_restarted : (old : Holdings) (own next : ServerId) (kept : List (ServerId × ℕ)) (table new : Table) →
-    holds own table ≡ old → new ≡ with_each (restarted kept) table
-    → backup_of (holds next new) ≡ restart next kept (backup_of old)
+    holds own table ≡ old → new ≡ with_each (restarted false kept) table
+    → backup_of (holds next new) ≡ restart false next kept (backup_of old)
 table_restarted old own next kept table new view e =
-    let table_is : held_in new ≡ (λ q. restarted kept q (held_in table q)) =
-    fun_ext (λ q. ap (λ t. held_in t q) e ∙ held_in-restarted kept table q) in
-    let masters_are : keys_of new ≡ keys_of table = ap keys_of e ∙ keys-with_each (restarted kept) table in
-    let both : backup_of (holds next new) ≡ restart next kept (backup_of (holds own table)) =
+    let table_is : held_in new ≡ (λ q. restarted false kept q (held_in table q)) =
+    fun_ext (λ q. ap (λ t. held_in t q) e ∙ held_in-restarted false kept table q) in
+    let masters_are : keys_of new ≡ keys_of table = ap keys_of e ∙ keys-with_each (restarted false kept) table in
+    let both : backup_of (holds next new) ≡ restart false next kept (backup_of (holds own table)) =
     λ j. record { own = next; held = table_is j; masters = masters_are j } in
-    both ∙ ap (λ o. restart next kept (backup_of o)) view
+    both ∙ ap (λ o. restart false next kept (backup_of o)) view

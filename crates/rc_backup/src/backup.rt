@@ -151,7 +151,7 @@ impl Backup {
     /// `kept` names, whole with their epoch; the others go. Nobody is fenced, and nothing is marked
     /// freed. Names of replicas that are not there are passed over. It takes no memory.
     pub fn restart(mut self, id: ServerId, kept: &[(ServerId, u16)]) -> Backup
-        ensures { backup_of result ≡ restart id kept.now (backup_of self) }
+        ensures { backup_of result ≡ restart false id kept.now (backup_of self) }
     {
         self.id = id;
         self.held.retain(|master, held| {

@@ -7,6 +7,8 @@ use Rattle.std.proofs.lemmas.Bool.{ltb-false, le-ltb}
 use Rattle.std.proofs.lemmas.List.{take_at, drop_at, take-append-drop, length-append, length-take}
 use Rattle.std.proofs.lemmas.List.Concat.{flat_map-cons}
 use Rattle.rc_codec.specs.Parts.{number, flag, bytes, optional, listed}
+use Rattle.rc_codec.specs.declared.rows.Marks.{Marks}
+use Rattle.rc_codec.specs.Fields.{marks_byte, marks_code, marks_at}
 use Rattle.rc_codec.specs.Reading.{◌>>=◌, Reader, made, ◌⊗◌, nothing_at, three, four, five, six, number_at, flag_at, bytes_at, optional_at}
 use Rattle.rc_codec.specs.Reading.{each_at, listed_at}
 use Rattle.rc_codec.specs.Fields.{chosen_at, versioned_at}
@@ -160,6 +162,34 @@ flag_again true rest = refl
 
 pub flag_lawful : Lawful flag flag_at
 flag_lawful = record { again = flag_again; takes = flag_takes }
+
+marks_are : (free lasting : Bool) (xs : List ℕ) (marks : Marks) (rest : List ℕ) →
+    Some (record { free = free; lasting = lasting }, xs) ≡ Some (marks, rest) →
+    marks_byte free lasting ∷ xs ≡ marks_code marks ++ rest
+marks_are free lasting xs marks rest e =
+    ap (λ (p : Marks × List ℕ). marks_code p.0 ++ p.1) (some_is (record { free = free; lasting = lasting }, xs) (marks, rest) e)
+
+marks_takes : (xs : List ℕ) (marks : Marks) (rest : List ℕ) → IsBytes xs → marks_at xs ≡ Some (marks, rest) →
+    xs ≡ marks_code marks ++ rest
+marks_takes [] marks rest fits e = absurd cc
+marks_takes (zero ∷ xs) marks rest fits e = marks_are false false xs marks rest e
+marks_takes (suc zero ∷ xs) marks rest fits e = marks_are true false xs marks rest e
+marks_takes (suc (suc zero) ∷ xs) marks rest fits e = marks_are false true xs marks rest e
+marks_takes (suc (suc (suc zero)) ∷ xs) marks rest fits e = marks_are true true xs marks rest e
+marks_takes (suc (suc (suc (suc b))) ∷ xs) marks rest fits e = absurd cc
+
+marks_again : (marks : Marks) (rest : List ℕ) → marks_at (marks_code marks ++ rest) ≡ Some (marks, rest)
+marks_again marks rest = by marks.free marks.lasting
+  where
+    by : (free lasting : Bool) → marks_at (marks_byte free lasting ∷ rest) ≡
+        Some (record { free = free; lasting = lasting }, rest)
+    by false false = refl
+    by true false = refl
+    by false true = refl
+    by true true = refl
+
+pub marks_lawful : Lawful marks_code marks_at
+marks_lawful = record { again = marks_again; takes = marks_takes }
 
 -- a test that did not fail
 guard_some : {A : Type 0} (b : Bool) (x y : A) → cond b None (Some x) ≡ Some y → (b ≡ false) × (x ≡ y)

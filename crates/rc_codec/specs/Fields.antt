@@ -1,5 +1,5 @@
 -- The parts of messages and events, each as its bytes, and how these are read. `docs/BYTES.md` has the same in prose.
-use Rattle.std.specs.Prelude.{ℕ, List, [], ◌∷◌, ◌++◌, Bool, Option, zero, suc, Some, None, slice_get}
+use Rattle.std.specs.Prelude.{ℕ, List, [], ◌∷◌, ◌++◌, Bool, true, false, Option, zero, suc, Some, None, slice_get}
 use Rattle.rc_types.specs.Codes.{code_number}
 use Rattle.rc_types.specs.declared.entries.Entry.{Entry}
 use Rattle.rc_types.specs.declared.events.MasterSetup.{MasterSetup}
@@ -14,6 +14,7 @@ use Rattle.rc_types.specs.declared.ids.Pair.{Pair}
 use Rattle.rc_types.specs.declared.kept.Grant.{Grant}
 use Rattle.rc_types.specs.declared.rows.KeyRange.{KeyRange}
 use Rattle.rc_types.specs.declared.rows.Tablet.{Tablet}
+use Rattle.rc_codec.specs.declared.rows.Marks.{Marks}
 use Rattle.rc_codec.specs.Parts.{byte, two_bytes, four_bytes, eight_bytes, flag, bytes, optional, listed}
 use Rattle.rc_types.specs.declared.faults.Code.TheVariants as code
 use Rattle.rc_codec.specs.Reading.{◌>>=◌, Reader, made, ◌⊗◌, nothing_at, three, four, five, number_at, flag_at}
@@ -105,11 +106,31 @@ range_code range = four_bytes range.table ++ eight_bytes range.lo ++ eight_bytes
 abbrev pub range_at : Reader KeyRange
 range_at = made (three u32_at u64_at u64_at) (λ p. record { table = p.0; lo = p.1; hi = p.2 })
 
+-- what is freed, and whether logs last, in one byte
+abbrev pub marks_byte : Bool → Bool → ℕ
+marks_byte false false = 0
+marks_byte true false = 1
+marks_byte false true = 2
+marks_byte true true = 3
+
+abbrev pub marks_code : Marks → List ℕ
+marks_code marks = marks_byte marks.free marks.lasting ∷ []
+
+abbrev pub marks_at : Reader Marks
+marks_at [] = None
+marks_at (zero ∷ rest) = Some (record { free = false; lasting = false }, rest)
+marks_at (suc zero ∷ rest) = Some (record { free = true; lasting = false }, rest)
+marks_at (suc (suc zero) ∷ rest) = Some (record { free = false; lasting = true }, rest)
+marks_at (suc (suc (suc zero)) ∷ rest) = Some (record { free = true; lasting = true }, rest)
+marks_at (suc (suc (suc (suc b))) ∷ rest) = None
+
 abbrev pub setup_code : MasterSetup → List ℕ
-setup_code setup = byte setup.factor ++ two_bytes setup.size ++ flag setup.free
+setup_code setup = byte setup.factor ++ two_bytes setup.size
+    ++ marks_code (record { free = setup.free; lasting = setup.lasting })
 
 abbrev pub setup_at : Reader MasterSetup
-setup_at = made (three u8_at u16_at flag_at) (λ p. record { factor = p.0; size = p.1; free = p.2 })
+setup_at = made (three u8_at u16_at marks_at)
+    (λ p. record { factor = p.0; size = p.1; free = p.2.free; lasting = p.2.lasting })
 
 abbrev pub part_code : Part → List ℕ
 part_code part = range_code part.range ++ four_bytes part.previous ++ four_bytes part.term

@@ -298,13 +298,58 @@ impl Take for KeyRange {
     }
 }
 
+/// What a host's masters free, and whether their logs last, in one byte: that they last counts 2.
+struct Marks {
+    free: bool,
+    lasting: bool,
+}
+
+impl Put for Marks {
+    ghost use Rattle.rc_codec.specs.Fields.{marks_code};
+
+    ghost code = { marks_code };
+
+    #[tactic(auto, using(crate::proofs::Beginning::begins_same))]
+    fn put(&self, out: &mut Vec<u8>) -> Result<(), AllocError> {
+        let byte = match (self.free, self.lasting) {
+            (false, false) => 0,
+            (true, false) => 1,
+            (false, true) => 2,
+            (true, true) => 3,
+        };
+        out.push(byte)?;
+        Ok(())
+    }
+}
+
+impl Take for Marks {
+    ghost use Rattle.rc_codec.specs.Fields.{marks_at};
+
+    ghost read = { marks_at };
+
+    fn take(_alloc: Global, bytes: &[u8]) -> Result<(Marks, &[u8]), DecodeFault> {
+        let ((free, lasting), rest) = match bytes {
+            [0, rest @ ..] => ((false, false), rest),
+            [1, rest @ ..] => ((true, false), rest),
+            [2, rest @ ..] => ((false, true), rest),
+            [3, rest @ ..] => ((true, true), rest),
+            _ => return Err(DecodeFault::Malformed),
+        };
+        Ok((Marks { free, lasting }, rest))
+    }
+}
+
 impl Put for MasterSetup {
     ghost use Rattle.rc_codec.specs.Fields.{setup_code};
 
     ghost code = { setup_code };
 
     fn put(&self, out: &mut Vec<u8>) -> Result<(), AllocError> {
-        (self.factor, self.size, self.free).put(out)
+        let marks = Marks {
+            free: self.free,
+            lasting: self.lasting,
+        };
+        (self.factor, self.size, marks).put(out)
     }
 }
 
@@ -314,8 +359,14 @@ impl Take for MasterSetup {
     ghost read = { setup_at };
 
     fn take(alloc: Global, bytes: &[u8]) -> Result<(MasterSetup, &[u8]), DecodeFault> {
-        let ((factor, size, free), rest) = <(u8, u16, bool)>::take(alloc, bytes)?;
-        Ok((MasterSetup { factor, size, free }, rest))
+        let ((factor, size, marks), rest) = <(u8, u16, Marks)>::take(alloc, bytes)?;
+        let setup = MasterSetup {
+            factor,
+            size,
+            free: marks.free,
+            lasting: marks.lasting,
+        };
+        Ok((setup, rest))
     }
 }
 

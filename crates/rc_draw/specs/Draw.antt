@@ -1,6 +1,6 @@
 -- Drawn events. After a beginning, each step takes three words, which choose an event; one that can't happen is passed
 -- over.
-use Rattle.std.specs.Prelude.{ℕ, zero, suc, ◌+◌, ◌%◌, Bool, nat_eq, nat_lt, if◌then◌else◌, List, [], ◌∷◌, length}
+use Rattle.std.specs.Prelude.{ℕ, zero, suc, ◌+◌, ◌%◌, Bool, false, nat_eq, nat_lt, if◌then◌else◌, List, [], ◌∷◌, length}
 use Rattle.std.specs.Prelude.{Option, Some, None}
 use Rattle.std.specs.Fmt.{decimal}
 use Rattle.rand_pcg.specs.Lcg.{Lcg}
@@ -29,7 +29,7 @@ use Rattle.rc_draw.specs.Words.{next_words, after_words}
 -- The beginning
 
 abbrev pub drawing_setup : Bool → Setup
-drawing_setup free = record { factor = 2; segment = 4; free = free; factors = [] }
+drawing_setup free = record { factor = 2; segment = 4; free = free; lasting = false; factors = [] }
 
 -- a pass over all messages
 abbrev pub settled : ScenarioEvent

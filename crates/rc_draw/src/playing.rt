@@ -17,6 +17,7 @@ pub(crate) fn drawing_setup(alloc: Global, free: bool) -> Setup
         factor: 2,
         segment: 4,
         free,
+        lasting: false,
         factors: Seq::new(alloc),
     }
 }

@@ -3,13 +3,14 @@ use Rattle.std.proofs.Common.{refl, sym, append_assoc}
 use Rattle.rc_codec.specs.Parts.{listed}
 use Rattle.rc_codec.specs.Fields.{id_code, setup_code, setup_at}
 use Rattle.rc_codec.proofs.Lawful.{Lawful, made_lawful, three_lawful, four_lawful, five_lawful, listed_lawful}
-use Rattle.rc_codec.proofs.EachKind.{u8_law, u16_law, u32_law, flag_law, id_law, entry_law}
+use Rattle.rc_codec.proofs.EachKind.{u8_law, u16_law, u32_law, flag_law, marks_law, id_law, entry_law}
 use Rattle.rc_keeping.specs.Saved.{replica_code, held_code, head_code, host_code}
 use Rattle.rc_keeping.specs.SaveReaders.{replica_at, held_at, head_at, host_at}
 
 setup_law : Lawful setup_code setup_at
-setup_law = made_lawful (three_lawful u8_law u16_law flag_law) (λ p. record { factor = p.0; size = p.1; free = p.2 })
-    (λ s. (s.factor, s.size, s.free)) setup_code (λ s. refl) (λ p. refl)
+setup_law = made_lawful (three_lawful u8_law u16_law marks_law)
+    (λ p. record { factor = p.0; size = p.1; free = p.2.free; lasting = p.2.lasting })
+    (λ s. (s.factor, s.size, record { free = s.free; lasting = s.lasting })) setup_code (λ s. refl) (λ p. refl)
 
 replica_law : Lawful replica_code replica_at
 replica_law = made_lawful (five_lawful u16_law u16_law flag_law (listed_lawful u16_law) (listed_lawful entry_law))

@@ -1,6 +1,6 @@
 -- What a contract sees of a master: its log as the list of its segments, since a function cannot be the value of a
 -- type.
-use Rattle.std.specs.Prelude.{Bool, List}
+use Rattle.std.specs.Prelude.{Bool, false, List}
 use Rattle.rc_model.specs.ServerList.{ServerList}
 use Rattle.rc_model.specs.Master.{Master, Task}
 use Rattle.rc_headroll.specs.LogData.{LogData, log_of}
@@ -20,6 +20,7 @@ master_of kept = record {
   known = kept.known;
   log = log_of kept.log;
   free = kept.free;
+  lasting = false;
   ownership = kept.owner.own;
   tasks = kept.tasks;
   deposed = kept.deposed;

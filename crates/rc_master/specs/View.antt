@@ -1,5 +1,5 @@
 -- How contracts and the definitions see the master's fields.
-use Rattle.std.specs.Prelude.{◌≡◌, ◌≤◌, ℕ, Bool, List, length, take, Option, Some, None}
+use Rattle.std.specs.Prelude.{◌≡◌, ◌≤◌, ℕ, Bool, false, List, length, take, Option, Some, None}
 use Rattle.rc_types.specs.declared.entries.Entry.{Entry}
 use Rattle.rc_model.specs.ServerList.{ServerList}
 use Rattle.rc_model.specs.Master.{Master as Node}
@@ -14,6 +14,7 @@ state_view s = record {
   known = s.known;
   log = log_of s.log;
   free = s.free;
+  lasting = false;
   ownership = s.ownership.own;
   tasks = s.tasks.items;
   deposed = s.deposed;
@@ -70,6 +71,7 @@ before_step s = record {
     known = or_list s.earlier s.known;
     log = before_of s.log;
     free = s.free;
+    lasting = false;
     ownership = s.ownership.before.own;
     tasks = take s.kept s.tasks.items;
     deposed = s.deposed;

@@ -11,6 +11,7 @@ keeper free log = record {
   known = no_servers;
   log = log;
   free = free;
+  lasting = false;
   ownership = owns_nothing;
   tasks = [];
   deposed = false;

@@ -11,6 +11,7 @@ sender log ownership tasks = record {
   known = no_servers;
   log = log;
   free = false;
+  lasting = false;
   ownership = ownership;
   tasks = tasks;
   deposed = false;

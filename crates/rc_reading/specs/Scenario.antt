@@ -117,7 +117,7 @@ segment_of = whole 1 MAX_SEGMENT
 -- the members of format 1 that aren't its events: one factor for all, and nothing is freed
 abbrev pub first_setup : Data → Option Setup
 first_setup d = only first_members d
-    (given2 (λ factor segment. record { factor = factor; segment = segment; free = false; factors = [] })
+    (given2 (λ factor segment. record { factor = factor; segment = segment; free = false; lasting = false; factors = [] })
     (field (codes "factor") factor_of d) (field (codes "segment") segment_of d))
 
 -- those of format 2
@@ -127,6 +127,7 @@ second_setup d = only second_members d
       factor = factor;
       segment = segment;
       free = free;
+      lasting = false;
       factors = factors;
     })
     (field (codes "factor") factor_of d) (field (codes "segment") segment_of d) (field (codes "free") as_bool d)

@@ -142,6 +142,7 @@ impl Top {
             factor: self.factor?,
             segment: self.segment?,
             free: false,
+            lasting: false,
             factors: Seq::new(alloc),
         })
     }
@@ -172,6 +173,7 @@ impl Top {
             factor,
             segment,
             free,
+            lasting: false,
             factors,
         };
         with_events(setup, self.events)

@@ -147,7 +147,7 @@ fetched-lookup held fenced replicas freed attempt seg len part found answer view
 -- after a restart
 pub held_restarted : (kept : List (ServerId × ℕ)) (m : ServerId) (held : Held) (fenced : Bool)
     (replicas entries : Replicas) (freed keys : List ℕ)
-    → held_of fenced replicas freed ≡ held → entries ≡ filter (stays kept m) replicas → keys ≡ [] →
-    held_of false entries keys ≡ restarted kept m held
+    → held_of fenced replicas freed ≡ held → entries ≡ filter (stays false kept m) replicas → keys ≡ [] →
+    held_of false entries keys ≡ restarted false kept m held
 held_restarted kept m held fenced replicas entries freed keys view left none =
-    (λ j. held_of false (left j) (none j)) ∙ ap (restarted kept m) view
+    (λ j. held_of false (left j) (none j)) ∙ ap (restarted false kept m) view

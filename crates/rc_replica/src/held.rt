@@ -160,7 +160,7 @@ impl Held {
     /// After a restart of the host: closed replicas stay, and open ones that are named, whole. The
     /// master is not fenced, and nothing is marked freed. It takes no memory.
     pub fn restart(&mut self, master: ServerId, kept: &[(ServerId, u16)])
-        ensures { self.new ≡ restarted kept.now master self.old }
+        ensures { self.new ≡ restarted false kept.now master self.old }
     {
         self.fenced = false;
         self.replicas.retain(|seg, replica| replica.is_closed() || is_kept(kept, master, *seg));

@@ -24,7 +24,7 @@ AreWithin index factor segment =
     (index < MAX_HOSTS) × (0 < factor) × (factor ≤ MAX_FACTOR) × (0 < segment) × (segment ≤ MAX_SEGMENT)
 
 abbrev pub setup_for : ℕ → ℕ → Bool → MasterSetup
-setup_for factor segment free = record { factor = factor; size = segment; free = free }
+setup_for factor segment free = record { factor = factor; size = segment; free = free; lasting = false }
 
 -- the session of this node, to whose file its save has to be written, and which has taken nothing yet
 pub record IsFirst (first : Node) (session : SessionData) : Type 0 where

@@ -257,6 +257,7 @@ fn setup_for(alloc: Global, factor: u8, segment: u16, free: bool) -> Setup
         factor,
         segment,
         free,
+        lasting: false,
         factors: Seq::new(alloc),
     }
 }

@@ -81,7 +81,7 @@ first_if d =
     (and_then_if (IsFrom1 MAX_SEGMENT) segment_of (get (codes "segment") d) (whole_range MAX_SEGMENT)))
   where
     by : (factor segment : Option ℕ) → IfSome factor (IsFrom1 MAX_FACTOR) → IfSome segment (IsFrom1 MAX_SEGMENT)
-        → IfSome (given2 (λ factor segment. record { factor = factor; segment = segment; free = false; factors = [] })
+        → IfSome (given2 (λ factor segment. record { factor = factor; segment = segment; free = false; lasting = false; factors = [] })
         factor segment) IsWithinLimits
     by None segment f s = tt
     by (Some factor) None f s = tt
@@ -103,6 +103,7 @@ second_if d =
           factor = factor;
           segment = segment;
           free = free;
+          lasting = false;
           factors = factors;
         }) factor segment free factors) IsWithinLimits
     by None segment free factors f s all = tt

@@ -13,6 +13,6 @@ pub record WireName : Type 0 where
 abbrev pub no_wire : WireName
 no_wire = record {
   table = record { words = 0; slots = 0; views_name = 0; atom = 0; block = 0; offset = 0; slot_names = [] };
-  setup = record { factor = 0; segment = 0; free = false; factors = [] };
+  setup = record { factor = 0; segment = 0; free = false; lasting = false; factors = [] };
   nodes = 0;
 }

@@ -13,7 +13,7 @@ use Rattle.rc_wire.specs.declared.steps.Step.TheVariants.{Do, Settle}
 
 -- two replicas, segments of 8
 abbrev pub threads_setup : Setup
-threads_setup = record { factor = 2; segment = 8; free = false; factors = [] }
+threads_setup = record { factor = 2; segment = 8; free = false; lasting = false; factors = [] }
 
 -- the server that owns the table: the first of host 0
 abbrev pub owner : ServerId

@@ -67,6 +67,7 @@ fn opened(alloc: Global, hosts: u8) -> Result<Opening, AllocError>
         factor: 2,
         segment: 8,
         free: false,
+        lasting: false,
         factors: Seq::new(alloc),
     };
     Opening::new(alloc, &setup, hosts)

@@ -1,5 +1,5 @@
 -- What a contract sees of a host: plain data, since a function cannot be the value of a type.
-use Rattle.std.specs.Prelude.{◌≡◌, ℕ, ◌-◌, ◌^◌, ◌<◌, ◌≤◌, nat_lt, if◌then◌else◌, List, Option, Some, None, option_map}
+use Rattle.std.specs.Prelude.{◌≡◌, ℕ, ◌-◌, ◌^◌, ◌<◌, ◌≤◌, false, nat_lt, if◌then◌else◌, List, Option, Some, None, option_map}
 use Rattle.std.specs.Prelude.{All}
 use Rattle.rc_types.specs.declared.events.MasterSetup.{MasterSetup}
 use Rattle.rc_types.specs.declared.events.Setup.{Setup}
@@ -37,8 +37,9 @@ backup_once_started host = if nat_lt 0 host.generation then Some host.backup els
 abbrev pub IsFactor : ℕ → Type 0
 IsFactor factor = (0 < factor) × (factor ≤ MAX_FACTOR)
 
--- the numbers of a setup are within the limits
+-- the numbers of a setup are within the limits, and it is not lasting: no code does yet what such a setup asks
 pub record IsWithinLimits (setup : Setup) : Type 0 where
+  pub plain : setup.lasting ≡ false
   pub factor : IsFactor setup.factor
   pub segment : setup.segment ≤ MAX_SEGMENT
   pub factors : All IsFactor setup.factors

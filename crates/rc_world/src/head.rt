@@ -20,11 +20,11 @@ pub struct HostHead {
 }
 
 impl HostHead {
-    /// Whether masters can be made with these numbers.
+    /// Whether masters can be made with these numbers: those of a lasting setup cannot yet.
     pub fn is_within_limits(&self) -> bool
         ensures { (result ≡ true) ↔ IsMasterSetup self.now.setup }
     {
         let setup = self.setup;
-        setup.factor > 0 && setup.factor <= MAX_FACTOR && setup.size <= MAX_SEGMENT
+        !setup.lasting && setup.factor > 0 && setup.factor <= MAX_FACTOR && setup.size <= MAX_SEGMENT
     }
 }

@@ -289,6 +289,7 @@ fn master_setup(setup: &Setup, index: u8) -> MasterSetup
         factor: factor_of(setup, index),
         size: setup.segment,
         free: setup.free,
+        lasting: setup.lasting,
     }
 }
 

@@ -29,6 +29,7 @@ fn a_seat_sees_what_another_added(rt: HostRuntime) -> Result<(), Fail> {
         factor: 2,
         segment: 8,
         free: false,
+        lasting: false,
         factors: Seq::new(rt.alloc()),
     };
     let (ledger, mut keeper) = opened(&rt, &setup)?;

@@ -28,6 +28,7 @@ fn opened(alloc: Global, hosts: u8) -> Result<Opening, AllocError>
         factor: 2,
         segment: 1024,
         free: false,
+        lasting: false,
         factors: Seq::new(alloc),
     };
     Opening::new(alloc, &setup, hosts)

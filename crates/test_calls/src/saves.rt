@@ -110,6 +110,7 @@ fn example(alloc: Global) -> Result<NodeState<Global>, Fault> {
             factor: 2,
             size: 4,
             free: true,
+            lasting: false,
         },
         generation: 1,
         runs: true,
@@ -123,6 +124,7 @@ fn new_host(alloc: Global) -> NodeState<Global> {
         factor: 2,
         segment: 4,
         free: true,
+        lasting: false,
         factors: Seq::new(alloc),
     };
     NodeState::host(alloc, 2, &setup)

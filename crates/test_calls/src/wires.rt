@@ -44,6 +44,7 @@ fn new_opening(alloc: Global) -> Result<Opening, AllocError>
         factor: 2,
         segment: 1024,
         free: false,
+        lasting: false,
         factors: Seq::new(alloc),
     };
     Opening::new(alloc, &setup, 3)

@@ -34,6 +34,7 @@ impl Options {
             factor: self.factor.clamp(1, 5),
             segment: self.segment.clamp(1, 1_024),
             free: self.free,
+            lasting: false,
             factors: Seq::new(alloc),
         }
     }

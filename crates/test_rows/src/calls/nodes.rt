@@ -14,6 +14,7 @@ pub fn of_a_master(alloc: Global, page: &mut Page) -> Result<(), Fault> {
         factor: 2,
         size: 8,
         free: false,
+        lasting: false,
     };
     let mut master = Master::new(alloc, OWNER, setup);
     write!(page, "\n    new: {}", master.id());

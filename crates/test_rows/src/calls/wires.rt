@@ -26,6 +26,7 @@ fn opened(alloc: Global) -> Result<Opening, AllocError>
         factor: 2,
         segment: 8,
         free: false,
+        lasting: false,
         factors: Seq::new(alloc),
     };
     Opening::new(alloc, &setup, 1)

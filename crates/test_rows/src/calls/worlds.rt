@@ -17,6 +17,7 @@ fn setup(alloc: Global) -> Setup
         factor: 1,
         segment: 8,
         free: false,
+        lasting: false,
         factors: Seq::new(alloc),
     }
 }

@@ -33,6 +33,7 @@ pub fn setup_of(alloc: Global, numbers: &mut Numbers, free: bool) -> Result<Setu
         factor,
         segment,
         free,
+        lasting: false,
         factors,
     })
 }

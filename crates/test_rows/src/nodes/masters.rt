@@ -14,7 +14,13 @@ pub fn new(alloc: Global, numbers: &mut Numbers, free: bool) -> Master {
     let own = numbers.id();
     let factor = numbers.byte().clamp(1, MAX_FACTOR);
     let size = numbers.short().clamp(1, MAX_SEGMENT);
-    Master::new(alloc, own, MasterSetup { factor, size, free })
+    let setup = MasterSetup {
+        factor,
+        size,
+        free,
+        lasting: false,
+    };
+    Master::new(alloc, own, setup)
 }
 
 /// One command for the master.

@@ -8,14 +8,14 @@ use Rattle.test_calls.proofs.ledgers.a_seat_sees_what_another_added.Goals as goa
 
 pub deal-coordinator-requires-clause-keeps : goal.deal-coordinator-requires-clause-keeps
 deal-coordinator-requires-clause-keeps c =
-    let setup : Setup = record { factor = 2; segment = 8; free = false; factors = c.new.result } in
+    let setup : Setup = record { factor = 2; segment = 8; free = false; lasting = false; factors = c.new.result } in
     let made = c.in_ok-ledger.ensures in
     let one = c.deal-outside.ensures.deals (new_desk setup) made.1 in
     (dealt (new_desk setup), one.0)
 
 pub add-requires-clause-keeps : goal.add-requires-clause-keeps
 add-requires-clause-keeps c =
-    let setup : Setup = record { factor = 2; segment = 8; free = false; factors = c.new.result } in
+    let setup : Setup = record { factor = 2; segment = 8; free = false; lasting = false; factors = c.new.result } in
     let made = c.in_ok-ledger.ensures in
     let one = c.deal-outside.ensures.deals (new_desk setup) made.1 in
     let two = c.deal-coordinator.ensures.deals (dealt (new_desk setup)) one.0 in
@@ -23,7 +23,7 @@ add-requires-clause-keeps c =
 
 pub add-requires-clause-sits : goal.add-requires-clause-sits
 add-requires-clause-sits c =
-    let setup : Setup = record { factor = 2; segment = 8; free = false; factors = c.new.result } in
+    let setup : Setup = record { factor = 2; segment = 8; free = false; lasting = false; factors = c.new.result } in
     let made = c.in_ok-ledger.ensures in
     let one = c.deal-outside.ensures.deals (new_desk setup) made.1 in
     let two = c.deal-coordinator.ensures.deals (dealt (new_desk setup)) one.0 in
@@ -31,7 +31,7 @@ add-requires-clause-sits c =
 
 pub add-requires-clause-event : goal.add-requires-clause-event
 add-requires-clause-event c =
-    let setup : Setup = record { factor = 2; segment = 8; free = false; factors = c.new.result } in
+    let setup : Setup = record { factor = 2; segment = 8; free = false; lasting = false; factors = c.new.result } in
     let made = c.in_ok-ledger.ensures in
     let one = c.deal-outside.ensures.deals (new_desk setup) made.1 in
     let two = c.deal-coordinator.ensures.deals (dealt (new_desk setup)) one.0 in
@@ -39,7 +39,7 @@ add-requires-clause-event c =
 
 pub see-requires-clause-keeps : goal.see-requires-clause-keeps
 see-requires-clause-keeps c =
-    let setup : Setup = record { factor = 2; segment = 8; free = false; factors = c.new.result } in
+    let setup : Setup = record { factor = 2; segment = 8; free = false; lasting = false; factors = c.new.result } in
     let made = c.in_ok-ledger.ensures in
     let one = c.deal-outside.ensures.deals (new_desk setup) made.1 in
     let two = c.deal-coordinator.ensures.deals (dealt (new_desk setup)) one.0 in
@@ -48,7 +48,7 @@ see-requires-clause-keeps c =
 
 pub see-requires-clause-sits : goal.see-requires-clause-sits
 see-requires-clause-sits c =
-    let setup : Setup = record { factor = 2; segment = 8; free = false; factors = c.new.result } in
+    let setup : Setup = record { factor = 2; segment = 8; free = false; lasting = false; factors = c.new.result } in
     let made = c.in_ok-ledger.ensures in
     let one = c.deal-outside.ensures.deals (new_desk setup) made.1 in
     (new_place 0, one.1)

@@ -26,6 +26,7 @@ returns-clause-quiet c =
       known = c.new.result;
       log = log_of c.new-2.result;
       free = c.args.setup.free;
+      lasting = false;
       ownership = c.new-3.result.own;
       tasks = c.new-4.result.items;
       deposed = false;

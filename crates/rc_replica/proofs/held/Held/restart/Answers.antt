@@ -10,6 +10,6 @@ returns c =
     held_restarted c.args.kept.now c.args.master c.args.self.now h.fenced h.replicas.entries c.retain.new.self.entries
     h.freed.keys c.clear.new.self.keys c.self.view_is
     (filter_from_retain_pairs _ (λ f. (f.0.now ≡ c.args.kept.now) × (f.1.now ≡ c.args.master))
-    (stays c.args.kept.now c.args.master) (λ g k v b w g' i t. search rules) _ h.replicas.entries
+    (stays false c.args.kept.now c.args.master) (λ g k v b w g' i t. search rules) _ h.replicas.entries
     c.retain.new.self.entries (refl, refl) c.retain.ensures.filtered)
     c.clear.ensures.empty
