@@ -299,6 +299,7 @@ impl Take for KeyRange {
 }
 
 /// What a host's masters free, and whether their logs last, in one byte: that they last counts 2.
+#[derive(Drop)]
 struct Marks {
     free: bool,
     lasting: bool,

@@ -202,7 +202,12 @@ module _ (setup : Setup) (events : List Event) (one : Event) (p : LossFacts setu
     stands-now at = by (told-stands (replay setup events) one (good-world setup events) x m s e len closed at)
       where
         was : HasStored (replay setup events).sent x m s e → Standing setup events (replay setup events) x m s e len closed → StandsNow
-        was told (inl stands) = search (arith, same-or-start, stays-on, restarts)
+        was told (inl stands) = of_host (same-or-start (replay setup events) one x.index)
+          where
+            of_host : (((step (replay setup events) one).hosts x.index).generation ≡ ((replay setup events).hosts x.index).generation) ⊎
+                IsStart (replay setup events) one x.index (step (replay setup events) one) → StandsNow
+            of_host (inl still) = stays-on still stands
+            of_host (inr start) = restarts told start stands
         was told (inr (inl freed)) = inr (inl (freed-more led.onward.more freed))
         was told (inr (inr dropped)) = inr (inr (dropped.0, dropped-later one dropped.1))
 

@@ -13,3 +13,4 @@ pub mod Sentences
 pub mod Clients
 pub mod Losses
 pub mod Ordered
+pub mod Lasting

@@ -9,6 +9,7 @@ pub mod freeing;
 pub mod happening;
 pub mod in_order;
 pub mod kept;
+pub mod lasting;
 pub mod losses;
 pub mod ordered;
 pub mod recoveries;
