@@ -50,7 +50,8 @@ same-followed = record {
 }
 
 takes-same : (master : Master) (from : Addr) (body : Body) → Same master (master_takes master from body)
-takes-same master from body = kept-takes Same same-joined same-listed same-followed (same-taken {master = master} {from = from} {body = body})
+takes-same master from body =
+    kept-takes Same same-joined same-listed same-followed (same-taken {master = master} {from = from} {body = body})
 
 ticks-same : (master : Master) → Same master (master_ticks master)
 ticks-same master = kept-ticks Same same-joined same-listed same-followed same-ticked master
