@@ -17,7 +17,8 @@ use Rattle.rc_owner_laws.specs.Worlds.{AllHold}
 use Rattle.rc_owner_laws.proofs.Rows.{waited, in-order}
 use Rattle.rc_owner_laws.proofs.Bases.{IsTaskOf, task-of, task-ascends, decided-same}
 use Rattle.rc_owner_laws.proofs.VersionCuts.{all-cut, row-made}
-use Rattle.rc_owner_laws.proofs.VersionsOrdered.{opened, replayed-begins}
+use Rattle.rc_owner_laws.proofs.VersionsOrdered.{opened}
+use Rattle.rc_owner_laws.proofs.Below.{replayed-begins}
 use Rattle.rc_owner_laws.proofs.Rising.{Stands, stands}
 use Rattle.rc_linear.proofs.Fresh.{place-at}
 

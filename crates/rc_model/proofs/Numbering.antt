@@ -1,11 +1,11 @@
 -- How writes are numbered and appended.
-use Rattle.std.proofs.Common.{◌≡◌, ℕ, zero, suc, ◌+◌, ◌<◌, ◌≤◌, Bool, true, false, max, List, [], ◌∷◌, ◌++◌}
+use Rattle.std.proofs.Common.{◌≡◌, ℕ, zero, suc, ◌+◌, ◌<◌, ◌≤◌, Bool, true, false, cond, max, List, [], ◌∷◌, ◌++◌}
 use Rattle.std.proofs.Common.{length, Option, Some, slice_get, ap, ◌∙◌, arith}
 use Rattle.std.proofs.lemmas.Bool.{ne_eqb}
 use Rattle.std.proofs.lemmas.List.{append_assoc}
 use Rattle.rc_model.specs.Model.{Entry, put, Segment, with_entry, LogPlace, places_in, places_to}
 use Rattle.rc_model.specs.Model.{places_of, entries_of, is_writing, is_full, term_of, is_of, greatest_version, Master}
-use Rattle.rc_model.specs.Model.{appends_entry, is_too_long, written, writes}
+use Rattle.rc_model.specs.Model.{appends_entry, head_of, is_too_long, new_version, next_version, place_version, written, writes}
 use Rattle.rc_model.proofs.Tests.{either}
 use Rattle.rc_model.proofs.Tables.{put-same, put-other}
 use Rattle.rc_model.proofs.LogParts.{places_to-agrees}
@@ -21,11 +21,24 @@ greatest-above term table key (one ∷ others) (suc k) {entry} found is =
     (max one.version (greatest_version term table key others)) (greatest_version term table key others)
     (λ _. omega arith) (λ _. rest)
 
--- a write is numbered above all of its term and key
+-- a write is numbered above all of its term and key, unless the setup is lasting
 pub written-above : (master : Master) (term table key : ℕ) (value : Option (List ℕ)) (k : ℕ) (entry : Entry) →
-    slice_get (entries_of master.log) k ≡ Some entry → is_of term table key entry ≡ true →
+    master.lasting ≡ false → slice_get (entries_of master.log) k ≡ Some entry → is_of term table key entry ≡ true →
     entry.version < (written master term table key value).version
-written-above master term table key value k entry found is = search (arith, greatest-above)
+written-above master term table key value k entry plain found is =
+    let most : entry.version ≤ greatest_version term table key (entries_of master.log) =
+    greatest-above term table key (entries_of master.log) k found is in
+    let next : new_version master term table key ≡ next_version term table key (entries_of master.log) =
+    ap (λ (b : Bool). cond b (place_version term master.log.head (length (head_of master.log).entries))
+    (next_version term table key (entries_of master.log))) plain in
+    omega (arith, most, next)
+
+-- there by its place
+pub written-at : (master : Master) (term table key : ℕ) (value : Option (List ℕ)) → master.lasting ≡ true →
+    (written master term table key value).version ≡ place_version term master.log.head (length (head_of master.log).entries)
+written-at master term table key value lasts =
+    ap (λ (b : Bool). cond b (place_version term master.log.head (length (head_of master.log).entries))
+    (next_version term table key (entries_of master.log))) lasts
 
 -- the place of one more entry
 places_in-push : (seg offset : ℕ) (entries : List (Entry × Bool)) (entry : Entry) (client : Bool) →

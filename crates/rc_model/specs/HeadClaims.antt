@@ -13,7 +13,7 @@ use Rattle.rc_model.specs.Config.{Config, all_placed, noted, lose}
 use Rattle.rc_model.specs.Log.{Log, places_of, entries_of, head_of, old_head_of, is_closing, is_writing}
 use Rattle.rc_model.specs.Heads.{is_full, begin_roll}
 use Rattle.rc_model.specs.Ownership.{term_of}
-use Rattle.rc_model.specs.Versions.{is_of}
+use Rattle.rc_model.specs.Versions.{is_of, place_version}
 use Rattle.rc_model.specs.Master.{Master, durable_entries, is_dead_segment, dead_segments}
 use Rattle.rc_model.specs.Writing.{is_too_long, written, writes}
 use Rattle.rc_model.specs.FollowUps.{follow_up}
@@ -98,11 +98,17 @@ DeadIsOutdated = (master : Master) (seg k : ℕ) (entry : Entry) → is_dead_seg
 
 -- Writes
 
--- a write's version is above all of its term and key in the log
+-- a write's version is above all of its term and key in the log, unless the setup is lasting
 abbrev pub WritesAreNumberedAbove : Type 0
 WritesAreNumberedAbove = (master : Master) (term table key : ℕ) (value : Option (List ℕ)) (k : ℕ) (entry : Entry) →
-    slice_get (entries_of master.log) k ≡ Some entry → is_of term table key entry ≡ true →
+    master.lasting ≡ false → slice_get (entries_of master.log) k ≡ Some entry → is_of term table key entry ≡ true →
     entry.version < (written master term table key value).version
+
+-- there it is made of the write's term and place alone
+abbrev pub WritesAreNumberedByPlace : Type 0
+WritesAreNumberedByPlace = (master : Master) (term table key : ℕ) (value : Option (List ℕ)) → master.lasting ≡ true →
+    (written master term table key value).version ≡
+    place_version term master.log.head (length (head_of master.log).entries)
 
 -- what a write appends is what was asked, at the log's end, under the term of its range
 abbrev pub WritesAppendTheAsked : Type 0

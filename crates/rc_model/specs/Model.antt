@@ -104,7 +104,7 @@ pub use Rattle.rc_model.specs.ListRules.{obeys_list, opens_first, places_segment
 pub use Rattle.rc_model.specs.ListRules.{takes_list, then_does, tries_first}
 pub use Rattle.rc_model.specs.Log.{Log, LogPlace, durable_among, durable_now, entries_of, has_old_head, has_segment}
 pub use Rattle.rc_model.specs.Log.{head_of, is_closing, is_opening, is_writing, new_log, numbers_to, old_head_of}
-pub use Rattle.rc_model.specs.Log.{places_in, places_of, places_to, replayed_at, with_segment}
+pub use Rattle.rc_model.specs.Log.{last_durable, places_in, places_of, places_to, replayed_at, with_segment}
 pub use Rattle.rc_model.specs.Made.{entry_at, made}
 pub use Rattle.rc_types.specs.declared.events.MasterSetup.{MasterSetup}
 pub use Rattle.rc_model.specs.Master.{Master, Task, appends_entry, dead_segments, durable_entries}
@@ -124,7 +124,7 @@ pub use Rattle.rc_model.specs.Nodes.{HostNode, Deliver, NodeWork, coordinator_ca
 pub use Rattle.rc_model.specs.Nodes.{factor_of, host_can, host_step, is_for_backup, is_for_clients, is_running_at}
 pub use Rattle.rc_model.specs.Nodes.{master_setup, new_host, next_server, outside_can, outside_sends, runs, server_of}
 pub use Rattle.rc_model.specs.Nodes.{server_takes, starts_host, takes_if_running, ticks_if_running, with_backup}
-pub use Rattle.rc_model.specs.Nodes.{with_master}
+pub use Rattle.rc_model.specs.Nodes.{size_of, with_master}
 pub use Rattle.rc_model.specs.Owners.{Granted, IsBefore, IsEarlier, IsGranted, covers, grant_in, granted, grants_of}
 pub use Rattle.rc_model.specs.Owners.{is_before, is_earlier, onward, previous}
 pub use Rattle.rc_model.specs.Ownership.{Ownership, PartRow, PartState, after_answer, after_replay, all_came}
@@ -159,7 +159,7 @@ pub use Rattle.rc_model.specs.Tablets.{assigned, count_to_mark, has_range, has_t
 pub use Rattle.rc_model.specs.Tablets.{lower_half, mark_if_owned, marked_crashed, split_at, tablet_of, tablets_of}
 pub use Rattle.rc_model.specs.Tablets.{upper_half, whole_table, with_table}
 pub use Rattle.rc_model.specs.Versions.{Found, found_in, greatest_version, is_above, is_dead, is_of, is_outdated}
-pub use Rattle.rc_model.specs.Versions.{next_version, or_greater, read_of}
+pub use Rattle.rc_model.specs.Versions.{next_version, or_greater, place_version, read_of}
 pub use Rattle.rc_model.specs.Works.{coordinator_after, host_after, work_if_for, work_in, works_of}
 pub use Rattle.rc_model.specs.World.{Job, NodeName, TheCoordinator, TheHost, TheOutside, World, coordinator_done}
 pub use Rattle.rc_model.specs.World.{delivery, host_done, is_possible, is_possible_job, job_done, master_of, node_can}
@@ -170,4 +170,4 @@ pub use Rattle.rc_model.specs.WorldClaims.{CoordinatorFollowsItsWorks, EachNodeI
 pub use Rattle.rc_model.specs.WorldClaims.{HostsFollowTheirWorks, ImpossibleChangesNothing, OneMoreEventIsAStep}
 pub use Rattle.rc_model.specs.WorldClaims.{PossibleIsNoted, SameNodesAreEqual, SentOnlyGrows}
 pub use Rattle.rc_model.specs.Writing.{if_owned, is_too_long, reads, reads_under, refused, rolls_for_write, writes}
-pub use Rattle.rc_model.specs.Writing.{writes_under, written}
+pub use Rattle.rc_model.specs.Writing.{new_version, shown_version, version_of_nothing, writes_under, written}

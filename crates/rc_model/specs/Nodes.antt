@@ -1,7 +1,7 @@
 -- The nodes: the outside, the coordinator, and each host with its backup and, where it runs, its master. What a node
 -- can be given and what it then does depend on its own state and on that work alone.
 use Rattle.std.specs.Prelude.{ℕ, ◌+◌, Bool, true, false, nat_lt, ◌&&◌, if◌then◌else◌, List, [], ◌∷◌, Option, Some}
-use Rattle.std.specs.Prelude.{None, slice_get, is_some, unwrap_or}
+use Rattle.std.specs.Prelude.{None, slice_get, is_some, unwrap_or, min}
 use Rattle.std.specs.Option.{option_map_or}
 use Rattle.rc_types.specs.declared.ids.ServerId.{ServerId}
 use Rattle.rc_types.specs.declared.ids.Addr.{Addr}
@@ -76,10 +76,14 @@ pub record HostNode : Type 0 where
 abbrev pub factor_of : Setup → ℕ → ℕ
 factor_of setup index = unwrap_or (slice_get setup.factors index) setup.factor
 
+-- how many entries a segment takes; an offset has to have room in a version, where the setup is lasting
+abbrev pub size_of : Setup → ℕ
+size_of setup = if setup.lasting then min setup.segment 65536 else setup.segment
+
 abbrev pub master_setup : Setup → ℕ → MasterSetup
 master_setup setup index = record {
   factor = factor_of setup index;
-  size = setup.segment;
+  size = size_of setup;
   free = setup.free;
   lasting = setup.lasting;
 }

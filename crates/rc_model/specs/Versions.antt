@@ -1,5 +1,6 @@
--- How an owner numbers versions, what it reads, and which entries are outdated: all by the entries of its log.
-use Rattle.std.specs.Prelude.{ℕ, ◌+◌, Bool, true, nat_eq, nat_lt, ◌&&◌, if◌then◌else◌, List, [], ◌∷◌, max, Option}
+-- How an owner numbers versions, what it reads, and which entries are outdated: by the entries of its log, or, where the
+-- setup is lasting, a version by the place of its write.
+use Rattle.std.specs.Prelude.{ℕ, ◌+◌, ◌*◌, Bool, true, nat_eq, nat_lt, ◌&&◌, if◌then◌else◌, List, [], ◌∷◌, max, Option}
 use Rattle.std.specs.Prelude.{Some, None}
 use Rattle.std.specs.List.{list_any, list_all, fold}
 use Rattle.std.specs.Option.{option_map_or}
@@ -19,6 +20,11 @@ greatest_version term table key (entry ∷ entries) =
 -- the version rule: one more than the greatest so far
 abbrev pub next_version : ℕ → ℕ → ℕ → List Entry → ℕ
 next_version term table key entries = greatest_version term table key entries + 1
+
+-- the version of a write under a term at a place, where the setup is lasting: those of a greater term are greater, and
+-- those of a term rise with the place
+abbrev pub place_version : ℕ → ℕ → ℕ → ℕ
+place_version term seg offset = term * 4294967296 + (seg * 65536 + offset)
 
 -- a version is above that of the entry that was found, and where none was found any is
 abbrev pub is_above : Option Entry → ℕ → Bool

@@ -3,7 +3,8 @@
 ghost use Rattle.rc_model.specs.HeadClaims.{ClosesOnlyWherePlaced, StepsCloseOnlyWherePlaced};
 ghost use Rattle.rc_model.specs.HeadClaims.{TicksCloseOnlyWherePlaced, WritesOnlyWhereShut, RollsKeepTheDigest};
 ghost use Rattle.rc_model.specs.HeadClaims.{RollsLeaveOutOnlyDead, DeadIsOutdated, WritesAreNumberedAbove};
-ghost use Rattle.rc_model.specs.HeadClaims.{WritesAppendTheAsked, ChangesTakeAFreshEpoch, NothingIsToldUnderIt};
+ghost use Rattle.rc_model.specs.HeadClaims.{WritesAreNumberedByPlace, WritesAppendTheAsked};
+ghost use Rattle.rc_model.specs.HeadClaims.{ChangesTakeAFreshEpoch, NothingIsToldUnderIt};
 ghost use Rattle.rc_model.specs.HeadClaims.{OtherEpochsAreNotNoted, OfEachStep, WritesWhereItMay, AppendsWhereItWrites};
 ghost use Rattle.rc_model.specs.MasterClaims.{FollowUpsLower, NoneAppliesAfterwards, ShutIsMarked};
 
@@ -34,10 +35,11 @@ pub fn entries_are_appended_in_writing()
     ensures appends { OfEachStep AppendsWhereItWrites }
 {}
 
-/// A write is numbered above all of its term and key in the log; what is appended is what was asked,
-/// under the term of its range.
+/// A write is numbered above all of its term and key in the log, or, where the setup is lasting, by its
+/// term and place alone; what is appended is what was asked, under the term of its range.
 pub fn writes_are_as_asked()
     ensures above { WritesAreNumberedAbove }
+    ensures place { WritesAreNumberedByPlace }
     ensures asked { WritesAppendTheAsked }
 {}
 

@@ -128,7 +128,8 @@ is-of-true {term} {table} {key} entry a b c = search (arith, and_from, eq-eqb)
 
 pub good-client : {sent : List Message} {m : ServerId} {v : PartView} (place : LogPlace) → place.client ≡ true →
     GoodParts sent m v → OwnsPoint v.own place.entry.term place.entry.table place.entry.key →
-    place.entry.version ≡ next_version place.entry.term place.entry.table place.entry.key (logged v.places) →
+    (v.lasting ≡ false →
+    place.entry.version ≡ next_version place.entry.term place.entry.table place.entry.key (logged v.places)) →
     GoodParts sent m (with_place place v)
 good-client {sent} {m} {v} place is_client good owns numbered = record {
   granted = good.granted;
@@ -161,14 +162,15 @@ good-client {sent} {m} {v} place is_client good owns numbered = record {
     how state task (inl p) = search (arith, under-place-other, other)
     how state task (inr p) = search (arith, under-place-other, other, owned, begins-place, durable-place)
 
-    above : (entry : Entry) → In entry (logged v.places) → entry.term ≡ place.entry.term →
+    above : v.lasting ≡ false → (entry : Entry) → In entry (logged v.places) → entry.term ≡ place.entry.term →
         entry.table ≡ place.entry.table → entry.key ≡ place.entry.key → entry.version < place.entry.version
-    above entry at a b c =
+    above plain entry at a b c =
         let found = place_of (logged v.places) entry at in
         let most : entry.version ≤ greatest_version place.entry.term place.entry.table place.entry.key (logged v.places) =
         greatest-above place.entry.term place.entry.table place.entry.key (logged v.places) found.0 found.1
         (is-of-true entry a b c) in
-        omega arith
+        let next : place.entry.version ≡ next_version place.entry.term place.entry.table place.entry.key (logged v.places) = numbered plain in
+        omega (arith, most, next)
 
     joined : (state : PartState) (task : Task) → state.part.term ≡ place.entry.term →
         IsWaiting sent m v task state ⊎ HasJoined sent m v task state →

@@ -26,6 +26,8 @@ pub mod DataReplays
 pub mod PartWorlds
 pub mod Rows
 pub mod Bases
+pub mod Numbering
+pub mod Below
 pub mod Rising
 pub mod VersionCuts
 pub mod Kept

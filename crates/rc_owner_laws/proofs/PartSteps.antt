@@ -10,7 +10,7 @@ use Rattle.rc_model.specs.Model.{PartState, Ownership, term_of, owns_term, knows
 use Rattle.rc_model.specs.Model.{is_complete, to_answer, after_answer, after_replay, Master, Task, with_log, durable_replayed, ids_of}
 use Rattle.rc_model.specs.Model.{not_lost, appends_entry, refused, written, write_oks, new_durable, attempt_of, fetch_of}
 use Rattle.rc_model.specs.Model.{reminds, task_of, In, left_out, old_head_of, is_unclosed}
-use Rattle.rc_model.specs.Model.{with_closes_sent}
+use Rattle.rc_model.specs.Model.{with_closes_sent, entries_of, next_version, place_version}
 use Rattle.rc_types.specs.declared.ids.Addr.TheVariants.{Coordinator}
 use Rattle.rc_types.specs.declared.messages.Body.TheVariants as body
 use Rattle.rc_model.proofs.Members.{In-left, In-right, In-get}
@@ -66,7 +66,7 @@ module _ (sent : List Message) (m : ServerId) where
       appended-view master entry true head writing in
       record {
         head = head;
-        good = subst (GoodParts sent m) (sym now) (good-client place refl good (owns-point owned) refl);
+        good = subst (GoodParts sent m) (sym now) (good-client place refl good (owns-point owned) next);
         later = subst (PartsLater (part_view master)) (sym now) (later-places (place ∷ []) refl refl);
         says = plain-says (part_view (appends_entry master entry true).0) (appends_entry master entry true).1
             (plain-to_ids master.log.own (ids_of (not_lost (master.log.segments master.log.head).config.members))
@@ -75,6 +75,10 @@ module _ (sent : List Message) (m : ServerId) where
     where
       entry : Entry
       entry = written master term table key value
+
+      next : master.lasting ≡ false → entry.version ≡ next_version term table key (entries_of master.log)
+      next plain = ap (λ (b : Bool). cond b (place_version term master.log.head (length (head_of master.log).entries))
+          (next_version term table key (entries_of master.log))) plain
 
       place : LogPlace
       place = record {

@@ -23,6 +23,7 @@ use Rattle.rc_owner_laws.specs.Worlds.{AllHold}
 use Rattle.rc_owner_laws.specs.Words.{IsKeptBy, Keeps}
 use Rattle.rc_owner_laws.specs.VersionClaims.{MayFree}
 use Rattle.rc_owner_laws.proofs.Rows.{in-order, CameFor, came-for}
+use Rattle.rc_owner_laws.proofs.Below.{client-rises}
 use Rattle.rc_owner_laws.proofs.Bases.{cut_of, IsTaskOf, task-of, task-ascends, row-cut, IsStarted, started, joined-begins, base-safe}
 
 -- Lists
@@ -329,7 +330,8 @@ module _ (sent : List Message) (masters : ServerId → Master) (hosts : ℕ → 
         there = under-In T p.entry (logged before) (subst (In p.entry) begins.1 (In-left p.entry base begins.0 p.among))
 
         less : p.entry.version < place.entry.version
-        less = written.rises p.entry there.0 (there.1 ∙ same_term) (p.keeps.table_is ∙ sym table_is) (p.keeps.key_is ∙ sym key_is)
+        less = client-rises sent masters hosts c all grant.owner before after place whole client p.entry there.0 (there.1 ∙ same_term)
+            (p.keeps.table_is ∙ sym table_is) (p.keeps.key_is ∙ sym key_is)
 
         above : ((p.entry.version ≡ was.version) × (p.entry.value ≡ was.value)) ⊎
             (Freed × (was.version < p.entry.version)) → was.version < place.entry.version

@@ -16,6 +16,7 @@ use Rattle.rc_owner_laws.specs.VersionClaims.{HandoversKeepWhatWasAcknowledged, 
 use Rattle.rc_owner_laws.specs.VersionClaims.{VersionsRiseOverOwners, VersionsAlwaysRiseWithThePlace, NoVersionIsAcknowledgedTwice}
 use Rattle.rc_owner_laws.specs.VersionClaims.{NoBreach}
 use Rattle.rc_owner_laws.proofs.PartWorlds.{parts-world-by}
+use Rattle.rc_owner_laws.proofs.Numbering.{numbered-world}
 use Rattle.rc_owner_laws.proofs.Rising.{IsKeptIn, Covers, covers-anyhow}
 use Rattle.rc_owner_laws.proofs.Kept.{later-keeps, later-keeps-acked, no-version-twice, previous-earlier}
 use Rattle.rc_owner_laws.proofs.VersionsOrdered.{logs-rise}
@@ -30,6 +31,7 @@ all-world setup events = let grants : OfWorld (replay setup events) = grants-wor
       terms = terms-world setup events;
       cuts = data-world setup events;
       parts = parts-world-by terms-world setup events;
+      numbered = numbered-world setup events;
     }
 
 pub data-is-the-plan-cut : DataIsThePlanCutToThePart

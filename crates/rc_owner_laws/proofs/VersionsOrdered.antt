@@ -17,6 +17,7 @@ use Rattle.rc_owner_laws.proofs.PartLists.{under-append, under-here, In-under, l
 use Rattle.rc_owner_laws.specs.Worlds.{AllHold}
 use Rattle.rc_owner_laws.proofs.Rows.{segs_of, waited, in-order, below-row}
 use Rattle.rc_owner_laws.proofs.Bases.{IsTaskOf, task-of, task-ascends}
+use Rattle.rc_owner_laws.proofs.Below.{replayed-begins, client-rises}
 use Rattle.rc_owner_laws.proofs.VersionCuts.{all-cut, row-made}
 use Rattle.rc_model.proofs.Tests.{either}
 
@@ -312,39 +313,6 @@ module _ (sent : List Message) (masters : ServerId → Master) (hosts : ℕ → 
       within : in_range task.part.range entry.table entry.key ≡ true
       within = (and_parts (nat_eq entry.term task.part.previous) _ passes).1
 
-  -- what a log has under the term up to a place that no client wrote is the beginning of a base
-  pub replayed-begins : {m : ServerId} {before : List LogPlace} (after : List LogPlace) (place : LogPlace)
-      (whole : places_of (masters m).log ≡ before ++ place ∷ after)
-      (r : IsReplayed (part_view (masters m)) before place.entry) →
-      {task : Task} (p : HasJoined sent m (part_view (masters m)) task r.state) →
-      Begins (under r.state.part.term (logged before) ++ place.entry ∷ []) (map (under_term r.state.part.term) p.entries)
-  replayed-begins {m} {before} after place whole r p = begins
-    where
-      T : ℕ
-      T = r.state.part.term
-
-      base : List Entry
-      base = map (under_term r.state.part.term) p.entries
-
-      logs : List Entry
-      logs = logged (places_of (masters m).log)
-
-      upto : List Entry
-      upto = under T (logged before) ++ place.entry ∷ []
-
-      parted : under T logs ≡ upto ++ under T (logged after)
-      parted = search (arith, whole, logged-append, under-append, under-here, append_assoc)
-
-      long : length upto ≤ length base
-      long = search (arith, upto, length-append, base, length-map)
-
-      begins : Begins upto base
-      begins = by (owns_term (masters m).ownership T) refl
-        where
-          by : (b : Bool) → owns_term (masters m).ownership T ≡ b → Begins upto base
-          by true e = begins-within upto base (p.owned e).0.0 (under T (logged after), sym parted ∙ sym (p.owned e).0.1) long
-          by false e = search (arith, append_assoc, upto, parted)
-
   -- so versions rise up to it
   replayed-rises : (m : ServerId) (before after : List LogPlace) (place : LogPlace)
       (whole : places_of (masters m).log ≡ before ++ place ∷ after)
@@ -374,7 +342,7 @@ module _ (sent : List Message) (masters : ServerId → Master) (hosts : ℕ → 
       upto = under T (logged before) ++ place.entry ∷ []
 
       begins : Begins upto base
-      begins = replayed-begins after place whole r p
+      begins = replayed-begins sent masters hosts c all after place whole r p
 
       long : length upto ≤ length base
       long = Rattle.rc_step_laws.proofs.Lists.begins-length upto base begins
@@ -415,9 +383,7 @@ module _ (sent : List Message) (masters : ServerId → Master) (hosts : ℕ → 
 
       by : (client : Bool) → split.place.client ≡ client → other.version < split.place.entry.version
       by true e =
-          let w : IsClients (part_view (masters m)) split.before split.place.entry =
-          (all.parts.each m).clients split.before split.after split.place split.whole e in
-          w.rises other stands (same.term_one ∙ sym same.term_other ∙ sym (ap (λ (x : Entry). x.term) is_entry))
+          client-rises sent masters hosts c all m split.before split.after split.place split.whole e other stands (same.term_one ∙ sym same.term_other ∙ sym (ap (λ (x : Entry). x.term) is_entry))
           (same.table ∙ sym (ap (λ (x : Entry). x.table) is_entry))
           (same.key ∙ sym (ap (λ (x : Entry). x.key) is_entry))
       by false e = replay r part part.how

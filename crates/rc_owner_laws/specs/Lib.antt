@@ -10,6 +10,7 @@ pub mod PartMoves
 pub mod PartClaims
 pub mod Data
 pub mod DataClaims
+pub mod Numbered
 pub mod Worlds
 pub mod Words
 pub mod VersionClaims

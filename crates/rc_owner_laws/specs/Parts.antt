@@ -1,6 +1,6 @@
 -- What holds of a master's parts: what it owns and recovers, against what was sent to it and what its log and its
 -- replay hold.
-use Rattle.std.specs.Prelude.{◌≡◌, ◌⊎◌, ℕ, ◌<◌, ◌≤◌, true, false, nat_eq, List, [], ◌∷◌, ◌++◌, length, map, filter}
+use Rattle.std.specs.Prelude.{◌≡◌, ◌⊎◌, ℕ, ◌<◌, ◌≤◌, Bool, true, false, nat_eq, List, [], ◌∷◌, ◌++◌, length, map, filter}
 use Rattle.std.specs.Prelude.{take, Some}
 use Rattle.rc_types.specs.Ranges.{in_range}
 use Rattle.rc_types.specs.declared.ids.ServerId.{ServerId}
@@ -26,10 +26,16 @@ pub record PartView : Type 0 where
   pub durable : ℕ
   pub own : Ownership
   pub tasks : List Task
+  pub lasting : Bool
 
 abbrev pub part_view : Master → PartView
-part_view master =
-    record { places = places_of master.log; durable = master.log.durable; own = master.ownership; tasks = master.tasks }
+part_view master = record {
+  places = places_of master.log;
+  durable = master.log.durable;
+  own = master.ownership;
+  tasks = master.tasks;
+  lasting = master.lasting;
+}
 
 -- the entries of places
 abbrev pub logged : List LogPlace → List Entry
@@ -140,14 +146,14 @@ TermsDiffer (state ∷ states) = NoneUnder state.part.term states × TermsDiffer
 
 -- Clients' writes
 
--- a client's entry: its point was granted under its term, its version is above all earlier ones of its key, and a
--- part of its term was in the log before
+-- a client's entry: its point was granted under its term, its version is above all earlier ones of its key (where the
+-- setup is lasting that follows of its place), and a part of its term was in the log before
 pub record IsClients (v : PartView) (before : List LogPlace) (entry : Entry) : Type 0 where
   pub grant : GrantedRange
   pub among : In grant v.own.grants
   pub term_is : grant.term ≡ entry.term
   pub holds : in_range grant.range entry.table entry.key ≡ true
-  pub rises : (other : Entry) → In other (logged before) → other.term ≡ entry.term → other.table ≡ entry.table →
+  pub rises : v.lasting ≡ false → (other : Entry) → In other (logged before) → other.term ≡ entry.term → other.table ≡ entry.table →
       other.key ≡ entry.key → other.version < entry.version
   pub after : (state : PartState) → In state v.own.parts → state.part.term ≡ entry.term →
       (state.rows ≡ []) × (state.size ≤ count_under entry.term (logged before))

@@ -15,6 +15,7 @@ use Rattle.rc_owner_laws.specs.Terms.{GoodTerms}
 use Rattle.rc_owner_laws.specs.Data.{DataAreCuts}
 use Rattle.rc_owner_laws.specs.Parts.{part_view, GoodParts}
 use Rattle.rc_owner_laws.specs.PartMoves.{part_said}
+use Rattle.rc_owner_laws.specs.Numbered.{AllNumbered}
 
 -- what a master has said of its parts is so in its last view
 abbrev pub parts_fine : (ServerId → Master) → Addr → Addr → Body → Type 0
@@ -33,3 +34,4 @@ pub record AllHold (sent : List Message) (masters : ServerId → Master) (hosts 
   pub terms : GoodTerms sent c
   pub cuts : DataAreCuts sent masters
   pub parts : PartsHold sent masters
+  pub numbered : AllNumbered masters
