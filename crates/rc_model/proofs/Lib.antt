@@ -7,6 +7,7 @@ pub mod LogParts
 pub mod Rules
 pub mod Sending
 pub mod Walk
+pub mod Lasts
 pub mod Phases
 pub mod Measures
 pub mod Ascending

@@ -1,6 +1,6 @@
 -- A master's log: its segments, of which the newest is the head, its places, and how much of it is durable.
-use Rattle.std.specs.Prelude.{ℕ, ◌+◌, ◌-◌, Bool, true, false, nat_eq, nat_lt, nat_le, ◌&&◌, if◌then◌else◌, List, [], ◌∷◌}
-use Rattle.std.specs.Prelude.{◌++◌, length, map, filter, not, zero, suc, Option, None, slice_get}
+use Rattle.std.specs.Prelude.{ℕ, ◌+◌, ◌-◌, Bool, true, false, nat_lt, nat_le, ◌&&◌, if◌then◌else◌, List, [], ◌∷◌}
+use Rattle.std.specs.Prelude.{◌++◌, length, map, filter, not, zero, suc}
 use Rattle.rc_types.specs.declared.ids.ServerId.{ServerId}
 use Rattle.rc_types.specs.declared.entries.Entry.{Entry}
 use Rattle.rc_types.specs.declared.kept.Phase.{Phase}
@@ -83,10 +83,6 @@ places_of log = places_to log.segments log.head
 -- the entries of the log, in order
 abbrev pub entries_of : Log → List Entry
 entries_of log = map (λ place. place.entry) (places_of log)
-
--- the last of the places that are durable
-abbrev pub last_durable : Log → Option LogPlace
-last_durable log = if nat_eq log.durable 0 then None else slice_get (places_of log) (log.durable - 1)
 
 -- the entries at these places that no client wrote: those that were taken out of the replay
 abbrev pub replayed_at : List LogPlace → List Entry

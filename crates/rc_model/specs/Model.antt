@@ -104,7 +104,7 @@ pub use Rattle.rc_model.specs.ListRules.{obeys_list, opens_first, places_segment
 pub use Rattle.rc_model.specs.ListRules.{takes_list, then_does, tries_first}
 pub use Rattle.rc_model.specs.Log.{Log, LogPlace, durable_among, durable_now, entries_of, has_old_head, has_segment}
 pub use Rattle.rc_model.specs.Log.{head_of, is_closing, is_opening, is_writing, new_log, numbers_to, old_head_of}
-pub use Rattle.rc_model.specs.Log.{last_durable, places_in, places_of, places_to, replayed_at, with_segment}
+pub use Rattle.rc_model.specs.Log.{places_in, places_of, places_to, replayed_at, with_segment}
 pub use Rattle.rc_model.specs.Made.{entry_at, made}
 pub use Rattle.rc_types.specs.declared.events.MasterSetup.{MasterSetup}
 pub use Rattle.rc_model.specs.Master.{Master, Task, appends_entry, dead_segments, durable_entries}
@@ -170,4 +170,4 @@ pub use Rattle.rc_model.specs.WorldClaims.{CoordinatorFollowsItsWorks, EachNodeI
 pub use Rattle.rc_model.specs.WorldClaims.{HostsFollowTheirWorks, ImpossibleChangesNothing, OneMoreEventIsAStep}
 pub use Rattle.rc_model.specs.WorldClaims.{PossibleIsNoted, SameNodesAreEqual, SentOnlyGrows}
 pub use Rattle.rc_model.specs.Writing.{if_owned, is_too_long, reads, reads_under, refused, rolls_for_write, writes}
-pub use Rattle.rc_model.specs.Writing.{new_version, shown_version, version_of_nothing, writes_under, written}
+pub use Rattle.rc_model.specs.Writing.{new_version, writes_under, written}

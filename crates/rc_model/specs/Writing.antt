@@ -1,5 +1,5 @@
 -- A client's write and read at a master, with their refusals in order.
-use Rattle.std.specs.Prelude.{ℕ, Bool, true, false, not, nat_eq, nat_lt, ◌&&◌, if◌then◌else◌, List, [], ◌∷◌, ◌++◌, length, Option}
+use Rattle.std.specs.Prelude.{ℕ, Bool, true, false, not, nat_lt, if◌then◌else◌, List, [], ◌∷◌, ◌++◌, length, Option}
 use Rattle.std.specs.Prelude.{Result, Ok, Err}
 use Rattle.std.specs.Option.{option_map_or}
 use Rattle.rc_types.specs.declared.entries.Entry.{Entry}
@@ -9,7 +9,7 @@ use Rattle.rc_types.specs.declared.limits.TheConstants.{MAX_VALUE}
 use Rattle.rc_types.specs.declared.messages.Message.{Message}
 use Rattle.rc_types.specs.declared.messages.Body.TheVariants.{ReadOk}
 use Rattle.rc_model.specs.Messages.{to_outside, refuses}
-use Rattle.rc_model.specs.Log.{Log, head_of, entries_of, last_durable, is_writing}
+use Rattle.rc_model.specs.Log.{Log, head_of, entries_of, is_writing}
 use Rattle.rc_model.specs.Heads.{is_full, begin_roll}
 use Rattle.rc_model.specs.Ownership.{term_of}
 use Rattle.rc_model.specs.Versions.{next_version, place_version, read_of}
@@ -57,22 +57,11 @@ writes master table key value =
     if is_too_long value then refused master ValueTooLong
     else if_owned master table key (λ term. writes_under master term table key value)
 
--- the version of a read of nothing where the setup is lasting: that of a write at the last durable place
-abbrev pub version_of_nothing : Log → ℕ → ℕ
-version_of_nothing log term =
-    option_map_or (λ place. place_version term place.seg place.offset) (last_durable log) (place_version term 0 0)
-
--- the version that a read shows: that of what it has found; of nothing 0, or, where the setup is lasting, as above
-abbrev pub shown_version : Master → ℕ → ℕ → ℕ
-shown_version master term found =
-    if master.lasting && nat_eq found 0 then version_of_nothing master.log term else found
-
 -- a read under the term of its range: the greatest durable version
 abbrev pub reads_under : Master → ℕ → ℕ → ℕ → Master × List Message
 reads_under master term table key =
     let found = read_of term table key (durable_entries master) in
-    let version = shown_version master term found.version in
-    (master, to_outside master.log.own (ReadOk table key version found.value) ∷ [])
+    (master, to_outside master.log.own (ReadOk table key found.version found.value) ∷ [])
 
 abbrev pub reads : Master → ℕ → ℕ → Master × List Message
 reads master table key = if_owned master table key (λ term. reads_under master term table key)

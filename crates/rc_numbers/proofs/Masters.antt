@@ -1,10 +1,11 @@
 -- What a master's rules do to the versions of the entries that it has, in a whole step.
-use Rattle.std.proofs.Common.{ℕ, ◌+◌, ◌-◌, ◌≤◌, Bool, true, false, List, [], ◌∷◌, map, Option, refl, sym, subst, ◌≡◌, arith}
+use Rattle.std.proofs.Common.{ℕ, ◌+◌, ◌-◌, ◌≤◌, Bool, true, false, cond, List, [], ◌∷◌, length, map, Option, refl, sym, ap, subst, ◌≡◌, arith}
 use Rattle.std.proofs.lemmas.List.Elements.{All-head}
 use Rattle.rc_model.specs.Model.{ServerId, Addr, Entry, Message, Body, Segment, with_closes_sent, Log, entries_of, old_head_of}
 use Rattle.rc_model.specs.Model.{with_segment, durable_now, opens_head, appends, next_digest, stored, commit_noted, loses, left_out}
 use Rattle.rc_model.specs.Model.{starts, closes_old, after_replay, Master, with_log, durable_replayed, to_ids, appends_entry}
-use Rattle.rc_model.specs.Model.{dead_segments, places_head, written, new_durable, master_takes, master_ticks}
+use Rattle.rc_model.specs.Model.{dead_segments, places_head, written, new_durable, master_takes, master_ticks, head_of}
+use Rattle.rc_model.specs.Model.{greatest_version, new_version, next_version, place_version}
 use Rattle.rc_model.proofs.Walk.{Joined, Listed, Rolls, Taken, Ticked, Followed, kept-takes, kept-ticks}
 use Rattle.rc_model.proofs.Sending.{each-all, each-map, each-frees, each-write_oks, each-reminds}
 use Rattle.rc_numbers.specs.Numbers.{VersionsUpTo, body_within, MessagesWithin, LogWithin, MasterWithin}
@@ -168,14 +169,19 @@ master-more more {master} h = record {
 }
 
 -- a write has at most one more than the greatest version
-written-within : {n : ℕ} {master : Master} → MasterWithin n master → (term table key : ℕ) (value : Option (List ℕ)) →
+written-within : {n : ℕ} {master : Master} → master.lasting ≡ false → MasterWithin n master → (term table key : ℕ) (value : Option (List ℕ)) →
     (written master term table key value).version ≤ n + 1
-written-within {master} h term table key value =
-    omega (arith, greatest-within term table key (entries_of master.log) (entries-within master.log h.log))
+written-within {n} {master} plain h term table key value =
+    let most : greatest_version term table key (entries_of master.log) ≤ n =
+    greatest-within term table key (entries_of master.log) (entries-within master.log h.log) in
+    let next : new_version master term table key ≡ next_version term table key (entries_of master.log) =
+    ap (λ (b : Bool). cond b (place_version term master.log.head (length (head_of master.log).entries))
+    (next_version term table key (entries_of master.log))) plain in
+    omega (arith, most, next)
 
 -- a message
-pub takes-done : {n : ℕ} {master : Master} (from : Addr) (body : Body) → MasterWithin n master →
+pub takes-done : {n : ℕ} {master : Master} (from : Addr) (body : Body) → master.lasting ≡ false → MasterWithin n master →
     body_within (n + 1) body → Done (n + 1) (master_takes master from body)
-takes-done {n} {master} from body h p =
+takes-done {n} {master} from body plain h p =
     kept-takes (Within (n + 1)) (joined (n + 1)) (listed (n + 1)) (followed (n + 1))
-    (taken (n + 1) p (written-within h)) (master-more (omega arith) h)
+    (taken (n + 1) p (written-within plain h)) (master-more (omega arith) h)

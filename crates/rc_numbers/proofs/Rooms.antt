@@ -17,23 +17,23 @@ room-of few h = record {
 }
 
 pub coordinator-has-room : CoordinatorHasRoom
-coordinator-has-room setup events few = room-of few (within-replay setup events).coordinator
+coordinator-has-room setup events plain few = room-of few (within-replay setup events plain).coordinator
 
 pub generations-have-room : GenerationsHaveRoom
-generations-have-room setup events few index = let h = ((within-replay setup events).hosts index).generation in omega (arith, h, few)
+generations-have-room setup events plain few index = let h = ((within-replay setup events plain).hosts index).generation in omega (arith, h, few)
 
 pub versions-of : {n : ℕ} {master : Master} → MasterWithin n master → VersionsUpTo n (entries_of master.log)
 versions-of {master} h = entries-within master.log h.log
 
 pub versions-have-room : VersionsHaveRoom
-versions-have-room setup events few index master e =
+versions-have-room setup events plain few index master e =
     All-weaker (λ (entry : Entry). entry.version ≤ length events) (λ (entry : Entry). entry.version < 2 ^ 64 - 1)
     (λ entry p. omega (arith, p, few)) (entries_of master.log)
-    (versions-of (((within-replay setup events).hosts index).master master e))
+    (versions-of (((within-replay setup events plain).hosts index).master master e))
 
 pub next-versions-have-room : NextVersionsHaveRoom
-next-versions-have-room setup events few index master e term table key =
+next-versions-have-room setup events plain few index master e term table key =
     let h : greatest_version term table key (entries_of master.log) ≤ length events =
     greatest-within term table key (entries_of master.log)
-    (versions-of (((within-replay setup events).hosts index).master master e)) in
+    (versions-of (((within-replay setup events plain).hosts index).master master e)) in
     omega (arith, h, few)

@@ -1,6 +1,6 @@
 -- What an event does to the numbers of a world.
 use Rattle.std.proofs.lemmas.Bool.{and_parts}
-use Rattle.std.proofs.Common.{ℕ, nat_lt, ◌≡◌, ◌+◌, ◌≤◌, true, List, [], ◌∷◌, length, Option, Some, None, slice_get, refl, subst, arith}
+use Rattle.std.proofs.Common.{ℕ, nat_lt, ◌≡◌, ◌+◌, ◌≤◌, true, false, ◌∙◌, List, [], ◌∷◌, length, Option, Some, None, slice_get, refl, subst, arith}
 use Rattle.std.proofs.lemmas.List.Elements.{All-nil}
 use Rattle.rc_model.specs.Model.{ServerId, Server, Outside, MAX_HOSTS, Setup, Event, Message, Body, Place, Append, Data, Enlist}
 use Rattle.rc_model.specs.Model.{is_server, to_coordinator, Backup, backup_takes, Master, MasterSetup, new_master, master_takes}
@@ -18,6 +18,7 @@ use Rattle.rc_numbers.proofs.Entries.{All-get, body-more, messages-more, none-wi
 use Rattle.rc_numbers.proofs.Coordinators.{After, within-more, coordinator-within, new-within}
 use Rattle.rc_numbers.proofs.Masters.{Done, master-more, tick-done, takes-done}
 use Rattle.rc_numbers.proofs.Backups.{BackupDone, backup-done, restart-within, backup-more}
+use Rattle.rc_model.proofs.Lasts.{takes-lasts, ticks-lasts}
 use Rattle.rc_model.proofs.Replays.{possible-job}
 use Rattle.rc_model.proofs.Tests.{either}
 use Rattle.rc_model.proofs.Tables.{put_each}
@@ -26,6 +27,8 @@ use Rattle.rc_model.proofs.Tables.{put_each}
 pub host-more : {n m : ℕ} → n ≤ m → {host : HostNode} → HostWithin n host → HostWithin m host
 host-more more {host} h = record {
   generation = omega (arith, h.generation, more);
+  plain = h.plain;
+  plain_too = h.plain_too;
   backup = backup-more more host.backup h.backup;
   master = λ master e. master-more more (h.master master e);
 }
@@ -49,25 +52,36 @@ still {n} {host} h = record { host = h; messages = none-within n }
 backup-host : {n : ℕ} {host : HostNode} (after : Backup × List Message) → HostWithin n host → BackupDone n after →
     HostDone n (with_backup host after)
 backup-host {host} (backup, messages) h p =
-    record { host = record { generation = h.generation; backup = p.backup; master = h.master }; messages = p.messages }
+    record {
+      host = record {
+        generation = h.generation;
+        plain = h.plain;
+        plain_too = h.plain_too;
+        backup = p.backup;
+        master = h.master;
+      };
+      messages = p.messages;
+    }
 
 some-same : {X : Type 0} {a b : X} → Some a ≡ Some b → a ≡ b
 some-same e = cc
 
-master-host : {n : ℕ} {host : HostNode} (after : Master × List Message) → HostWithin n host → Done n after →
+master-host : {n : ℕ} {host : HostNode} (after : Master × List Message) → HostWithin n host → after.0.lasting ≡ false → Done n after →
     HostDone n (with_master host after)
-master-host {n} {host} (master, messages) h p = record {
+master-host {n} {host} (master, messages) h plain p = record {
   host = record {
     generation = h.generation;
+    plain = h.plain;
+    plain_too = λ other e. subst (λ (one : Master). one.lasting ≡ false) (some-same e) plain;
     backup = h.backup;
     master = λ other e. subst (MasterWithin n) (some-same e) p.master;
   };
   messages = p.messages;
 }
 
-server-host : {n : ℕ} {host : HostNode} {master : Master} (message : Message) → HostWithin n host →
+server-host : {n : ℕ} {host : HostNode} {master : Master} (message : Message) → HostWithin n host → master.lasting ≡ false →
     MasterWithin n master → body_within n message.body → HostDone (n + 1) (server_takes host master message)
-server-host {n} {host} {master} message h good p =
+server-host {n} {host} {master} message h plain good p =
     let now : HostWithin (n + 1) host = host-more (omega arith) h in
     let more : body_within (n + 1) message.body = body-more (omega arith) message.body p in
     either (HostDone (n + 1)) (is_for_backup message.body)
@@ -75,20 +89,20 @@ server-host {n} {host} {master} message h good p =
     (with_master host (master_takes master message.from message.body))
     (λ e. backup-host (backup_takes host.backup message.from message.body) now
     (backup-done (n + 1) host.backup message.from message.body now.backup more))
-    (λ e. master-host (master_takes master message.from message.body) now
-    (takes-done message.from message.body good more))
+    (λ e. master-host (master_takes master message.from message.body) now (takes-lasts master message.from message.body ∙ plain)
+    (takes-done message.from message.body plain good more))
 
 takes-host : {n : ℕ} {host : HostNode} (found : Option Master) (message : Message) → HostWithin n host →
     host.master ≡ found → body_within n message.body → HostDone (n + 1) (takes_if_running host found message)
 takes-host None message h e p = still (host-more (omega arith) h)
 takes-host {n} {host} (Some master) message h e p =
     either (HostDone (n + 1)) (is_server (server_of host) message.to) (server_takes host master message) (host, [])
-    (λ f. server-host message h (h.master master e) p) (λ f. still (host-more (omega arith) h))
+    (λ f. server-host message h (h.plain_too master e) (h.master master e) p) (λ f. still (host-more (omega arith) h))
 
 ticks-host : {n : ℕ} {host : HostNode} (found : Option Master) → HostWithin n host → host.master ≡ found →
     HostDone (n + 1) (ticks_if_running host found)
 ticks-host None h e = still (host-more (omega arith) h)
-ticks-host {n} (Some master) h e = master-host (master_ticks master) (host-more (omega arith) h)
+ticks-host {n} (Some master) h e = master-host (master_ticks master) (host-more (omega arith) h) (ticks-lasts master ∙ h.plain_too master e)
     (tick-done (n + 1) master (master-more (omega arith) (h.master master e)))
 
 new-master : {n : ℕ} {own : ServerId} {setup : MasterSetup} → MasterWithin n (new_master own setup)
@@ -99,6 +113,8 @@ starts-within : {n : ℕ} {host : HostNode} (kept : List (ServerId × ℕ)) → 
 starts-within {n} {host} kept h = record {
   host = record {
     generation = omega (arith, h.generation);
+    plain = h.plain;
+    plain_too = λ other e. subst (λ (one : Master). one.lasting ≡ false) (some-same e) h.plain;
     backup = restart-within (n + 1) host.setup.lasting (next_server host) kept host.backup (backup-more (omega arith) host.backup h.backup);
     master = λ other e. subst (MasterWithin (n + 1)) (some-same e) new-master;
   };
@@ -119,7 +135,13 @@ host-within {host} (Deliver message) h p = takes-host host.master message h refl
 host-within {host} Tick h p = ticks-host host.master h refl
 host-within {n} {host} Stop h p =
     let now : HostWithin (n + 1) host = host-more (omega arith) h in
-    still (record { generation = now.generation; backup = now.backup; master = λ master e. none-some e })
+    still (record {
+      generation = now.generation;
+      plain = now.plain;
+      plain_too = λ master e. none-some e;
+      backup = now.backup;
+      master = λ master e. none-some e;
+    })
 host-within (Start kept) h p = starts-within kept h
 host-within work h p = still (host-more (omega arith) h)
 
@@ -197,16 +219,22 @@ within-from : (n : ℕ) {world : World} (events : List Event) → WorldWithin n 
 within-from n [] h = world-more (omega arith) h
 within-from n (one ∷ events) h = world-more (omega arith) (within-from (n + 1) events (step-within one h))
 
-pub new-host : {index : ℕ} {setup : MasterSetup} → HostWithin 0 (new_host index setup)
-new-host = record { generation = omega arith; backup = λ master. All-nil _; master = λ master e. none-some e }
+pub new-host : {index : ℕ} {setup : MasterSetup} → setup.lasting ≡ false → HostWithin 0 (new_host index setup)
+new-host plain = record {
+  generation = omega arith;
+  plain = plain;
+  plain_too = λ master e. none-some e;
+  backup = λ master. All-nil _;
+  master = λ master e. none-some e;
+}
 
-within-opening : {setup : Setup} → WorldWithin 0 (opening setup)
-within-opening = record {
+within-opening : {setup : Setup} → setup.lasting ≡ false → WorldWithin 0 (opening setup)
+within-opening plain = record {
   coordinator = new-within;
   messages = none-within 0;
-  hosts = λ index. new-host;
+  hosts = λ index. new-host plain;
 }
 
 -- all numbers of a world are within the number of its events
 pub within-replay : NumbersGrowSlowly
-within-replay setup events = world-more (omega arith) (within-from 0 events within-opening)
+within-replay setup events plain = world-more (omega arith) (within-from 0 events (within-opening plain))

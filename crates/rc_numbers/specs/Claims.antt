@@ -1,5 +1,5 @@
 -- The numbers of every world stay far below the ends of their types.
-use Rattle.std.specs.Prelude.{◌≡◌, ℕ, ◌+◌, ◌-◌, ◌^◌, ◌<◌, ◌≤◌, List, length, Some}
+use Rattle.std.specs.Prelude.{◌≡◌, ℕ, ◌+◌, ◌-◌, ◌^◌, ◌<◌, ◌≤◌, false, List, length, Some}
 use Rattle.std.specs.List.{All}
 use Rattle.rc_types.specs.declared.events.Setup.{Setup}
 use Rattle.rc_types.specs.declared.events.Event.{Event}
@@ -11,9 +11,10 @@ use Rattle.rc_model.specs.Master.{Master}
 use Rattle.rc_model.specs.World.{replay}
 use Rattle.rc_numbers.specs.Numbers.{WorldWithin}
 
--- after so many events, all numbers are within that many
+-- after so many events, all numbers are within that many; this and what follows of it is said of setups that aren't
+-- lasting alone
 abbrev pub NumbersGrowSlowly : Type 0
-NumbersGrowSlowly = (setup : Setup) (events : List Event) → WorldWithin (length events) (replay setup events)
+NumbersGrowSlowly = (setup : Setup) (events : List Event) → setup.lasting ≡ false → WorldWithin (length events) (replay setup events)
 
 -- versions of the list, numbers of attempts and terms are below 2 ^ 32, also after one more step
 pub record HasRoom (c : Coordinator) : Type 0 where
@@ -22,22 +23,22 @@ pub record HasRoom (c : Coordinator) : Type 0 where
   pub terms : c.last_term + length c.tablets + 1 < 2 ^ 32
 
 abbrev pub CoordinatorHasRoom : Type 0
-CoordinatorHasRoom = (setup : Setup) (events : List Event) → length events ≤ MAX_EVENTS →
+CoordinatorHasRoom = (setup : Setup) (events : List Event) → setup.lasting ≡ false → length events ≤ MAX_EVENTS →
     HasRoom (replay setup events).coordinator
 
 -- a host can be started once more
 abbrev pub GenerationsHaveRoom : Type 0
-GenerationsHaveRoom = (setup : Setup) (events : List Event) → length events ≤ MAX_EVENTS → (index : ℕ) →
+GenerationsHaveRoom = (setup : Setup) (events : List Event) → setup.lasting ≡ false → length events ≤ MAX_EVENTS → (index : ℕ) →
     ((replay setup events).hosts index).generation < 2 ^ 32 - 1
 
 -- each entry of the log of a master that runs has a version with room for one more
 abbrev pub VersionsHaveRoom : Type 0
-VersionsHaveRoom = (setup : Setup) (events : List Event) → length events ≤ MAX_EVENTS → (index : ℕ) (master : Master) →
+VersionsHaveRoom = (setup : Setup) (events : List Event) → setup.lasting ≡ false → length events ≤ MAX_EVENTS → (index : ℕ) (master : Master) →
     ((replay setup events).hosts index).master ≡ Some master →
     All (λ entry. entry.version < 2 ^ 64 - 1) (entries_of master.log)
 
 -- and so has the next one of each key
 abbrev pub NextVersionsHaveRoom : Type 0
-NextVersionsHaveRoom = (setup : Setup) (events : List Event) → length events ≤ MAX_EVENTS →
+NextVersionsHaveRoom = (setup : Setup) (events : List Event) → setup.lasting ≡ false → length events ≤ MAX_EVENTS →
     (index : ℕ) (master : Master) → ((replay setup events).hosts index).master ≡ Some master → (term table key : ℕ) →
     next_version term table key (entries_of master.log) < 2 ^ 64

@@ -1,5 +1,5 @@
 -- How great the numbers of a world are after so many events.
-use Rattle.std.specs.Prelude.{◌≡◌, ℕ, ◌*◌, ◌≤◌, List, length, map, Some, unwrap_or, []}
+use Rattle.std.specs.Prelude.{◌≡◌, ℕ, ◌*◌, ◌≤◌, false, List, length, map, Some, unwrap_or, []}
 use Rattle.std.specs.List.{All}
 use Rattle.rc_types.specs.declared.ids.ServerId.{ServerId}
 use Rattle.rc_types.specs.declared.entries.Entry.{Entry}
@@ -53,9 +53,11 @@ pub record MasterWithin (n : ℕ) (master : Master) : Type 0 where
 abbrev pub BackupWithin : ℕ → Backup → Type 0
 BackupWithin n backup = (master : ServerId) → All (λ one. VersionsUpTo n one.1.entries) (backup.held master).replicas
 
--- a host: it was started at most once an event
+-- a host: it was started at most once an event; it isn't lasting, so that its masters number writes one by one
 pub record HostWithin (n : ℕ) (host : HostNode) : Type 0 where
   pub generation : host.generation ≤ n
+  pub plain : host.setup.lasting ≡ false
+  pub plain_too : (master : Master) → host.master ≡ Some master → master.lasting ≡ false
   pub backup : BackupWithin n host.backup
   pub master : (master : Master) → host.master ≡ Some master → MasterWithin n master
 

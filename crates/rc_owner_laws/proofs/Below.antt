@@ -123,6 +123,13 @@ parts-at place (first ∷ places) (inr rest) =
     (let p : Parts place places = parts-at place places rest in
     record { before = first ∷ p.before; after = p.after; whole = ap (λ l. first ∷ l) p.whole })
 
+-- the version is that of the place, and its numbers have room
+pub record HasPlaceVersion (place : LogPlace) : Type 0 where
+  pub version : place.entry.version ≡ place_version place.entry.term place.seg place.offset
+  pub above : 0 < place.seg
+  pub upto : place.seg ≤ 65535
+  pub within : place.offset < 65536
+
 -- Numbers
 
 below-next : (term : ℕ) {s o : ℕ} → s ≤ 65535 → o < 65536 → place_version term s o < (term + 1) * 4294967296
@@ -275,9 +282,9 @@ module _ (sent : List Message) (masters : ServerId → Master) (hosts : ℕ → 
             subst (λ (one : Entry). one.version < place_version place.entry.term s o) (sym from.2)
             (subst (λ t. from.0.version < place_version t s o) r.term_is less)
 
-    -- a client's is that of its place, where a place has room
-    of-place : (m : ServerId) (place : LogPlace) → In place (places_of (masters m).log) → place.client ≡ true →
-        (place.entry.version ≡ place_version place.entry.term place.seg place.offset) × (place.seg ≤ 65535) × (place.offset < 65536)
+    -- a client's is that of its place
+    pub of-place : (m : ServerId) (place : LogPlace) → In place (places_of (masters m).log) → place.client ≡ true →
+        HasPlaceVersion place
     of-place m place at client =
         let found = place_of (places_of (masters m).log) place at in
         let is : IsOf (masters m).log.segments (masters m).log.head place = places_to-are (masters m).log.head found.0 found.1 in
@@ -290,7 +297,12 @@ module _ (sent : List Message) (masters : ServerId → Master) (hosts : ℕ → 
         let size : (masters m).log.size ≤ 65536 = numbered.size (lasting m) in
         let within : place.offset < length ((masters m).log.segments place.seg).entries =
         get-within ((masters m).log.segments place.seg).entries place.offset is.holds in
-        ((numbered.each place.seg).written (lasting m) place.offset place.entry holds, omega (arith, upto, last), omega (arith, within, short, size))
+        record {
+          version = (numbered.each place.seg).written (lasting m) place.offset place.entry holds;
+          above = is.above;
+          upto = omega (arith, upto, last);
+          within = omega (arith, within, short, size);
+        }
 
     log-below : (m : ServerId) (term : ℕ) → BelowEarlier term → IsBelow m term
     log-below m term rec s o entry holds term_is = subst (λ (it : Entry). it.version < (term + 1) * 4294967296) one.2 (by one.0.1 refl)
@@ -310,8 +322,8 @@ module _ (sent : List Message) (masters : ServerId → Master) (hosts : ℕ → 
         by : (client : Bool) → one.0.1 ≡ client → one.0.0.version < (term + 1) * 4294967296
         by true is =
             let p = of-place m (place one.0.1) at is in
-            let next : place_version term s o < (term + 1) * 4294967296 = below-next term p.1 p.2 in
-            let version : one.0.0.version ≡ place_version term s o = p.0 ∙ ap (λ t. place_version t s o) same in
+            let next : place_version term s o < (term + 1) * 4294967296 = below-next term p.upto p.within in
+            let version : one.0.0.version ≡ place_version term s o = p.version ∙ ap (λ t. place_version t s o) same in
             omega (arith, next, version)
         by false isn't =
             let less : one.0.0.version < place_version one.0.0.term 0 0 =
@@ -336,7 +348,7 @@ module _ (sent : List Message) (masters : ServerId → Master) (hosts : ℕ → 
         at : In place (places_of (masters m).log)
         at = subst (In place) (sym whole) (In-right place before (place ∷ after) (inl refl))
 
-        its : (place.entry.version ≡ place_version place.entry.term place.seg place.offset) × (place.seg ≤ 65535) × (place.offset < 65536)
+        its : HasPlaceVersion place
         its = of-place m place at client
 
         by : (q : LogPlace) → In q before → other ≡ q.entry → (b : Bool) → q.client ≡ b → other.version < place.entry.version
@@ -355,14 +367,14 @@ module _ (sent : List Message) (masters : ServerId → Master) (hosts : ℕ → 
             which true e =
                 let p = of-place m q q_at e in
                 let less : place_version place.entry.term q.seg q.offset < place_version place.entry.term place.seg place.offset =
-                rises-in-term place.entry.term p.2 (in-order-before {(masters m).log} before after place q whole in_before) in
-                let mine : place.entry.version ≡ place_version place.entry.term place.seg place.offset = its.0 in
-                let hers : q.entry.version ≡ place_version place.entry.term q.seg q.offset = p.0 ∙ ap (λ t. place_version t q.seg q.offset) same in
+                rises-in-term place.entry.term p.within (in-order-before {(masters m).log} before after place q whole in_before) in
+                let mine : place.entry.version ≡ place_version place.entry.term place.seg place.offset = its.version in
+                let hers : q.entry.version ≡ place_version place.entry.term q.seg q.offset = p.version ∙ ap (λ t. place_version t q.seg q.offset) same in
                 omega (arith, less, mine, hers, version)
             which false e =
                 let less : q.entry.version < place_version q.entry.term place.seg place.offset =
                 replayed-below m q q_at e (earlier-below q.entry.term) place.seg place.offset in
-                let mine : place.entry.version ≡ place_version place.entry.term place.seg place.offset = its.0 in
+                let mine : place.entry.version ≡ place_version place.entry.term place.seg place.offset = its.version in
                 let moved : place_version q.entry.term place.seg place.offset ≡ place_version place.entry.term place.seg place.offset =
                 ap (λ t. place_version t place.seg place.offset) same in
                 omega (arith, less, mine, moved, version)

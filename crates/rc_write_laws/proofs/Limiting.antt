@@ -1,7 +1,7 @@
 -- The numbers of a log stay within their limits.
 use Rattle.std.proofs.Common.{◌≡◌, Bool, true, false, List, refl, ◌∙◌, arith, leb-false}
 use Rattle.std.proofs.lemmas.List.{length_push}
-use Rattle.rc_model.specs.Model.{ServerId, Entry, Message, Setup, is_full, Master, appends_entry}
+use Rattle.rc_model.specs.Model.{ServerId, Entry, Message, Setup, is_full, Master, appends_entry, size_of}
 use Rattle.rc_write_laws.specs.LimitClaims.{LogIsWithinLimits, LogsStayWithinLimits, SegmentsTakeWhatIsSetUp}
 use Rattle.rc_write_laws.proofs.Quiet.{limits-put}
 use Rattle.rc_write_laws.proofs.Walk.{IsKept, takes-kept, tick-kept}
@@ -31,7 +31,7 @@ limits-kept = record {
 }
 
 record OfSetup (setup : Setup) (sent : List Message) (m : ServerId) (master : Master) : Type 0 where
-  size : master.log.size ≡ setup.segment
+  size : master.log.size ≡ size_of setup
   limits : LogIsWithinLimits master.log
 
 after-step : {setup : Setup} {sent sent_now : List Message} {m : ServerId} {master : Master}

@@ -5,6 +5,7 @@ use Rattle.rc_types.specs.declared.events.Setup.{Setup}
 use Rattle.rc_types.specs.declared.events.Event.{Event}
 use Rattle.rc_types.specs.declared.limits.TheConstants.{LAST_SEGMENT, LAST_EPOCH}
 use Rattle.rc_model.specs.Log.{Log}
+use Rattle.rc_model.specs.Nodes.{size_of}
 use Rattle.rc_log_laws.specs.WordClaims.{log_of}
 
 -- segments and epochs are numbered within their limits, and a segment has at most as many entries as it takes
@@ -16,7 +17,7 @@ pub record LogIsWithinLimits (log : Log) : Type 0 where
 abbrev pub LogsStayWithinLimits : Type 0
 LogsStayWithinLimits = (setup : Setup) (events : List Event) (m : ServerId) → LogIsWithinLimits (log_of setup events m)
 
--- which is what the setup says
+-- which is what the setup says: at most 65,536 where it is lasting
 abbrev pub SegmentsTakeWhatIsSetUp : Type 0
 SegmentsTakeWhatIsSetUp = (setup : Setup) (events : List Event) (m : ServerId) →
-    (log_of setup events m).size ≡ setup.segment
+    (log_of setup events m).size ≡ size_of setup
