@@ -4,7 +4,7 @@ use Rattle.std.proofs.Common.{◌≡◌, ◌⊎◌, ℕ, zero, suc, ◌+◌, ◌
 use Rattle.std.proofs.Common.{take, nat_eq, slice_get, Some, refl, sym, ap, ◌∙◌, subst, inl, inr, arith}
 use Rattle.std.proofs.lemmas.Bool.{and_parts, eqb-true}
 use Rattle.std.proofs.lemmas.List.{append_assoc, length-append, length-map}
-use Rattle.rc_model.specs.Model.{ServerId, Entry, PlanRow, Message, is_in_part, Segment, Log, LogPlace, places_in, places_to, places_of}
+use Rattle.rc_model.specs.Model.{ServerId, Entry, Part, PlanRow, Message, is_in_part, Segment, Log, LogPlace, places_in, places_to, places_of}
 use Rattle.rc_model.specs.Model.{PartState, in_range, owns_term, under_term, place_version, LAST_SEGMENT, Master, Task, HostNode, In}
 use Rattle.rc_model.specs.Coordinator.{Coordinator}
 use Rattle.rc_model.proofs.Members.{In-left, In-right, In-append, In-get, place_of, In-map, In-filter}
@@ -26,25 +26,26 @@ use Rattle.rc_owner_laws.proofs.Bases.{IsTaskOf, task-of, task-ascends, row-cut}
 abbrev IsEarlier : LogPlace → LogPlace → Type 0
 IsEarlier q p = (q.seg < p.seg) ⊎ ((q.seg ≡ p.seg) × (q.offset < p.offset))
 
-earlier : {segments : ℕ → Segment} (n j k : ℕ) {q p : LogPlace} → slice_get (places_to segments n) j ≡ Some q →
+earlier : (segments : ℕ → Segment) (n j k : ℕ) {q p : LogPlace} → slice_get (places_to segments n) j ≡ Some q →
     slice_get (places_to segments n) k ≡ Some p → j < k → IsEarlier q p
-earlier zero j k e f less = cc
-earlier {segments} (suc n) j k {q} {p} e f less =
-    by (λ a b. earlier {segments} n j k a b less)
+earlier segments zero j k e f less = cc
+earlier segments (suc n) j k {q} {p} e f less =
+    by (λ a b. earlier segments n j k a b less)
     (get-append (places_to segments n) (places_in (suc n) 0 (segments (suc n)).entries) j e)
     (get-append (places_to segments n) (places_in (suc n) 0 (segments (suc n)).entries) k f)
   where
-    abbrev Way : ℕ → LogPlace → Type 0
-    Way i one = (slice_get (places_to segments n) i ≡ Some one) ⊎ ((x : ℕ) × (i ≡ length (places_to segments n) + x) ×
-        (slice_get (places_in (suc n) 0 (segments (suc n)).entries) x ≡ Some one))
-
     by : (slice_get (places_to segments n) j ≡ Some q → slice_get (places_to segments n) k ≡ Some p → IsEarlier q p) →
-        Way j q → Way k p → IsEarlier q p
+        (slice_get (places_to segments n) j ≡ Some q) ⊎ ((x : ℕ) × (j ≡ length (places_to segments n) + x) ×
+        (slice_get (places_in (suc n) 0 (segments (suc n)).entries) x ≡ Some q)) →
+        (slice_get (places_to segments n) k ≡ Some p) ⊎ ((x : ℕ) × (k ≡ length (places_to segments n) + x) ×
+        (slice_get (places_in (suc n) 0 (segments (suc n)).entries) x ≡ Some p)) → IsEarlier q p
     by rec (inl old) (inl at) = rec old at
     by rec (inl old) (inr (x, is, at)) =
-        let a : q.seg ≤ n = (places_to-are {segments} n j old).upto in
-        let b : p.seg ≡ suc n = (places_in-are 0 (segments (suc n)).entries x at).seg_is in
-        inl (omega (arith, a, b))
+        let a : IsOf segments n q = places_to-are n j old in
+        let b : IsIn (suc n) 0 x (segments (suc n)).entries p = places_in-are 0 (segments (suc n)).entries x at in
+        let upto : q.seg ≤ n = a.upto in
+        let seg : p.seg ≡ suc n = b.seg_is in
+        inl (omega (arith, upto, seg))
     by rec (inr (x, is, at)) (inl old) =
         let within : k < length (places_to segments n) = get-within (places_to segments n) k old in
         absurd (omega (arith, is, within, less))
@@ -56,71 +57,71 @@ earlier {segments} (suc n) j k {q} {p} e f less =
         inr (a.seg_is ∙ sym b.seg_is, omega (arith, is, same, less, o, r))
 
 -- a place that stands before another, by their numbers
-get-middle : {X : Type 0} (before : List X) {x : X} {after : List X} → slice_get (before ++ x ∷ after) (length before) ≡ Some x
-get-middle [] = refl
-get-middle (y ∷ before) = get-middle before
+get-middle : {X : Type 0} (before : List X) (x : X) (after : List X) → slice_get (before ++ x ∷ after) (length before) ≡ Some x
+get-middle [] x after = refl
+get-middle (y ∷ before) x after = get-middle before x after
 
-get-left : {X : Type 0} (before : List X) {rest : List X} (j : ℕ) {x : X} → slice_get before j ≡ Some x →
-    slice_get (before ++ rest) j ≡ Some x
-get-left [] j e = cc
-get-left (y ∷ before) zero e = e
-get-left (y ∷ before) (suc j) e = get-left before j e
+get-left : {X : Type 0} (before rest : List X) (j : ℕ) {x : X} → slice_get before j ≡ Some x → slice_get (before ++ rest) j ≡ Some x
+get-left [] rest j e = cc
+get-left (y ∷ before) rest zero e = e
+get-left (y ∷ before) rest (suc j) e = get-left before rest j e
 
-in-order-before : {log : Log} (before after : List LogPlace) (place q : LogPlace) → places_of log ≡ before ++ place ∷ after →
+in-order-before : (log : Log) (before after : List LogPlace) (place q : LogPlace) → places_of log ≡ before ++ place ∷ after →
     In q before → IsEarlier q place
-in-order-before {log} before after place q whole at =
+in-order-before log before after place q whole at =
     let found : (k : ℕ) × (slice_get before k ≡ Some q) = place_of before q at in
-    earlier {log.segments} log.head found.0 (length before)
-    (subst (λ (l : List LogPlace). slice_get l found.0 ≡ Some q) (sym whole) (get-left before found.0 found.1))
-    (subst (λ (l : List LogPlace). slice_get l (length before) ≡ Some place) (sym whole) (get-middle before))
+    earlier log.segments log.head found.0 (length before)
+    (subst (λ (l : List LogPlace). slice_get l found.0 ≡ Some q) (sym whole) (get-left before (place ∷ after) found.0 found.1))
+    (subst (λ (l : List LogPlace). slice_get l (length before) ≡ Some place) (sym whole) (get-middle before place after))
     (get-within before found.0 found.1)
 
 -- what stands at a place of a segment is among the log's places
+abbrev place-at : ℕ → ℕ → Entry × Bool → LogPlace
+place-at seg offset one = record { seg = seg; offset = offset; entry = one.0; client = one.1 }
+
+same-place : (seg : ℕ) {o p : ℕ} {one other : Entry × Bool} → o ≡ p → one ≡ other → place-at seg o one ≡ place-at seg p other
+same-place seg a b = λ i. record { seg = seg; offset = a i; entry = (b i).0; client = (b i).1 }
+
 at-place : (seg offset : ℕ) (entries : List (Entry × Bool)) (k : ℕ) {one : Entry × Bool} → slice_get entries k ≡ Some one →
-    In (record { seg = seg; offset = offset + k; entry = one.0; client = one.1 }) (places_in seg offset entries)
+    In (place-at seg (offset + k) one) (places_in seg offset entries)
 at-place seg offset [] k e = cc
 at-place seg offset (first ∷ entries) zero {one} e =
-    (let same : first ≡ one = cc in inl (first-is same (omega arith)))
-  where
-    first-is : first ≡ one → offset + zero ≡ offset →
-        ◌≡◌ {A = LogPlace} (record { seg = seg; offset = offset + zero; entry = one.0; client = one.1 })
-        (record { seg = seg; offset = offset; entry = first.0; client = first.1 })
-    first-is same none = ap (λ o. record { seg = seg; offset = o; entry = one.0; client = one.1 }) none
-        ∙ ap (λ (it : Entry × Bool). record { seg = seg; offset = offset; entry = it.0; client = it.1 }) (sym same)
+    (let same : one ≡ first = cc in let none : offset + zero ≡ offset = omega arith in inl (same-place seg none same))
 at-place seg offset (first ∷ entries) (suc k) {one} e =
-    (let more : offset + suc k ≡ (offset + 1) + k = omega arith in
-    inr (subst (λ o. In (record { seg = seg; offset = o; entry = one.0; client = one.1 }) (places_in seg (offset + 1) entries))
-    (sym more) (at-place seg (offset + 1) entries k e)))
+    (let more : (offset + 1) + k ≡ offset + suc k = omega arith in
+    inr (subst (λ (o : ℕ). In (place-at seg o one) (places_in seg (offset + 1) entries)) more (at-place seg (offset + 1) entries k e)))
 
-among-places : {segments : ℕ → Segment} (n s o : ℕ) {one : Entry × Bool} → 0 < s → s ≤ n → slice_get (segments s).entries o ≡ Some one →
-    In (record { seg = s; offset = o; entry = one.0; client = one.1 }) (places_to segments n)
-among-places zero s o above upto e = absurd (omega (arith, above, upto))
-among-places {segments} (suc n) s o {one} above upto e = by (last-or upto) (λ less. among-places n s o above less e)
+among-places : (segments : ℕ → Segment) (n s o : ℕ) {one : Entry × Bool} → 0 < s → s ≤ n → slice_get (segments s).entries o ≡ Some one →
+    In (place-at s o one) (places_to segments n)
+among-places segments zero s o above upto e = absurd (omega (arith, above, upto))
+among-places segments (suc n) s o {one} above upto e = by (last-or s n upto) (λ less. among-places segments n s o above less e)
   where
-    last-or : s ≤ suc n → (s ≡ suc n) ⊎ (s ≤ n)
-    last-or less = grind arith
+    last-or : (s n : ℕ) → s ≤ suc n → (s ≡ suc n) ⊎ (s ≤ n)
+    last-or s n less = grind arith
 
-    abbrev There : ℕ → Type 0
-    There t = In (record { seg = t; offset = o; entry = one.0; client = one.1 }) (places_to segments (suc n))
+    last : slice_get (segments (suc n)).entries o ≡ Some one → In (place-at (suc n) o one) (places_in (suc n) 0 (segments (suc n)).entries)
+    last there = (let none : 0 + o ≡ o = omega arith in
+        subst (λ (k : ℕ). In (place-at (suc n) k one) (places_in (suc n) 0 (segments (suc n)).entries)) none
+        (at-place (suc n) 0 (segments (suc n)).entries o there))
 
-    by : (s ≡ suc n) ⊎ (s ≤ n) → (s ≤ n → In (record { seg = s; offset = o; entry = one.0; client = one.1 }) (places_to segments n)) →
-        There s
-    by (inl same) rec = subst There (sym same) (In-right _ (places_to segments n) (places_in (suc n) 0 (segments (suc n)).entries)
-        (subst (λ k. In (record { seg = suc n; offset = k; entry = one.0; client = one.1 }) (places_in (suc n) 0 (segments (suc n)).entries))
-        (omega arith) (at-place (suc n) 0 (segments (suc n)).entries o (subst (λ t. slice_get (segments t).entries o ≡ Some one) same e))))
-    by (inr less) rec = In-left _ (places_to segments n) (places_in (suc n) 0 (segments (suc n)).entries) (rec less)
+    by : (s ≡ suc n) ⊎ (s ≤ n) → (s ≤ n → In (place-at s o one) (places_to segments n)) → In (place-at s o one) (places_to segments (suc n))
+    by (inl same) rec = subst (λ (t : ℕ). In (place-at t o one) (places_to segments (suc n))) (sym same)
+        (In-right (place-at (suc n) o one) (places_to segments n) (places_in (suc n) 0 (segments (suc n)).entries)
+        (last (subst (λ (t : ℕ). slice_get (segments t).entries o ≡ Some one) same e)))
+    by (inr less) rec =
+        In-left (place-at s o one) (places_to segments n) (places_in (suc n) 0 (segments (suc n)).entries) (rec less)
 
 -- the places before one, and those after it
-record Parts (place : LogPlace) (places : List LogPlace) : Type 0 where
+record Parted (place : LogPlace) (places : List LogPlace) : Type 0 where
   before : List LogPlace
   after : List LogPlace
   whole : places ≡ before ++ place ∷ after
 
-parts-at : (place : LogPlace) (places : List LogPlace) → In place places → Parts place places
+parts-at : (place : LogPlace) (places : List LogPlace) → In place places → Parted place places
 parts-at place [] at = absurd at
 parts-at place (first ∷ places) (inl same) = record { before = []; after = places; whole = ap (λ p. p ∷ places) (sym same) }
 parts-at place (first ∷ places) (inr rest) =
-    (let p : Parts place places = parts-at place places rest in
+    (let p : Parted place places = parts-at place places rest in
     record { before = first ∷ p.before; after = p.after; whole = ap (λ l. first ∷ l) p.whole })
 
 -- the version is that of the place, and its numbers have room
@@ -132,15 +133,15 @@ pub record HasPlaceVersion (place : LogPlace) : Type 0 where
 
 -- Numbers
 
-below-next : (term : ℕ) {s o : ℕ} → s ≤ 65535 → o < 65536 → place_version term s o < (term + 1) * 4294967296
-below-next term a b = omega (arith, a, b)
+below-next : (term s o : ℕ) → s ≤ 65535 → o < 65536 → place_version term s o < (term + 1) * 4294967296
+below-next term s o a b = omega (arith, a, b)
 
-rises-in-term : (term : ℕ) {t k s o : ℕ} → k < 65536 → (t < s) ⊎ ((t ≡ s) × (k < o)) → place_version term t k < place_version term s o
-rises-in-term term a (inl less) = omega (arith, a, less)
-rises-in-term term a (inr p) = omega (arith, a, p.0, p.1)
+rises-in-term : (term t k s o : ℕ) → k < 65536 → (t < s) ⊎ ((t ≡ s) × (k < o)) → place_version term t k < place_version term s o
+rises-in-term term t k s o a (inl less) = omega (arith, a, less)
+rises-in-term term t k s o a (inr p) = omega (arith, a, p.0, p.1)
 
-below-later : {version old term : ℕ} (s o : ℕ) → version < (old + 1) * 4294967296 → old < term → version < place_version term s o
-below-later s o less later = omega (arith, less, later)
+below-later : (version old term s o : ℕ) → version < (old + 1) * 4294967296 → old < term → version < place_version term s o
+below-later version old term s o less later = omega (arith, less, later)
 
 module _ (sent : List Message) (masters : ServerId → Master) (hosts : ℕ → HostNode) (c : Coordinator)
     (all : AllHold sent masters hosts c) where
@@ -224,13 +225,13 @@ module _ (sent : List Message) (masters : ServerId → Master) (hosts : ℕ → 
       (p : HasJoined sent x (part_view (masters x)) task state) → BelowEarlier state.part.term → (entry : Entry) →
       In entry p.entries → (s o : ℕ) → entry.version < place_version state.part.term s o
   base-below x task state at part_is p rec entry there s o =
-      below-later s o (rec task.master task.part.previous less stands.seg stands.offset entry stands.holds previous) less
+      below-later entry.version task.part.previous state.part.term s o (rec task.master task.part.previous less stands.seg stands.offset entry stands.holds previous) less
     where
       of_task : IsTaskOf sent c x task
       of_task = task-of sent masters hosts c all x task at
 
       came : AllCame sent x task.part.term (waited task.rows) p.entries
-      came = subst (λ t. AllCame sent x t (waited task.rows) p.entries) (ap (λ part. part.term) (sym part_is))
+      came = subst (λ t. AllCame sent x t (waited task.rows) p.entries) (ap (λ (part : Part). part.term) (sym part_is))
           (subst (λ rows. AllCame sent x state.part.term rows p.entries)
           (in-order task.rows (task-ascends sent masters hosts c all x task at)) p.came)
 
@@ -244,7 +245,7 @@ module _ (sent : List Message) (masters : ServerId → Master) (hosts : ℕ → 
       previous = eqb-true entry.term task.part.previous both.0
 
       less : task.part.previous < state.part.term
-      less = subst (λ part. task.part.previous < part.term) part_is
+      less = subst (λ (part : Part). task.part.previous < part.term) part_is
           ((all.grants.fresh task.attempt task.master of_task.decision of_task.decided (record { to = x; part = task.part })
           of_task.given).1 entry.table entry.key both.1)
 
@@ -257,7 +258,7 @@ module _ (sent : List Message) (masters : ServerId → Master) (hosts : ℕ → 
         BelowEarlier place.entry.term → (s o : ℕ) → place.entry.version < place_version place.entry.term s o
     replayed-below m place at unclient rec s o = by part.how
       where
-        parted : Parts place (places_of (masters m).log)
+        parted : Parted place (places_of (masters m).log)
         parted = parts-at place (places_of (masters m).log) at
 
         r : IsReplayed (part_view (masters m)) parted.before place.entry
@@ -289,7 +290,7 @@ module _ (sent : List Message) (masters : ServerId → Master) (hosts : ℕ → 
         let found = place_of (places_of (masters m).log) place at in
         let is : IsOf (masters m).log.segments (masters m).log.head place = places_to-are (masters m).log.head found.0 found.1 in
         let holds : slice_get ((masters m).log.segments place.seg).entries place.offset ≡ Some (place.entry, true) =
-        is.holds ∙ ap (λ b. Some (place.entry, b)) client in
+        is.holds ∙ ap (λ (b : Bool). Some (place.entry, b)) client in
         let numbered : IsNumbered (masters m) = all.numbered.each m in
         let upto : place.seg ≤ (masters m).log.head = is.upto in
         let last : (masters m).log.head ≤ LAST_SEGMENT = numbered.head in
@@ -314,7 +315,7 @@ module _ (sent : List Message) (masters : ServerId → Master) (hosts : ℕ → 
         place client = record { seg = s; offset = o; entry = one.0.0; client = client }
 
         at : In (place one.0.1) (places_of (masters m).log)
-        at = among-places (masters m).log.head s o (stands-opened {m} {s} o holds).0 (stands-opened {m} {s} o holds).1 one.1
+        at = among-places (masters m).log.segments (masters m).log.head s o (stands-opened {m} {s} o holds).0 (stands-opened {m} {s} o holds).1 one.1
 
         same : one.0.0.term ≡ term
         same = ap (λ (it : Entry). it.term) one.2 ∙ term_is
@@ -322,7 +323,7 @@ module _ (sent : List Message) (masters : ServerId → Master) (hosts : ℕ → 
         by : (client : Bool) → one.0.1 ≡ client → one.0.0.version < (term + 1) * 4294967296
         by true is =
             let p = of-place m (place one.0.1) at is in
-            let next : place_version term s o < (term + 1) * 4294967296 = below-next term p.upto p.within in
+            let next : place_version term s o < (term + 1) * 4294967296 = below-next term s o p.upto p.within in
             let version : one.0.0.version ≡ place_version term s o = p.version ∙ ap (λ t. place_version t s o) same in
             omega (arith, next, version)
         by false isn't =
@@ -367,7 +368,7 @@ module _ (sent : List Message) (masters : ServerId → Master) (hosts : ℕ → 
             which true e =
                 let p = of-place m q q_at e in
                 let less : place_version place.entry.term q.seg q.offset < place_version place.entry.term place.seg place.offset =
-                rises-in-term place.entry.term p.within (in-order-before {(masters m).log} before after place q whole in_before) in
+                rises-in-term place.entry.term q.seg q.offset place.seg place.offset p.within (in-order-before (masters m).log before after place q whole in_before) in
                 let mine : place.entry.version ≡ place_version place.entry.term place.seg place.offset = its.version in
                 let hers : q.entry.version ≡ place_version place.entry.term q.seg q.offset = p.version ∙ ap (λ t. place_version t q.seg q.offset) same in
                 omega (arith, less, mine, hers, version)

@@ -6,7 +6,7 @@ use Rattle.rc_model.specs.Model.{ServerId, Addr, Entry, Fault, Setup, Event, Mes
 use Rattle.rc_model.specs.Model.{noted, committed_at, Segment, new_segment, with_entry, under_new_epoch, with_closes_sent}
 use Rattle.rc_model.specs.Model.{Log, head_of, old_head_of, with_segment, has_segment, opens_head, is_full, with_config, opens_change}
 use Rattle.rc_model.specs.Model.{loses, left_out, with_freed, Master, with_log, appends_entry, written, master_takes, master_ticks}
-use Rattle.rc_model.specs.Model.{after_replay, place_version, size_of, replay, Writing}
+use Rattle.rc_model.specs.Model.{after_replay, dead_segments, lose, next_digest, refill, refills, place_version, size_of, replay, Writing}
 use Rattle.rc_model.proofs.Numbering.{written-at}
 use Rattle.rc_model.proofs.Tests.{either, true_false}
 use Rattle.rc_model.proofs.Tables.{put_each}
@@ -59,8 +59,7 @@ pushed-segment : {lasting : Bool} {size s : ℕ} {segment : Segment} (entry : En
     (lasting ≡ true → client ≡ true → entry.version ≡ place_version entry.term s (length segment.entries)) →
     IsNumberedSegment lasting size s segment → IsNumberedSegment lasting size s (with_entry entry client segment)
 pushed-segment {lasting} {size} {s} {segment} entry client room by_place p = record {
-  fits = (let longer : length (segment.entries ++ (entry, client) ∷ []) ≡ length segment.entries + 1 = length_push segment.entries (entry, client) in
-      omega (arith, longer, room));
+  fits = omega (arith, length_push segment.entries (entry, client), room);
   written = λ lasts o other at. which lasts o other (get-push segment.entries (entry, client) o at);
 }
   where
@@ -97,11 +96,11 @@ opened master digest ids room p = record {
 }
 
 -- an entry is appended
-appended : {master : Master} (entry : Entry) (client : Bool) → is_full master.log ≡ false →
+appended : (master : Master) (entry : Entry) (client : Bool) → is_full master.log ≡ false →
     (master.lasting ≡ true → client ≡ true →
     entry.version ≡ place_version entry.term master.log.head (length (head_of master.log).entries)) →
     Kept master (appends_entry master entry client)
-appended {master} entry client room by_place p =
+appended master entry client room by_place p =
     put-in master.log.head (with_entry entry client (head_of master.log))
     (pushed-segment entry client (leb-false master.log.size (length (head_of master.log).entries) room) by_place (p.each master.log.head)) p
 
@@ -114,7 +113,7 @@ freed (seg ∷ segs) master p = freed segs
     (put-same seg (record (master.log.segments seg) { freed = true }) refl p)
 
 rolls : (master : Master) → Rolls Kept master
-rolls master ids writing room chosen p = opened master _ ids room p
+rolls master ids writing room chosen p = opened master (next_digest master.log (dead_segments master)) ids room p
 
 joined : Joined Kept
 joined = record { still = λ master p. p; both = λ one two first after p q h. q (p h) }
@@ -131,7 +130,7 @@ followed = record {
   counts = λ master more p. record { head = p.head; size = p.size; each = p.each };
   rolls = rolls;
   replays = λ master entry entries is writing room p.
-      appended {record master { ownership = after_replay master.ownership }} entry false room (λ lasts never. true_false (sym never))
+      appended (record master { ownership = after_replay master.ownership }) entry false room (λ lasts never. true_false (sym never))
       (record { head = p.head; size = p.size; each = p.each });
   answers = λ master term is p. record { head = p.head; size = p.size; each = p.each };
 }
@@ -144,9 +143,17 @@ changed seg master (config, Ok true) p = put-same seg (under_new_epoch config (m
 changed seg master (config, Ok false) p = put-same seg (record (master.log.segments seg) { config = config }) refl p
 changed seg master (config, Err fault) p = put-same seg (record (master.log.segments seg) { config = config }) refl p
 
+refilled : (seg : ℕ) (master : Master) (answer : Config × Result (List ServerId) Fault) → IsNumbered master →
+    IsNumbered (with_log master (refills seg master.log answer).0)
+refilled seg master (config, answer) p = put-same seg (record (master.log.segments seg) { config = config }) refl p
+
 lost : (servers : ServerList) (seg : ℕ) (master : Master) → IsNumbered master →
     IsNumbered (with_log master (loses servers seg master.log).0)
-lost servers seg master p = search (arith, either, put-same, changed)
+lost servers seg master p = either (λ (done : Log × Result (List ServerId) Fault). IsNumbered (with_log master done.0))
+    (master.log.segments seg).shut (refills seg master.log (refill master.log.own servers (master.log.segments seg).config))
+    (opens_change seg master.log (lose master.log.own servers (master.log.segments seg).config))
+    (λ _. refilled seg master (refill master.log.own servers (master.log.segments seg).config) p)
+    (λ _. changed seg master (lose master.log.own servers (master.log.segments seg).config) p)
 
 listed : Listed Kept
 listed = record {
@@ -164,7 +171,7 @@ taken master from body = record {
   refuses = λ one fault p. p;
   rolls = rolls master;
   writes = λ term table key value is owned writing room.
-      appended (written master term table key value) true room (λ lasts _. written-at master term table key value lasts);
+      appended master (written master term table key value) true room (λ lasts _. written-at master term table key value lasts);
   reads = λ term table key is owned p. p;
   lists = λ version rows is newer p. record { head = p.head; size = p.size; each = p.each };
   stores = λ teller seg epoch len closed is told. configured (has_segment master.log seg) seg
