@@ -1,10 +1,11 @@
 -- Runs in which a rule of lasting setups shows, each beside the same run of a setup that isn't lasting.
-use Rattle.std.specs.Prelude.{◌≡◌, ℕ, Bool, true, false, List, [], ◌∷◌, ◌++◌, is_some, codes}
+use Rattle.std.specs.Prelude.{◌≡◌, ℕ, Bool, true, false, List, [], ◌∷◌, ◌++◌, map, is_some, codes}
 use Rattle.rc_types.specs.declared.ids.ServerId.{ServerId}
 use Rattle.rc_types.specs.declared.events.Setup.{Setup}
 use Rattle.rc_model.specs.Backup.{replica_of}
 use Rattle.rc_model.specs.World.{World, opening}
-use Rattle.rc_worked.specs.Settling.{Line, runs, create, id, settle, settle_without, start, start_keeping, stop, suspect}
+use Rattle.rc_model.specs.Recovered.{all_acknowledged}
+use Rattle.rc_worked.specs.Settling.{Line, runs, create, decide, id, settle, settle_without, start, start_keeping, stop, suspect}
 use Rattle.rc_worked.specs.Settling.{tick, write}
 
 -- one replica of each segment, which takes one entry; lasting or not
@@ -53,3 +54,27 @@ ZombieMayNotLearn = (is_deposed false ticks_before_it_hears ≡ false) × (is_de
 
 abbrev pub LastingZombieLearns : Type 0
 LastingZombieLearns = (is_deposed true ticks_before_it_hears ≡ true) × (is_deposed true ticks_when_it_has_heard ≡ true)
+
+-- Versions by place
+
+-- a key is written twice at one owner, and then at the next one, behind what that has recovered
+abbrev pub of_eight_entries : Bool → Setup
+of_eight_entries lasting = record { factor = 2; segment = 8; free = true; lasting = lasting; factors = [] }
+
+abbrev pub written_at_two_owners : List Line
+written_at_two_owners =
+    start 0 ∷ start 1 ∷ start 2 ∷ start 3 ∷ settle ∷ create 7 (id 0 1) ∷ settle ∷ write (id 0 1) 7 5 (codes "a") ∷ settle ∷
+    write (id 0 1) 7 5 (codes "b") ∷ settle ∷ suspect (id 0 1) ∷ settle ∷ decide (id 0 1) ∷ settle ∷
+    write (id 1 1) 7 5 (codes "c") ∷ settle ∷ []
+
+-- the versions that were acknowledged
+abbrev pub versions_of : Bool → List ℕ
+versions_of lasting =
+    map (λ ack. ack.version) (all_acknowledged (runs (opening (of_eight_entries lasting)) written_at_two_owners).sent)
+
+abbrev pub VersionsAreCounted : Type 0
+VersionsAreCounted = versions_of false ≡ 1 ∷ 2 ∷ 3 ∷ []
+
+-- term 1, segment 1, offsets 0 and 1; term 2, segment 1, offset 2
+abbrev pub VersionsAreOfPlaces : Type 0
+VersionsAreOfPlaces = versions_of true ≡ 4295032832 ∷ 4295032833 ∷ 8590000130 ∷ []

@@ -2,6 +2,7 @@
 
 ghost use Rattle.rc_worked.specs.Lasting.{ClosedStaysUnnamed, LastingDropsUnnamed, LastingKeepsNamed};
 ghost use Rattle.rc_worked.specs.Lasting.{ZombieMayNotLearn, LastingZombieLearns};
+ghost use Rattle.rc_worked.specs.Lasting.{VersionsAreCounted, VersionsAreOfPlaces};
 
 /// A closed replica that its host's Start does not name stays; where the setup is lasting it is gone, and one that is
 /// named stays.
@@ -16,4 +17,11 @@ pub fn starts_name_what_is_kept()
 pub fn ticks_always_ask()
     ensures plain { ZombieMayNotLearn }
     ensures lasting { LastingZombieLearns }
+{}
+
+/// The versions of a key are 1, 2 and 3, the last at its second owner; where the setup is lasting they are made of the term
+/// and the place of each write.
+pub fn versions_are_of_places()
+    ensures plain { VersionsAreCounted }
+    ensures lasting { VersionsAreOfPlaces }
 {}
