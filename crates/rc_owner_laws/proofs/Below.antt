@@ -12,7 +12,7 @@ use Rattle.rc_model.proofs.Tests.{true_false}
 use Rattle.rc_step_laws.specs.All.{Begins, log_in}
 use Rattle.rc_step_laws.proofs.Copies.{split}
 use Rattle.rc_step_laws.proofs.Lists.{get-take, get-append, get-within}
-use Rattle.rc_step_laws.proofs.Places.{IsIn, places_in-are, IsOf, places_to-are}
+use Rattle.rc_step_laws.proofs.Places.{IsIn, IsOf, places_to-are}
 use Rattle.rc_step_laws.proofs.Tests.{get-map}
 use Rattle.rc_owner_laws.specs.Numbered.{IsNumbered}
 use Rattle.rc_owner_laws.specs.Parts.{part_view, logged, under, AllCame, IsWaiting, HasJoined, IsPart, IsClients, IsReplayed}
@@ -25,6 +25,14 @@ use Rattle.rc_owner_laws.proofs.Bases.{IsTaskOf, task-of, task-ascends, row-cut}
 
 abbrev IsEarlier : LogPlace → LogPlace → Type 0
 IsEarlier q p = (q.seg < p.seg) ⊎ ((q.seg ≡ p.seg) × (q.offset < p.offset))
+
+stands-at : {seg : ℕ} (offset : ℕ) (entries : List (Entry × Bool)) (k : ℕ) {place : LogPlace} →
+    slice_get (places_in seg offset entries) k ≡ Some place → IsIn seg offset k entries place
+stands-at offset [] k e = cc
+stands-at {seg} offset (one ∷ entries) zero {place} e = search arith
+stands-at offset (one ∷ entries) (suc k) e =
+    let rest = stands-at (offset + 1) entries k e in
+    record { seg_is = rest.seg_is; offset_is = rest.offset_is ∙ omega arith; holds = rest.holds }
 
 earlier : (segments : ℕ → Segment) (n j k : ℕ) {q p : LogPlace} → slice_get (places_to segments n) j ≡ Some q →
     slice_get (places_to segments n) k ≡ Some p → j < k → IsEarlier q p
@@ -42,7 +50,7 @@ earlier segments (suc n) j k {q} {p} e f less =
     by rec (inl old) (inl at) = rec old at
     by rec (inl old) (inr (x, is, at)) =
         let a : IsOf segments n q = places_to-are n j old in
-        let b : IsIn (suc n) 0 x (segments (suc n)).entries p = places_in-are 0 (segments (suc n)).entries x at in
+        let b : IsIn (suc n) 0 x (segments (suc n)).entries p = stands-at 0 (segments (suc n)).entries x at in
         let upto : q.seg ≤ n = a.upto in
         let seg : p.seg ≡ suc n = b.seg_is in
         inl (omega (arith, upto, seg))
@@ -50,8 +58,8 @@ earlier segments (suc n) j k {q} {p} e f less =
         let within : k < length (places_to segments n) = get-within (places_to segments n) k old in
         absurd (omega (arith, is, within, less))
     by rec (inr (x, is, at)) (inr (y, same, there)) =
-        let a : IsIn (suc n) 0 x (segments (suc n)).entries q = places_in-are 0 (segments (suc n)).entries x at in
-        let b : IsIn (suc n) 0 y (segments (suc n)).entries p = places_in-are 0 (segments (suc n)).entries y there in
+        let a : IsIn (suc n) 0 x (segments (suc n)).entries q = stands-at 0 (segments (suc n)).entries x at in
+        let b : IsIn (suc n) 0 y (segments (suc n)).entries p = stands-at 0 (segments (suc n)).entries y there in
         let o : q.offset ≡ 0 + x = a.offset_is in
         let r : p.offset ≡ 0 + y = b.offset_is in
         inr (a.seg_is ∙ sym b.seg_is, omega (arith, is, same, less, o, r))
@@ -315,7 +323,7 @@ module _ (sent : List Message) (masters : ServerId → Master) (hosts : ℕ → 
         place client = record { seg = s; offset = o; entry = one.0.0; client = client }
 
         at : In (place one.0.1) (places_of (masters m).log)
-        at = among-places (masters m).log.segments (masters m).log.head s o (stands-opened {m} {s} o holds).0 (stands-opened {m} {s} o holds).1 one.1
+        at = among-places (masters m).log.segments (masters m).log.head s o (stands-opened {m = m} {s = s} o holds).0 (stands-opened {m = m} {s = s} o holds).1 one.1
 
         same : one.0.0.term ≡ term
         same = ap (λ (it : Entry). it.term) one.2 ∙ term_is

@@ -64,7 +64,7 @@ pushed-segment {lasting} {size} {s} {segment} entry client room by_place p = rec
 }
   where
     which : lasting ≡ true → (o : ℕ) (other : Entry) → (slice_get segment.entries o ≡ Some (other, true)) ⊎
-        ((o ≡ length segment.entries) × ((entry, client) ≡ (other, true))) → other.version ≡ place_version other.term s o
+        ((o ≡ length segment.entries) × (◌≡◌ {A = Entry × Bool} (entry, client) (other, true))) → other.version ≡ place_version other.term s o
     which lasts o other (inl old) = p.written lasts o other old
     which lasts o other (inr (last, same)) =
         subst (λ (one : Entry). one.version ≡ place_version one.term s o) (ap (λ (one : Entry × Bool). one.0) same)

@@ -250,6 +250,7 @@ module _ (sent : List Message) (m : ServerId) where
                   task.part (map (λ row. (row.seg, row.holder)) task.rows) ∷ [];
             });
         tasks = master.tasks ++ task ∷ [];
+        lasting = master.lasting;
       }) unknown in
       record {
         head = head;
