@@ -14,7 +14,8 @@ use Rattle.rc_types.specs.declared.ids.Addr.TheVariants as addr
 use Rattle.rc_types.specs.declared.messages.Body.{Body}
 use Rattle.rc_types.specs.declared.messages.Body.TheVariants as body
 use Rattle.rc_codec.specs.Parts.{number, byte, two_bytes, four_bytes, eight_bytes, flag}
-use Rattle.rc_codec.specs.Fields.{marks_code, marks_at, id_code, addr_code, refusal_code, value_code, entry_code, row_code, plan_row_code, range_code}
+use Rattle.rc_codec.specs.Fields.{marks_code, marks_at, id_code, addr_code, refusal_code, value_code, entry_code}
+use Rattle.rc_codec.specs.Fields.{row_code, plan_row_code, range_code}
 use Rattle.rc_codec.specs.Fields.{part_code, up_code, kept_code, u8_at, u16_at, u32_at, u64_at, id_at, addr_at, addrs, chosen_at}
 use Rattle.rc_codec.specs.Fields.{refusals, refusal_at, value_at, entry_at, row_at, plan_row_at, range_at, part_at, up_at, kept_at}
 use Rattle.rc_codec.specs.Fields.{versioned_at}
@@ -22,7 +23,8 @@ use Rattle.rc_codec.specs.Bodies.{body_code, message_code, coded_message, bodies
 use Rattle.rc_codec.specs.Events.{order_code, event_code, coded_event, events, orders, order_at, ordered, event_at}
 use Rattle.rc_codec.specs.Reading.{Reader, made, flag_at}
 use Rattle.rc_codec.proofs.Lawful.{IsBytes, Lawful, bind_some, some_is, made_again, made_lawful, pair_lawful, three_lawful, four_lawful}
-use Rattle.rc_codec.proofs.Lawful.{five_lawful, six_lawful, number_lawful, flag_lawful, marks_lawful, bytes_lawful, optional_lawful, listed_lawful}
+use Rattle.rc_codec.proofs.Lawful.{five_lawful, six_lawful, number_lawful, flag_lawful, marks_lawful, bytes_lawful}
+use Rattle.rc_codec.proofs.Lawful.{optional_lawful, listed_lawful}
 use Rattle.rc_codec.proofs.Lawful.{nothing_lawful, AreRight, all_right, kind_right, made_right, chosen_lawful, versioned_lawful}
 use Rattle.rc_codec.proofs.Choices.{event_orders, with_order}
 

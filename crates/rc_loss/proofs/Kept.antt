@@ -123,6 +123,6 @@ kept-backup sent backup from to (Gather attempt master) up all at = search (arit
 kept-backup sent backup from to _ up all at = all
 
 -- a restart
-pub kept-restarted : {sent : List Message} {m : ServerId} (lasting : Bool) (list : List (ServerId × ℕ)) {held : Held} → Ascending held.replicas →
-    GoodKept sent m held → GoodKept sent m (restarted lasting list m held)
+pub kept-restarted : {sent : List Message} {m : ServerId} (lasting : Bool) (list : List (ServerId × ℕ)) {held : Held} →
+    Ascending held.replicas → GoodKept sent m held → GoodKept sent m (restarted lasting list m held)
 kept-restarted {m} lasting list {held} up p = search (arith, replica_of-filter)

@@ -497,14 +497,17 @@ refusals-mean-loss setup events m replies fault ready answers all_rows refused =
             WasDropped setup events x m s (config_after setup gone.placed.before m s).epoch
         which x (inl never) = absurd never
         which x (inr dropped) = dropped
-    by (inr (t, _, shut, (some, w, away))) = (t, inr (record {
-      lasting = lasts w.ids w.many away;
-      shut = shut;
-      tellers = w.ids;
-      many = w.many;
-      apart = w.apart;
-      dropped = λ x at. (gone x (away x at)).1;
-    }))
+    by (inr (t, _, shut, (some, w, away))) = (
+      t,
+      inr (record {
+        lasting = lasts w.ids w.many away;
+        shut = shut;
+        tellers = w.ids;
+        many = w.many;
+        apart = w.apart;
+        dropped = λ x at. (gone x (away x at)).1;
+      }),
+    )
       where
         gone : (x : ServerId) → In x.index [] ⊎ ((setup.lasting ≡ true) × HasDroppedClosed setup events x m t) →
             (setup.lasting ≡ true) × HasDroppedClosed setup events x m t

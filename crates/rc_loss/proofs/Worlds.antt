@@ -83,10 +83,10 @@ stands-then {new} {s} {e} {len} {closed} later p = by (later.replicas s p.replic
     by (inr freed) = inr freed
 
 -- a closed one that has to be named is one of a lasting setup
-unnamed-lasting : (lasting : Bool) {replica : Replica} → replica.closed ≡ true → stays_unnamed lasting replica ≡ false →
+unnamed-lasting : (lasting : Bool) (replica : Replica) → replica.closed ≡ true → stays_unnamed lasting replica ≡ false →
     lasting ≡ true
-unnamed-lasting true closed e = refl
-unnamed-lasting false closed e = true_false (sym closed ∙ e)
+unnamed-lasting true replica closed e = refl
+unnamed-lasting false replica closed e = true_false (sym closed ∙ e)
 
 -- All of it
 
@@ -166,7 +166,7 @@ module _ (setup : Setup) (events : List Event) (one : Event) (p : LossFacts setu
 
         lost : (stays_unnamed host_lasting stands.replica || is_kept start.kept m s) ≡ false → StandsNow
         lost gone = inr (inr (
-          λ is. unnamed-lasting setup.lasting (stands.closed_too is) goes,
+          λ is. unnamed-lasting setup.lasting stands.replica (stands.closed_too is) goes,
           record {
             before = events;
             kept = start.kept;

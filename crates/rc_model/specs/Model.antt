@@ -113,7 +113,8 @@ pub use Rattle.rc_model.specs.Master.{places_head, to_ids, to_unlost, with_log}
 pub use Rattle.rc_model.specs.MasterClaims.{FollowUpsLower, NoneAppliesAfterwards, ShutIsMarked}
 pub use Rattle.rc_model.specs.MasterStep.{begins_task, deposed_takes, master_takes, master_takes_first, master_ticks}
 pub use Rattle.rc_model.specs.MasterStep.{says_deposed, takes_plan, task_of}
-pub use Rattle.rc_model.specs.MasterTick.{asks_anyhow, awaits_commit, awaits_grant, commits_again, fetch_of, fetches_again}
+pub use Rattle.rc_model.specs.MasterTick.{asks_anyhow, awaits_commit, awaits_grant, commits_again, fetch_of}
+pub use Rattle.rc_model.specs.MasterTick.{fetches_again}
 pub use Rattle.rc_model.specs.MasterTick.{has_not_come, is_closing_old, lacking, ready_again, recovered_again}
 pub use Rattle.rc_model.specs.MasterTick.{reminds, reminds_member, reminds_members, reminds_open, reminds_shut}
 pub use Rattle.rc_model.specs.MasterTick.{reminds_shut_members, standing, stood, ticks, to_remind}

@@ -117,7 +117,13 @@ segment_of = whole 1 MAX_SEGMENT
 -- the members of format 1 that aren't its events: one factor for all, and nothing is freed
 abbrev pub first_setup : Data → Option Setup
 first_setup d = only first_members d
-    (given2 (λ factor segment. record { factor = factor; segment = segment; free = false; lasting = false; factors = [] })
+    (given2 (λ factor segment. record {
+      factor = factor;
+      segment = segment;
+      free = false;
+      lasting = false;
+      factors = [];
+    })
     (field (codes "factor") factor_of d) (field (codes "segment") segment_of d))
 
 -- those of format 2

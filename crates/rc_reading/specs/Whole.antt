@@ -53,16 +53,23 @@ top_of d = record {
 
 -- the setup, by the format
 abbrev pub first_in : Top → Option Setup
-first_in top = if top.first then given2
-    (λ factor segment. record { factor = factor; segment = segment; free = false; lasting = false; factors = [] }) top.factor
-    top.segment else None
+first_in top = if top.first then given2 (λ factor segment. record {
+  factor = factor;
+  segment = segment;
+  free = false;
+  lasting = false;
+  factors = [];
+}) top.factor top.segment else None
 
 abbrev pub second_in : Top → Option Setup
 second_in top =
-    if top.second then given4 (λ factor segment free factors.
-    record { factor = factor; segment = segment; free = free; lasting = false; factors = factors }) top.factor top.segment top.free
-    top.factors
-    else None
+    if top.second then given4 (λ factor segment free factors. record {
+      factor = factor;
+      segment = segment;
+      free = free;
+      lasting = false;
+      factors = factors;
+    }) top.factor top.segment top.free top.factors else None
 
 abbrev pub setup_in : Top → Option Setup
 setup_in top = option_and_then (λ format. if nat_eq format 1 then first_in top else second_in top) top.format

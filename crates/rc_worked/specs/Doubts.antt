@@ -34,7 +34,8 @@ commit_answers_its_own_pair =
 
 abbrev pub CommitAnswersItsOwnPairReports : Type 0
 CommitAnswersItsOwnPairReports =
-    report_of (record { factor = 2; segment = 8; free = false; lasting = false; factors = [] }) commit_answers_its_own_pair
+    report_of (record { factor = 2; segment = 8; free = false; lasting = false; factors = [] })
+    commit_answers_its_own_pair
     ≡ codes "own 0.1 term 1 table 7 from 0 to 18446744073709551615 after 0 attempt 0\n"
     ++ codes "messages 70\n"
     ++ codes "acknowledged 0\n"

@@ -5,8 +5,8 @@ use Rattle.rc_types.specs.declared.events.Setup.{Setup}
 use Rattle.rc_model.specs.Backup.{replica_of}
 use Rattle.rc_model.specs.World.{World, opening}
 use Rattle.rc_model.specs.Recovered.{all_acknowledged}
-use Rattle.rc_worked.specs.Settling.{Line, runs, create, decide, id, settle, settle_without, start, start_keeping, stop, suspect}
-use Rattle.rc_worked.specs.Settling.{tick, write}
+use Rattle.rc_worked.specs.Settling.{Line, runs, create, decide, id, settle, settle_without, start, start_keeping}
+use Rattle.rc_worked.specs.Settling.{stop, suspect, tick, write}
 
 -- one replica of each segment, which takes one entry; lasting or not
 abbrev pub of_one_entry : Bool → Setup
@@ -50,7 +50,8 @@ abbrev pub is_deposed : Bool → List Line → Bool
 is_deposed lasting run = ((runs (opening (of_one_entry lasting)) run).masters (id 0 1)).deposed
 
 abbrev pub ZombieMayNotLearn : Type 0
-ZombieMayNotLearn = (is_deposed false ticks_before_it_hears ≡ false) × (is_deposed false ticks_when_it_has_heard ≡ false)
+ZombieMayNotLearn =
+    (is_deposed false ticks_before_it_hears ≡ false) × (is_deposed false ticks_when_it_has_heard ≡ false)
 
 abbrev pub LastingZombieLearns : Type 0
 LastingZombieLearns = (is_deposed true ticks_before_it_hears ≡ true) × (is_deposed true ticks_when_it_has_heard ≡ true)

@@ -1,5 +1,6 @@
 -- What a contract sees of a host: plain data, since a function cannot be the value of a type.
-use Rattle.std.specs.Prelude.{◌≡◌, ℕ, ◌-◌, ◌^◌, ◌<◌, ◌≤◌, false, nat_lt, if◌then◌else◌, List, Option, Some, None, option_map}
+use Rattle.std.specs.Prelude.{◌≡◌, ℕ, ◌-◌, ◌^◌, ◌<◌, ◌≤◌, false, nat_lt, if◌then◌else◌, List, Option, Some, None}
+use Rattle.std.specs.Prelude.{option_map}
 use Rattle.std.specs.Prelude.{All}
 use Rattle.rc_types.specs.declared.events.MasterSetup.{MasterSetup}
 use Rattle.rc_types.specs.declared.events.Setup.{Setup}

@@ -25,6 +25,9 @@ impl HostHead {
         ensures { (result ≡ true) ↔ IsMasterSetup self.now.setup }
     {
         let setup = self.setup;
-        !setup.lasting && setup.factor > 0 && setup.factor <= MAX_FACTOR && setup.size <= MAX_SEGMENT
+        !setup.lasting
+            && setup.factor > 0
+            && setup.factor <= MAX_FACTOR
+            && setup.size <= MAX_SEGMENT
     }
 }
