@@ -45,7 +45,8 @@ same-followed = record {
 }
 
 pub takes-lasts : (master : Master) (from : Addr) (body : Body) → Same master (master_takes master from body)
-takes-lasts master from body = kept-takes Same same-joined same-listed same-followed (same-taken {master = master} {from = from} {body = body})
+takes-lasts master from body =
+    kept-takes Same same-joined same-listed same-followed (same-taken {master = master} {from = from} {body = body})
 
 pub ticks-lasts : (master : Master) → Same master (master_ticks master)
 ticks-lasts master = kept-ticks Same same-joined same-listed same-followed same-ticked master

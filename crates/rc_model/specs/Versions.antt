@@ -1,5 +1,5 @@
--- How an owner numbers versions, what it reads, and which entries are outdated: by the entries of its log, or, where the
--- setup is lasting, a version by the place of its write.
+-- How an owner numbers versions, what it reads, and which entries are outdated: by the entries of its log. Where the
+-- setup is lasting, a version is numbered by the place of its write.
 use Rattle.std.specs.Prelude.{ℕ, ◌+◌, ◌*◌, Bool, true, nat_eq, nat_lt, ◌&&◌, if◌then◌else◌, List, [], ◌∷◌, max, Option}
 use Rattle.std.specs.Prelude.{Some, None}
 use Rattle.std.specs.List.{list_any, list_all, fold}

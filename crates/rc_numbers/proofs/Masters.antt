@@ -1,5 +1,6 @@
 -- What a master's rules do to the versions of the entries that it has, in a whole step.
-use Rattle.std.proofs.Common.{ℕ, ◌+◌, ◌-◌, ◌≤◌, Bool, true, false, cond, List, [], ◌∷◌, length, map, Option, refl, sym, ap, subst, ◌≡◌, arith}
+use Rattle.std.proofs.Common.{ℕ, ◌+◌, ◌-◌, ◌≤◌, Bool, true, false, cond, List, [], ◌∷◌, length, map, Option, refl, sym, ap, subst, ◌≡◌}
+use Rattle.std.proofs.Common.{arith}
 use Rattle.std.proofs.lemmas.List.Elements.{All-head}
 use Rattle.rc_model.specs.Model.{ServerId, Addr, Entry, Message, Body, Segment, with_closes_sent, Log, entries_of, old_head_of}
 use Rattle.rc_model.specs.Model.{with_segment, durable_now, opens_head, appends, next_digest, stored, commit_noted, loses, left_out}
@@ -169,8 +170,8 @@ master-more more {master} h = record {
 }
 
 -- a write has at most one more than the greatest version
-written-within : {n : ℕ} {master : Master} → master.lasting ≡ false → MasterWithin n master → (term table key : ℕ) (value : Option (List ℕ)) →
-    (written master term table key value).version ≤ n + 1
+written-within : {n : ℕ} {master : Master} → master.lasting ≡ false → MasterWithin n master →
+    (term table key : ℕ) (value : Option (List ℕ)) → (written master term table key value).version ≤ n + 1
 written-within {n} {master} plain h term table key value =
     let most : greatest_version term table key (entries_of master.log) ≤ n =
     greatest-within term table key (entries_of master.log) (entries-within master.log h.log) in

@@ -20,7 +20,8 @@ pub coordinator-has-room : CoordinatorHasRoom
 coordinator-has-room setup events plain few = room-of few (within-replay setup events plain).coordinator
 
 pub generations-have-room : GenerationsHaveRoom
-generations-have-room setup events plain few index = let h = ((within-replay setup events plain).hosts index).generation in omega (arith, h, few)
+generations-have-room setup events plain few index =
+    let h = ((within-replay setup events plain).hosts index).generation in omega (arith, h, few)
 
 pub versions-of : {n : ℕ} {master : Master} → MasterWithin n master → VersionsUpTo n (entries_of master.log)
 versions-of {master} h = entries-within master.log h.log

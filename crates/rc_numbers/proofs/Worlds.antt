@@ -1,6 +1,7 @@
 -- What an event does to the numbers of a world.
 use Rattle.std.proofs.lemmas.Bool.{and_parts}
-use Rattle.std.proofs.Common.{ℕ, nat_lt, ◌≡◌, ◌+◌, ◌≤◌, true, false, ◌∙◌, List, [], ◌∷◌, length, Option, Some, None, slice_get, refl, subst, arith}
+use Rattle.std.proofs.Common.{ℕ, nat_lt, ◌≡◌, ◌+◌, ◌≤◌, true, false, ◌∙◌, List, [], ◌∷◌, length, Option, Some, None, slice_get, refl}
+use Rattle.std.proofs.Common.{subst, arith}
 use Rattle.std.proofs.lemmas.List.Elements.{All-nil}
 use Rattle.rc_model.specs.Model.{ServerId, Server, Outside, MAX_HOSTS, Setup, Event, Message, Body, Place, Append, Data, Enlist}
 use Rattle.rc_model.specs.Model.{is_server, to_coordinator, Backup, backup_takes, Master, MasterSetup, new_master, master_takes}

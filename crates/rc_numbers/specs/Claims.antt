@@ -14,7 +14,8 @@ use Rattle.rc_numbers.specs.Numbers.{WorldWithin}
 -- after so many events, all numbers are within that many; this and what follows of it is said of setups that aren't
 -- lasting alone
 abbrev pub NumbersGrowSlowly : Type 0
-NumbersGrowSlowly = (setup : Setup) (events : List Event) → setup.lasting ≡ false → WorldWithin (length events) (replay setup events)
+NumbersGrowSlowly = (setup : Setup) (events : List Event) → setup.lasting ≡ false →
+    WorldWithin (length events) (replay setup events)
 
 -- versions of the list, numbers of attempts and terms are below 2 ^ 32, also after one more step
 pub record HasRoom (c : Coordinator) : Type 0 where
@@ -28,12 +29,14 @@ CoordinatorHasRoom = (setup : Setup) (events : List Event) → setup.lasting ≡
 
 -- a host can be started once more
 abbrev pub GenerationsHaveRoom : Type 0
-GenerationsHaveRoom = (setup : Setup) (events : List Event) → setup.lasting ≡ false → length events ≤ MAX_EVENTS → (index : ℕ) →
+GenerationsHaveRoom = (setup : Setup) (events : List Event) → setup.lasting ≡ false →
+    length events ≤ MAX_EVENTS → (index : ℕ) →
     ((replay setup events).hosts index).generation < 2 ^ 32 - 1
 
 -- each entry of the log of a master that runs has a version with room for one more
 abbrev pub VersionsHaveRoom : Type 0
-VersionsHaveRoom = (setup : Setup) (events : List Event) → setup.lasting ≡ false → length events ≤ MAX_EVENTS → (index : ℕ) (master : Master) →
+VersionsHaveRoom = (setup : Setup) (events : List Event) → setup.lasting ≡ false →
+    length events ≤ MAX_EVENTS → (index : ℕ) (master : Master) →
     ((replay setup events).hosts index).master ≡ Some master →
     All (λ entry. entry.version < 2 ^ 64 - 1) (entries_of master.log)
 

@@ -169,7 +169,8 @@ good-client {sent} {m} {v} place is_client good owns numbered = record {
         let most : entry.version ≤ greatest_version place.entry.term place.entry.table place.entry.key (logged v.places) =
         greatest-above place.entry.term place.entry.table place.entry.key (logged v.places) found.0 found.1
         (is-of-true entry a b c) in
-        let next : place.entry.version ≡ next_version place.entry.term place.entry.table place.entry.key (logged v.places) = numbered plain in
+        let next : place.entry.version ≡ next_version place.entry.term place.entry.table place.entry.key (logged v.places) =
+        numbered plain in
         omega (arith, most, next)
 
     joined : (state : PartState) (task : Task) → state.part.term ≡ place.entry.term →

@@ -4,7 +4,8 @@ use Rattle.std.proofs.Common.{◌≡◌, ◌⊎◌, ℕ, zero, suc, ◌+◌, ◌
 use Rattle.std.proofs.Common.{take, nat_eq, slice_get, Some, refl, sym, ap, ◌∙◌, subst, inl, inr, arith}
 use Rattle.std.proofs.lemmas.Bool.{and_parts, eqb-true}
 use Rattle.std.proofs.lemmas.List.{append_assoc, length-append, length-map}
-use Rattle.rc_model.specs.Model.{ServerId, Entry, Part, PlanRow, Message, is_in_part, Segment, Log, LogPlace, places_in, places_to, places_of}
+use Rattle.rc_model.specs.Model.{ServerId, Entry, Part, PlanRow, Message, is_in_part, Segment, Log, LogPlace, places_in, places_to}
+use Rattle.rc_model.specs.Model.{places_of}
 use Rattle.rc_model.specs.Model.{PartState, in_range, owns_term, under_term, place_version, LAST_SEGMENT, Master, Task, HostNode, In}
 use Rattle.rc_model.specs.Coordinator.{Coordinator}
 use Rattle.rc_model.proofs.Members.{In-left, In-right, In-append, In-get, place_of, In-map, In-filter}
@@ -233,7 +234,8 @@ module _ (sent : List Message) (masters : ServerId → Master) (hosts : ℕ → 
       (p : HasJoined sent x (part_view (masters x)) task state) → BelowEarlier state.part.term → (entry : Entry) →
       In entry p.entries → (s o : ℕ) → entry.version < place_version state.part.term s o
   base-below x task state at part_is p rec entry there s o =
-      below-later entry.version task.part.previous state.part.term s o (rec task.master task.part.previous less stands.seg stands.offset entry stands.holds previous) less
+      below-later entry.version task.part.previous state.part.term s o
+      (rec task.master task.part.previous less stands.seg stands.offset entry stands.holds previous) less
     where
       of_task : IsTaskOf sent c x task
       of_task = task-of sent masters hosts c all x task at
@@ -281,7 +283,8 @@ module _ (sent : List Message) (masters : ServerId → Master) (hosts : ℕ → 
         by (inr p) =
             let begins = replayed-begins parted.after place parted.whole r p in
             let there : In place.entry (map (under_term r.state.part.term) p.entries) =
-            subst (In place.entry) begins.1 (In-left place.entry (under r.state.part.term (logged parted.before) ++ place.entry ∷ []) begins.0
+            subst (In place.entry) begins.1
+            (In-left place.entry (under r.state.part.term (logged parted.before) ++ place.entry ∷ []) begins.0
             (In-right place.entry (under r.state.part.term (logged parted.before)) (place.entry ∷ []) (inl refl))) in
             let from : (y : Entry) × (In y p.entries) × (place.entry ≡ under_term r.state.part.term y) =
             In-map (under_term r.state.part.term) place.entry p.entries there in
@@ -323,7 +326,8 @@ module _ (sent : List Message) (masters : ServerId → Master) (hosts : ℕ → 
         place client = record { seg = s; offset = o; entry = one.0.0; client = client }
 
         at : In (place one.0.1) (places_of (masters m).log)
-        at = among-places (masters m).log.segments (masters m).log.head s o (stands-opened {m = m} {s = s} o holds).0 (stands-opened {m = m} {s = s} o holds).1 one.1
+        at = among-places (masters m).log.segments (masters m).log.head s o (stands-opened {m = m} {s = s} o holds).0
+            (stands-opened {m = m} {s = s} o holds).1 one.1
 
         same : one.0.0.term ≡ term
         same = ap (λ (it : Entry). it.term) one.2 ∙ term_is
@@ -376,9 +380,11 @@ module _ (sent : List Message) (masters : ServerId → Master) (hosts : ℕ → 
             which true e =
                 let p = of-place m q q_at e in
                 let less : place_version place.entry.term q.seg q.offset < place_version place.entry.term place.seg place.offset =
-                rises-in-term place.entry.term q.seg q.offset place.seg place.offset p.within (in-order-before (masters m).log before after place q whole in_before) in
+                rises-in-term place.entry.term q.seg q.offset place.seg place.offset p.within
+                (in-order-before (masters m).log before after place q whole in_before) in
                 let mine : place.entry.version ≡ place_version place.entry.term place.seg place.offset = its.version in
-                let hers : q.entry.version ≡ place_version place.entry.term q.seg q.offset = p.version ∙ ap (λ t. place_version t q.seg q.offset) same in
+                let hers : q.entry.version ≡ place_version place.entry.term q.seg q.offset =
+                p.version ∙ ap (λ t. place_version t q.seg q.offset) same in
                 omega (arith, less, mine, hers, version)
             which false e =
                 let less : q.entry.version < place_version q.entry.term place.seg place.offset =

@@ -25,7 +25,8 @@ same-segment : {lasting : Bool} {size s : ℕ} {old new : Segment} → new.entri
     IsNumberedSegment lasting size s old → IsNumberedSegment lasting size s new
 same-segment {size} same p = record {
   fits = subst (λ (entries : List (Entry × Bool)). length entries ≤ size) (sym same) p.fits;
-  written = λ lasts o entry at. p.written lasts o entry (subst (λ (entries : List (Entry × Bool)). slice_get entries o ≡ Some (entry, true)) same at);
+  written = λ lasts o entry at. p.written lasts o entry
+      (subst (λ (entries : List (Entry × Bool)). slice_get entries o ≡ Some (entry, true)) same at);
 }
 
 -- none
@@ -64,7 +65,8 @@ pushed-segment {lasting} {size} {s} {segment} entry client room by_place p = rec
 }
   where
     which : lasting ≡ true → (o : ℕ) (other : Entry) → (slice_get segment.entries o ≡ Some (other, true)) ⊎
-        ((o ≡ length segment.entries) × (◌≡◌ {A = Entry × Bool} (entry, client) (other, true))) → other.version ≡ place_version other.term s o
+        ((o ≡ length segment.entries) × (◌≡◌ {A = Entry × Bool} (entry, client) (other, true))) →
+        other.version ≡ place_version other.term s o
     which lasts o other (inl old) = p.written lasts o other old
     which lasts o other (inr (last, same)) =
         subst (λ (one : Entry). one.version ≡ place_version one.term s o) (ap (λ (one : Entry × Bool). one.0) same)
@@ -192,7 +194,8 @@ min-upto : (a b : ℕ) → min a b ≤ b
 min-upto a b = omega arith
 
 fits : (setup : Setup) → setup.lasting ≡ true → size_of setup ≤ 65536
-fits setup lasts = subst (λ n. n ≤ 65536) (sym (ap (λ b. cond b (min setup.segment 65536) setup.segment) lasts)) (min-upto setup.segment 65536)
+fits setup lasts =
+    subst (λ n. n ≤ 65536) (sym (ap (λ b. cond b (min setup.segment 65536) setup.segment) lasts)) (min-upto setup.segment 65536)
 
 numbered-kept : {setup : Setup} → IsKeptByAll setup (λ sent m master. IsNumbered master)
 numbered-kept {setup} = record {

@@ -25,7 +25,8 @@ same-refl = record { places = refl; durable = refl; head = λ has. has }
 
 view-same : (master : Master) (log : Log) → places_of log ≡ places_of master.log → log.durable ≡ master.log.durable →
     part_view (with_log master log) ≡ part_view master
-view-same master log p q = λ i. record { places = p i; durable = q i; own = master.ownership; tasks = master.tasks; lasting = master.lasting }
+view-same master log p q =
+    λ i. record { places = p i; durable = q i; own = master.ownership; tasks = master.tasks; lasting = master.lasting }
 
 pub quiet-log : {sent : List Message} {m : ServerId} {master : Master} {log : Log} {messages : List Message} →
     HasHead master.log → GoodParts sent m (part_view master) → SamePlaces master.log log

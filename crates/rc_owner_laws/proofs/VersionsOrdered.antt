@@ -383,7 +383,8 @@ module _ (sent : List Message) (masters : ServerId → Master) (hosts : ℕ → 
 
       by : (client : Bool) → split.place.client ≡ client → other.version < split.place.entry.version
       by true e =
-          client-rises sent masters hosts c all m split.before split.after split.place split.whole e other stands (same.term_one ∙ sym same.term_other ∙ sym (ap (λ (x : Entry). x.term) is_entry))
+          client-rises sent masters hosts c all m split.before split.after split.place split.whole e other stands
+          (same.term_one ∙ sym same.term_other ∙ sym (ap (λ (x : Entry). x.term) is_entry))
           (same.table ∙ sym (ap (λ (x : Entry). x.table) is_entry))
           (same.key ∙ sym (ap (λ (x : Entry). x.key) is_entry))
       by false e = replay r part part.how

@@ -1,6 +1,7 @@
 -- What holds of a master's parts: what it owns and recovers, against what was sent to it and what its log and its
 -- replay hold.
-use Rattle.std.specs.Prelude.{◌≡◌, ◌⊎◌, ℕ, ◌<◌, ◌≤◌, Bool, true, false, nat_eq, List, [], ◌∷◌, ◌++◌, length, map, filter}
+use Rattle.std.specs.Prelude.{◌≡◌, ◌⊎◌, ℕ, ◌<◌, ◌≤◌, Bool, true, false, nat_eq, List, [], ◌∷◌, ◌++◌, length, map}
+use Rattle.std.specs.Prelude.{filter}
 use Rattle.std.specs.Prelude.{take, Some}
 use Rattle.rc_types.specs.Ranges.{in_range}
 use Rattle.rc_types.specs.declared.ids.ServerId.{ServerId}
@@ -153,8 +154,8 @@ pub record IsClients (v : PartView) (before : List LogPlace) (entry : Entry) : T
   pub among : In grant v.own.grants
   pub term_is : grant.term ≡ entry.term
   pub holds : in_range grant.range entry.table entry.key ≡ true
-  pub rises : v.lasting ≡ false → (other : Entry) → In other (logged before) → other.term ≡ entry.term → other.table ≡ entry.table →
-      other.key ≡ entry.key → other.version < entry.version
+  pub rises : v.lasting ≡ false → (other : Entry) → In other (logged before) → other.term ≡ entry.term →
+      other.table ≡ entry.table → other.key ≡ entry.key → other.version < entry.version
   pub after : (state : PartState) → In state v.own.parts → state.part.term ≡ entry.term →
       (state.rows ≡ []) × (state.size ≤ count_under entry.term (logged before))
 

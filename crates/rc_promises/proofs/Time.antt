@@ -106,8 +106,8 @@ module _ (setup : Setup) (events more : List Event) where
     pub is-above : (other : Entry) → In other (logged (places_of (old.masters x).log)) → other.term ≡ later.term →
         other.table ≡ later.table → other.key ≡ later.key → other.version < later.version
     is-above other there term table key = subst (λ n. other.version < n) is.written.version_is
-        (client-rises new.sent new.masters new.hosts new.coordinator all_new x at.before at.after is.written.place at.whole is.written.client
-        other (subst (λ places. In other (logged places)) after-all.1
+        (client-rises new.sent new.masters new.hosts new.coordinator all_new x at.before at.after is.written.place at.whole
+        is.written.client other (subst (λ places. In other (logged places)) after-all.1
         (subst (In other) (sym (logged-append (places_of (old.masters x).log) after-all.0))
         (In-left other (logged (places_of (old.masters x).log)) (logged after-all.0) there)))
         (term ∙ sym is.written.term_is) (table ∙ sym is.written.table_is) (key ∙ sym is.written.key_is))

@@ -64,9 +64,9 @@ of_eight_entries lasting = record { factor = 2; segment = 8; free = true; lastin
 
 abbrev pub written_at_two_owners : List Line
 written_at_two_owners =
-    start 0 ∷ start 1 ∷ start 2 ∷ start 3 ∷ settle ∷ create 7 (id 0 1) ∷ settle ∷ write (id 0 1) 7 5 (codes "a") ∷ settle ∷
-    write (id 0 1) 7 5 (codes "b") ∷ settle ∷ suspect (id 0 1) ∷ settle ∷ decide (id 0 1) ∷ settle ∷
-    write (id 1 1) 7 5 (codes "c") ∷ settle ∷ []
+    start 0 ∷ start 1 ∷ start 2 ∷ start 3 ∷ settle ∷ create 7 (id 0 1) ∷ settle ∷
+    write (id 0 1) 7 5 (codes "a") ∷ settle ∷ write (id 0 1) 7 5 (codes "b") ∷ settle ∷ suspect (id 0 1) ∷ settle ∷
+    decide (id 0 1) ∷ settle ∷ write (id 1 1) 7 5 (codes "c") ∷ settle ∷ []
 
 -- the versions that were acknowledged
 abbrev pub versions_of : Bool → List ℕ

@@ -19,8 +19,8 @@ pub fn ticks_always_ask()
     ensures lasting { LastingZombieLearns }
 {}
 
-/// The versions of a key are 1, 2 and 3, the last at its second owner; where the setup is lasting they are made of the term
-/// and the place of each write.
+/// The versions of a key are 1, 2 and 3, the last at its second owner; where the setup is lasting they are made of the
+/// term and the place of each write.
 pub fn versions_are_of_places()
     ensures plain { VersionsAreCounted }
     ensures lasting { VersionsAreOfPlaces }
