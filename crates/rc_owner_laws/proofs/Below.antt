@@ -14,7 +14,7 @@ use Rattle.rc_step_laws.specs.All.{Begins, log_in}
 use Rattle.rc_step_laws.proofs.Copies.{split}
 use Rattle.rc_step_laws.proofs.Lists.{get-take, get-append, get-within}
 use Rattle.rc_step_laws.proofs.Places.{IsIn, IsOf, places_to-are}
-use Rattle.rc_step_laws.proofs.Tests.{get-map}
+use Rattle.rc_step_laws.proofs.Tests.{get-map, map-get}
 use Rattle.rc_owner_laws.specs.Numbered.{IsNumbered}
 use Rattle.rc_owner_laws.specs.Parts.{part_view, logged, under, AllCame, IsWaiting, HasJoined, IsPart, IsClients, IsReplayed}
 use Rattle.rc_owner_laws.specs.Worlds.{AllHold}
@@ -121,12 +121,12 @@ among-places segments (suc n) s o {one} above upto e = by (last-or s n upto) (λ
         In-left (place-at s o one) (places_to segments n) (places_in (suc n) 0 (segments (suc n)).entries) (rec less)
 
 -- the places before one, and those after it
-record Parted (place : LogPlace) (places : List LogPlace) : Type 0 where
-  before : List LogPlace
-  after : List LogPlace
-  whole : places ≡ before ++ place ∷ after
+pub record Parted (place : LogPlace) (places : List LogPlace) : Type 0 where
+  pub before : List LogPlace
+  pub after : List LogPlace
+  pub whole : places ≡ before ++ place ∷ after
 
-parts-at : (place : LogPlace) (places : List LogPlace) → In place places → Parted place places
+pub parts-at : (place : LogPlace) (places : List LogPlace) → In place places → Parted place places
 parts-at place [] at = absurd at
 parts-at place (first ∷ places) (inl same) = record { before = []; after = places; whole = ap (λ p. p ∷ places) (sym same) }
 parts-at place (first ∷ places) (inr rest) =
@@ -149,7 +149,7 @@ rises-in-term : (term t k s o : ℕ) → k < 65536 → (t < s) ⊎ ((t ≡ s) ×
 rises-in-term term t k s o a (inl less) = omega (arith, a, less)
 rises-in-term term t k s o a (inr p) = omega (arith, a, p.0, p.1)
 
-below-later : (version old term s o : ℕ) → version < (old + 1) * 4294967296 → old < term → version < place_version term s o
+pub below-later : (version old term s o : ℕ) → version < (old + 1) * 4294967296 → old < term → version < place_version term s o
 below-later version old term s o less later = omega (arith, less, later)
 
 module _ (sent : List Message) (masters : ServerId → Master) (hosts : ℕ → HostNode) (c : Coordinator)
@@ -220,6 +220,16 @@ module _ (sent : List Message) (masters : ServerId → Master) (hosts : ℕ → 
   stands-opened : {m : ServerId} {s : ℕ} (o : ℕ) {entry : Entry} → slice_get (log_in (masters m).log s) o ≡ Some entry →
       (0 < s) × (s ≤ (masters m).log.head)
   stands-opened {m} {s} o {entry} e = search arith
+
+  -- what a client has written stands at its place
+  pub client-place : (m : ServerId) (s o : ℕ) (entry : Entry) →
+      slice_get ((masters m).log.segments s).entries o ≡ Some (entry, true) →
+      In (place-at s o (entry, true)) (places_of (masters m).log)
+  client-place m s o entry at =
+      let holds : slice_get (log_in (masters m).log s) o ≡ Some entry =
+      map-get (λ (one : Entry × Bool). one.0) ((masters m).log.segments s).entries o at in
+      let opened : (0 < s) × (s ≤ (masters m).log.head) = stands-opened {m = m} {s = s} o holds in
+      among-places (masters m).log.segments (masters m).log.head s o opened.0 opened.1 at
 
   -- Each entry is below the next term's versions
   abbrev IsBelow : ServerId → ℕ → Type 0
@@ -346,6 +356,10 @@ module _ (sent : List Message) (masters : ServerId → Master) (hosts : ℕ → 
     all-below : (bound : ℕ) (m : ServerId) (term : ℕ) → term < bound → IsBelow m term
     all-below zero m term less = absurd (omega (arith, less))
     all-below (suc bound) m term less = log-below m term (λ k old below. all-below bound k old (omega (arith, below, less)))
+
+    pub versions-below : (m : ServerId) (s o : ℕ) (entry : Entry) → slice_get (log_in (masters m).log s) o ≡ Some entry →
+        entry.version < (entry.term + 1) * 4294967296
+    versions-below m s o entry holds = all-below (suc entry.term) m entry.term (omega arith) s o entry holds refl
 
     earlier-below : (term : ℕ) → BelowEarlier term
     earlier-below term k old less = all-below (suc old) k old (omega arith)

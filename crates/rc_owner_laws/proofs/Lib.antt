@@ -34,4 +34,5 @@ pub mod Kept
 pub mod VersionsOrdered
 pub mod Laws
 pub mod VersionReplays
+mod Given
 mod Completing

@@ -15,3 +15,4 @@ pub mod Worlds
 pub mod Words
 pub mod VersionClaims
 pub mod Complete
+pub mod PlaceClaims

@@ -2,6 +2,7 @@
 
 ghost use Rattle.rc_owner_laws.specs.VersionClaims.{VersionsRiseOverOwners, NoBreach};
 ghost use Rattle.rc_owner_laws.specs.VersionClaims.{VersionsAlwaysRiseWithThePlace, NoVersionIsAcknowledgedTwice};
+ghost use Rattle.rc_owner_laws.specs.PlaceClaims.{VersionsAreOfPlaces, VersionsStayBelowLaterTerms, NoVersionIsGivenTwice};
 
 /// After any list of events of the whole protocol, a write that was acknowledged under a later
 /// ownership of a key has a greater version than every write that was acknowledged, then or since,
@@ -16,4 +17,13 @@ pub fn versions_rise_over_owners()
 pub fn no_version_comes_twice()
     ensures with_the_place { VersionsAlwaysRiseWithThePlace }
     ensures once { NoVersionIsAcknowledgedTwice }
+{}
+
+/// After any list of events of a lasting setup: the version of each client's write is made of its term and place, each
+/// entry's version, also of one that was recovered, is below all of later terms, and no version is given twice, also
+/// where nobody acknowledged it.
+pub fn versions_are_of_places()
+    ensures places { VersionsAreOfPlaces }
+    ensures below { VersionsStayBelowLaterTerms }
+    ensures once { NoVersionIsGivenTwice }
 {}
