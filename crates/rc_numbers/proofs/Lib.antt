@@ -6,4 +6,5 @@ pub mod Masters
 pub mod Parts
 pub mod Backups
 pub mod Worlds
+pub mod Counts
 pub mod Rooms

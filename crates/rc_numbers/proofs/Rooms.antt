@@ -7,6 +7,7 @@ use Rattle.rc_numbers.specs.Numbers.{CoordinatorWithin, VersionsUpTo, MasterWith
 use Rattle.rc_numbers.specs.Claims.{HasRoom, CoordinatorHasRoom, GenerationsHaveRoom, VersionsHaveRoom, NextVersionsHaveRoom}
 use Rattle.rc_numbers.proofs.Entries.{greatest-within}
 use Rattle.rc_numbers.proofs.Logs.{entries-within}
+use Rattle.rc_numbers.proofs.Counts.{counts-replay}
 use Rattle.rc_numbers.proofs.Worlds.{within-replay}
 
 pub room-of : {n : ℕ} {c : Coordinator} → n ≤ MAX_EVENTS → CoordinatorWithin n c → HasRoom c
@@ -17,11 +18,10 @@ room-of few h = record {
 }
 
 pub coordinator-has-room : CoordinatorHasRoom
-coordinator-has-room setup events plain few = room-of few (within-replay setup events plain).coordinator
+coordinator-has-room setup events few = room-of few (counts-replay setup events).coordinator
 
 pub generations-have-room : GenerationsHaveRoom
-generations-have-room setup events plain few index =
-    let h = ((within-replay setup events plain).hosts index).generation in omega (arith, h, few)
+generations-have-room setup events few index = let h = (counts-replay setup events).generations index in omega (arith, h, few)
 
 pub versions-of : {n : ℕ} {master : Master} → MasterWithin n master → VersionsUpTo n (entries_of master.log)
 versions-of {master} h = entries-within master.log h.log

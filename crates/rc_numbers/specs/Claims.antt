@@ -9,10 +9,13 @@ use Rattle.rc_model.specs.Log.{entries_of}
 use Rattle.rc_model.specs.Versions.{next_version}
 use Rattle.rc_model.specs.Master.{Master}
 use Rattle.rc_model.specs.World.{replay}
-use Rattle.rc_numbers.specs.Numbers.{WorldWithin}
+use Rattle.rc_numbers.specs.Numbers.{CountsWithin, WorldWithin}
 
--- after so many events, all numbers are within that many; this and what follows of it is said of setups that aren't
--- lasting alone
+-- after so many events, what the coordinator and the hosts count is within that many
+abbrev pub CountsGrowSlowly : Type 0
+CountsGrowSlowly = (setup : Setup) (events : List Event) → CountsWithin (length events) (replay setup events)
+
+-- and so are all versions, unless the setup is lasting
 abbrev pub NumbersGrowSlowly : Type 0
 NumbersGrowSlowly = (setup : Setup) (events : List Event) → setup.lasting ≡ false →
     WorldWithin (length events) (replay setup events)
@@ -24,16 +27,15 @@ pub record HasRoom (c : Coordinator) : Type 0 where
   pub terms : c.last_term + length c.tablets + 1 < 2 ^ 32
 
 abbrev pub CoordinatorHasRoom : Type 0
-CoordinatorHasRoom = (setup : Setup) (events : List Event) → setup.lasting ≡ false → length events ≤ MAX_EVENTS →
+CoordinatorHasRoom = (setup : Setup) (events : List Event) → length events ≤ MAX_EVENTS →
     HasRoom (replay setup events).coordinator
 
 -- a host can be started once more
 abbrev pub GenerationsHaveRoom : Type 0
-GenerationsHaveRoom = (setup : Setup) (events : List Event) → setup.lasting ≡ false →
-    length events ≤ MAX_EVENTS → (index : ℕ) →
+GenerationsHaveRoom = (setup : Setup) (events : List Event) → length events ≤ MAX_EVENTS → (index : ℕ) →
     ((replay setup events).hosts index).generation < 2 ^ 32 - 1
 
--- each entry of the log of a master that runs has a version with room for one more
+-- each entry of the log of a master that runs has a version with room for one more, unless the setup is lasting
 abbrev pub VersionsHaveRoom : Type 0
 VersionsHaveRoom = (setup : Setup) (events : List Event) → setup.lasting ≡ false →
     length events ≤ MAX_EVENTS → (index : ℕ) (master : Master) →

@@ -65,3 +65,8 @@ pub record WorldWithin (n : ℕ) (world : World) : Type 0 where
   pub coordinator : CoordinatorWithin n world.coordinator
   pub messages : MessagesWithin n world.sent
   pub hosts : (index : ℕ) → HostWithin n (world.hosts index)
+
+-- of a world of either kind of setup: what the coordinator and the hosts count
+pub record CountsWithin (n : ℕ) (world : World) : Type 0 where
+  pub coordinator : CoordinatorWithin n world.coordinator
+  pub generations : (index : ℕ) → (world.hosts index).generation ≤ n

@@ -1,5 +1,6 @@
+use Rattle.rc_numbers.proofs.Counts.{counts-replay}
 use Rattle.rc_numbers.proofs.Worlds.{within-replay}
 use Rattle.rc_numbers.proofs.bounds.numbers_grow_slowly.Goals as goal
 
 pub returns : goal.returns
-returns c = within-replay
+returns c = record { counts = counts-replay; versions = within-replay }
