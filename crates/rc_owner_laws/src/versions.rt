@@ -2,7 +2,8 @@
 
 ghost use Rattle.rc_owner_laws.specs.VersionClaims.{VersionsRiseOverOwners, NoBreach};
 ghost use Rattle.rc_owner_laws.specs.VersionClaims.{VersionsAlwaysRiseWithThePlace, NoVersionIsAcknowledgedTwice};
-ghost use Rattle.rc_owner_laws.specs.PlaceClaims.{VersionsAreOfPlaces, VersionsStayBelowLaterTerms, NoVersionIsGivenTwice};
+ghost use Rattle.rc_owner_laws.specs.PlaceClaims.{VersionsAreOfPlaces, VersionsStayBelowLaterTerms};
+ghost use Rattle.rc_owner_laws.specs.PlaceClaims.{NoVersionIsGivenTwice};
 
 /// After any list of events of the whole protocol, a write that was acknowledged under a later
 /// ownership of a key has a greater version than every write that was acknowledged, then or since,
