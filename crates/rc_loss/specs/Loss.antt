@@ -1,5 +1,5 @@
 -- What is lost: a segment that was placed on all its members, each of whose hosts has dropped its replica since.
-use Rattle.std.specs.Prelude.{◌≡◌, ◌⊎◌, ℕ, ◌≤◌, Bool, true, false, List, [], ◌∷◌, ◌++◌, length, Some}
+use Rattle.std.specs.Prelude.{◌≡◌, ◌⊎◌, ℕ, ◌≤◌, Bool, true, false, not, ◌&&◌, List, [], ◌∷◌, ◌++◌, length, Some}
 use Rattle.rc_types.specs.declared.ids.ServerId.{ServerId}
 use Rattle.rc_types.specs.declared.rows.Row.{Row}
 use Rattle.rc_types.specs.declared.events.Setup.{Setup}
@@ -9,7 +9,7 @@ use Rattle.rc_types.specs.declared.messages.Message.{Message}
 use Rattle.rc_types.specs.declared.messages.Body.TheVariants.{Stored, Ready, Replicas}
 use Rattle.rc_model.specs.Messages.{between, to_coordinator}
 use Rattle.rc_model.specs.Replica.{Replica}
-use Rattle.rc_model.specs.Backup.{replica_of, is_kept, row_of_replica, rows_of_replicas, stays_unnamed}
+use Rattle.rc_model.specs.Backup.{replica_of, is_kept, row_of_replica, rows_of_replicas}
 use Rattle.rc_model.specs.Config.{Config, all_placed}
 use Rattle.rc_model.specs.Log.{has_segment}
 use Rattle.rc_model.specs.Master.{ids_of}
@@ -51,7 +51,7 @@ pub record WasDropped (setup : Setup) (events : List Event) (x m : ServerId) (s 
   pub possible : is_possible (replay setup before) (Start x.index kept) ≡ true
   pub replica : Replica
   pub had : replica_of s (held_after setup before x.index m).replicas ≡ Some replica
-  pub goes : stays_unnamed setup.lasting replica ≡ false
+  pub goes : not setup.lasting && replica.closed ≡ false
   pub since : e ≤ replica.epoch
   pub unnamed : is_kept kept m s ≡ false
 

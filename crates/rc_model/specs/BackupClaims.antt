@@ -1,5 +1,5 @@
 -- What a backup should obey.
-use Rattle.std.specs.Prelude.{◌≡◌, ℕ, Bool, true, false, ◌||◌, ◌&&◌, nat_eq, List, [], ◌++◌, length}
+use Rattle.std.specs.Prelude.{◌≡◌, ℕ, Bool, true, false, not, ◌||◌, ◌&&◌, nat_eq, List, [], ◌++◌, length}
 use Rattle.std.specs.Prelude.{Option, Some, None}
 use Rattle.rc_types.specs.declared.ids.ServerId.{ServerId}
 use Rattle.rc_types.specs.declared.ids.Addr.{Addr}
@@ -10,7 +10,7 @@ use Rattle.rc_types.specs.declared.messages.Message.{Message}
 use Rattle.rc_types.specs.declared.messages.Body.TheVariants.{Place, Append, Close, Free, Gather, Fetch, Replicas, Data}
 use Rattle.rc_model.specs.Replica.{Replica}
 use Rattle.rc_model.specs.Backup.{Backup, replica_of, replica_after, is_freed, stores, frees, backup_takes, is_kept}
-use Rattle.rc_model.specs.Backup.{restart, stays_unnamed}
+use Rattle.rc_model.specs.Backup.{restart}
 use Rattle.rc_model.specs.Headline.{In}
 
 -- One replica
@@ -116,12 +116,12 @@ FreedStoresNothing = (backup : Backup) (master : ServerId) (seg : ℕ) (body : B
 
 -- A restart
 
--- a replica that need not be named stays as it is, and so does one that is named
+-- a closed replica stays as it is, unless the setup is lasting, and so does one that is named
 abbrev pub RestartKeeps : Type 0
 RestartKeeps = (lasting : Bool) (own : ServerId) (kept : List (ServerId × ℕ)) (backup : Backup) (master : ServerId)
     (seg : ℕ) (replica : Replica) →
     replica_of seg (backup.held master).replicas ≡ Some replica →
-    stays_unnamed lasting replica || is_kept kept master seg ≡ true →
+    (not lasting && replica.closed) || is_kept kept master seg ≡ true →
     replica_of seg ((restart lasting own kept backup).held master).replicas ≡ Some replica
 
 -- there are no others
@@ -129,7 +129,7 @@ abbrev pub RestartKeepsNoOther : Type 0
 RestartKeepsNoOther = (lasting : Bool) (own : ServerId) (kept : List (ServerId × ℕ)) (backup : Backup)
     (master : ServerId) (seg : ℕ) (replica : Replica) →
     replica_of seg ((restart lasting own kept backup).held master).replicas ≡ Some replica →
-    stays_unnamed lasting replica || is_kept kept master seg ≡ true
+    (not lasting && replica.closed) || is_kept kept master seg ≡ true
 
 -- nobody is fenced, and nothing is marked freed
 abbrev pub RestartFencesNobody : Type 0
