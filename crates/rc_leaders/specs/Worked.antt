@@ -16,7 +16,7 @@ use Rattle.rc_leaders.specs.Leaders.{Deletes, Sends, Leader, Cluster, new_cluste
 use Rattle.rc_leaders.specs.Claims.{cluster_of, happenings_of}
 
 abbrev pub setup : Setup
-setup = record { factor = 1; segment = 8; free = false; factors = [] }
+setup = record { factor = 1; segment = 8; free = false; lasting = false; factors = [] }
 
 abbrev pub id : ℕ → ServerId
 id index = record { index = index; generation = 1 }
