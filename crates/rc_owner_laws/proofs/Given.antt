@@ -1,5 +1,5 @@
 -- No version is given twice, where the setup is lasting.
-use Rattle.std.proofs.Common.{◌≡◌, ℕ, ◌+◌, ◌*◌, ◌<◌, true, List, Some, slice_get, refl, sym, ap, ◌∙◌, arith}
+use Rattle.std.proofs.Common.{◌≡◌, ℕ, ◌+◌, ◌*◌, ◌<◌, ◌≤◌, true, List, Some, slice_get, refl, sym, ap, ◌∙◌, arith}
 use Rattle.rc_model.specs.Model.{ServerId, Entry, Setup, Event, Grant, LogPlace, place_version, places_of, replay, In}
 use Rattle.rc_step_laws.specs.All.{log_in}
 use Rattle.rc_log_laws.proofs.SetUp.{masters-last}
