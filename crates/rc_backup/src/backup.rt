@@ -1,6 +1,6 @@
 //! The backup.
 
-ghost use Rattle.std.specs.Prelude.{◌≡◌, ◌++◌, true, None, OnOk, OnErr, IfOk};
+ghost use Rattle.std.specs.Prelude.{◌≡◌, ◌++◌, true, false, None, OnOk, OnErr, IfOk};
 ghost use Rattle.std.specs.BTreeMap.{insert_entry};
 ghost use Rattle.rc_model.specs.Backup.{nothing_held, with_held, new_backup, stores, frees, fences, backup_takes};
 ghost use Rattle.rc_model.specs.Backup.{restart, open_names, rows_of_replicas, answers_fetch, data_of};

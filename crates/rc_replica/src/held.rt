@@ -1,6 +1,6 @@
 //! What a backup keeps of one master: whether it is fenced, its replicas, and its freed segments.
 
-ghost use Rattle.std.specs.Prelude.{◌≡◌, ◌++◌, true, Some, None, OnOk, OnErr, IfOk};
+ghost use Rattle.std.specs.Prelude.{◌≡◌, ◌++◌, true, false, Some, None, OnOk, OnErr, IfOk};
 ghost use Rattle.rc_model.specs.Backup.{nothing_held, is_refused, is_kept, restarted, rows_of_replicas, open_names_of};
 ghost use Rattle.rc_replica.specs.HeldAfter.{next_replica, with_replica, stored_after, held_without, fetched};
 

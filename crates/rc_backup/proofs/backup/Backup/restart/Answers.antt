@@ -1,4 +1,4 @@
-use Rattle.std.proofs.Common.{◌≡◌, refl, rules}
+use Rattle.std.proofs.Common.{◌≡◌, false, refl, rules}
 use Rattle.rc_model.specs.Backup.{restarted}
 use Rattle.rc_replica.proofs.MapLemmas.{with_each-from_retain_pairs}
 use Rattle.rc_backup.proofs.TableLemmas.{table_restarted}

@@ -1,4 +1,4 @@
-use Rattle.std.proofs.Common.{◌≡◌, refl, rules}
+use Rattle.std.proofs.Common.{◌≡◌, false, refl, rules}
 use Rattle.std.proofs.lemmas.Map.Entries.{filter_from_retain_pairs}
 use Rattle.rc_model.specs.Backup.{stays}
 use Rattle.rc_replica.proofs.HeldLemmas.{held_restarted}
