@@ -232,161 +232,45 @@ pub enum Body {
     },
 }
 
+/// A copy of a body: of each kind the fields that are plain, then those that are copied with memory.
+macro_rules! copied_body {
+    ($body:expr, $alloc:expr; $($kind:ident { $($plain:ident),*; $($deep:ident),* })*) => {
+        match $body {
+            $(Body::$kind { $($plain,)* $($deep,)* } => Body::$kind {
+                $($plain: *$plain,)*
+                $($deep: $deep.try_clone($alloc)?,)*
+            },)*
+        }
+    };
+}
+
 impl TryClone for Body {
     fn try_clone(&self, alloc: Global) -> Result<Body, AllocError> {
-        Ok(match self {
-            Body::Write { table, key, value } => Body::Write {
-                table: *table,
-                key: *key,
-                value: value.try_clone(alloc)?,
-            },
-            Body::Read { table, key } => Body::Read {
-                table: *table,
-                key: *key,
-            },
-            Body::WriteOk {
-                seg,
-                offset,
-                term,
-                table,
-                key,
-                version,
-            } => Body::WriteOk {
-                seg: *seg,
-                offset: *offset,
-                term: *term,
-                table: *table,
-                key: *key,
-                version: *version,
-            },
-            Body::ReadOk {
-                table,
-                key,
-                version,
-                value,
-            } => Body::ReadOk {
-                table: *table,
-                key: *key,
-                version: *version,
-                value: value.try_clone(alloc)?,
-            },
-            Body::Refused { code } => Body::Refused { code: *code },
-            Body::Place {
-                seg,
-                epoch,
-                digest,
-                entries,
-                closed,
-            } => Body::Place {
-                seg: *seg,
-                epoch: *epoch,
-                digest: digest.try_clone(alloc)?,
-                entries: entries.try_clone(alloc)?,
-                closed: *closed,
-            },
-            Body::Append {
-                seg,
-                offset,
-                entries,
-            } => Body::Append {
-                seg: *seg,
-                offset: *offset,
-                entries: entries.try_clone(alloc)?,
-            },
-            Body::Close { seg, len } => Body::Close {
-                seg: *seg,
-                len: *len,
-            },
-            Body::Stored {
-                seg,
-                epoch,
-                len,
-                closed,
-            } => Body::Stored {
-                seg: *seg,
-                epoch: *epoch,
-                len: *len,
-                closed: *closed,
-            },
-            Body::Commit { seg, epoch } => Body::Commit {
-                seg: *seg,
-                epoch: *epoch,
-            },
-            Body::CommitOk { seg, epoch } => Body::CommitOk {
-                seg: *seg,
-                epoch: *epoch,
-            },
-            Body::Enlist => Body::Enlist,
-            Body::Ready => Body::Ready,
-            Body::List { version, rows } => Body::List {
-                version: *version,
-                rows: rows.try_clone(alloc)?,
-            },
-            Body::Gather { attempt, master } => Body::Gather {
-                attempt: *attempt,
-                master: *master,
-            },
-            Body::Replicas { attempt, rows } => Body::Replicas {
-                attempt: *attempt,
-                rows: rows.try_clone(alloc)?,
-            },
-            Body::Plan {
-                attempt,
-                master,
-                head,
-                rows,
-                parts,
-            } => Body::Plan {
-                attempt: *attempt,
-                master: *master,
-                head: *head,
-                rows: rows.try_clone(alloc)?,
-                parts: parts.try_clone(alloc)?,
-            },
-            Body::Fetch {
-                attempt,
-                master,
-                seg,
-                len,
-                part,
-            } => Body::Fetch {
-                attempt: *attempt,
-                master: *master,
-                seg: *seg,
-                len: *len,
-                part: *part,
-            },
-            Body::Data {
-                attempt,
-                seg,
-                term,
-                entries,
-            } => Body::Data {
-                attempt: *attempt,
-                seg: *seg,
-                term: *term,
-                entries: entries.try_clone(alloc)?,
-            },
-            Body::Recovered { attempt, term } => Body::Recovered {
-                attempt: *attempt,
-                term: *term,
-            },
-            Body::Own {
-                range,
-                term,
-                previous,
-                attempt,
-            } => Body::Own {
-                range: *range,
-                term: *term,
-                previous: *previous,
-                attempt: *attempt,
-            },
-            Body::SplitOk { table, at } => Body::SplitOk {
-                table: *table,
-                at: *at,
-            },
-            Body::Free { seg } => Body::Free { seg: *seg },
+        Ok(copied_body! {
+            self, alloc;
+            Write { table, key; value }
+            Read { table, key;  }
+            WriteOk { seg, offset, term, table, key, version;  }
+            ReadOk { table, key, version; value }
+            Refused { code;  }
+            Place { seg, epoch, closed; digest, entries }
+            Append { seg, offset; entries }
+            Close { seg, len;  }
+            Stored { seg, epoch, len, closed;  }
+            Commit { seg, epoch;  }
+            CommitOk { seg, epoch;  }
+            Enlist { ;  }
+            Ready { ;  }
+            List { version; rows }
+            Gather { attempt, master;  }
+            Replicas { attempt; rows }
+            Plan { attempt, master, head; rows, parts }
+            Fetch { attempt, master, seg, len, part;  }
+            Data { attempt, seg, term; entries }
+            Recovered { attempt, term;  }
+            Own { range, term, previous, attempt;  }
+            SplitOk { table, at;  }
+            Free { seg;  }
         })
     }
 }
@@ -442,96 +326,42 @@ pub enum Kind {
     Free,
 }
 
+/// The kinds in order, in one list: every kind, the kind of a body, the name of a kind.
+macro_rules! each_kind {
+    ($($what:tt)*) => {
+        one_of_kinds! {
+            ($($what)*)
+            Write Read WriteOk ReadOk Refused Place Append Close Stored Commit CommitOk Enlist Ready List Gather Replicas
+            Plan Fetch Data Recovered Own SplitOk Free
+        }
+    };
+}
+
+/// What `each_kind` makes of the list.
+macro_rules! one_of_kinds {
+    ((all) $($kind:ident)*) => { [$(Kind::$kind,)*] };
+    ((of $body:expr) $($kind:ident)*) => { match $body { $(Body::$kind { .. } => Kind::$kind,)* } };
+    ((name $it:expr) $($kind:ident)*) => { match $it { $(Kind::$kind => stringify!($kind),)* } };
+}
+
 impl Kind {
     ghost use Rattle.rc_types.specs.Kinds.{kind_of, kind_name, kind_named, kind_number};
 
     /// Every kind.
-    pub const ALL: [Kind; 23] = [
-        Kind::Write,
-        Kind::Read,
-        Kind::WriteOk,
-        Kind::ReadOk,
-        Kind::Refused,
-        Kind::Place,
-        Kind::Append,
-        Kind::Close,
-        Kind::Stored,
-        Kind::Commit,
-        Kind::CommitOk,
-        Kind::Enlist,
-        Kind::Ready,
-        Kind::List,
-        Kind::Gather,
-        Kind::Replicas,
-        Kind::Plan,
-        Kind::Fetch,
-        Kind::Data,
-        Kind::Recovered,
-        Kind::Own,
-        Kind::SplitOk,
-        Kind::Free,
-    ];
+    pub const ALL: [Kind; 23] = each_kind!(all);
 
     /// The kind of this body.
     pub fn of(body: &Body) -> Kind
         ensures { result ≡ kind_of body.now }
     {
-        match body {
-            Body::Write { .. } => Kind::Write,
-            Body::Read { .. } => Kind::Read,
-            Body::WriteOk { .. } => Kind::WriteOk,
-            Body::ReadOk { .. } => Kind::ReadOk,
-            Body::Refused { .. } => Kind::Refused,
-            Body::Place { .. } => Kind::Place,
-            Body::Append { .. } => Kind::Append,
-            Body::Close { .. } => Kind::Close,
-            Body::Stored { .. } => Kind::Stored,
-            Body::Commit { .. } => Kind::Commit,
-            Body::CommitOk { .. } => Kind::CommitOk,
-            Body::Enlist => Kind::Enlist,
-            Body::Ready => Kind::Ready,
-            Body::List { .. } => Kind::List,
-            Body::Gather { .. } => Kind::Gather,
-            Body::Replicas { .. } => Kind::Replicas,
-            Body::Plan { .. } => Kind::Plan,
-            Body::Fetch { .. } => Kind::Fetch,
-            Body::Data { .. } => Kind::Data,
-            Body::Recovered { .. } => Kind::Recovered,
-            Body::Own { .. } => Kind::Own,
-            Body::SplitOk { .. } => Kind::SplitOk,
-            Body::Free { .. } => Kind::Free,
-        }
+        each_kind!(of body)
     }
 
     /// Its name, as scenarios and "Messages" in `docs/PROTOCOL.md` spell it.
     pub fn name(self) -> &'static str
         ensures { result.now ≡ kind_name self }
     {
-        match self {
-            Kind::Write => "Write",
-            Kind::Read => "Read",
-            Kind::WriteOk => "WriteOk",
-            Kind::ReadOk => "ReadOk",
-            Kind::Refused => "Refused",
-            Kind::Place => "Place",
-            Kind::Append => "Append",
-            Kind::Close => "Close",
-            Kind::Stored => "Stored",
-            Kind::Commit => "Commit",
-            Kind::CommitOk => "CommitOk",
-            Kind::Enlist => "Enlist",
-            Kind::Ready => "Ready",
-            Kind::List => "List",
-            Kind::Gather => "Gather",
-            Kind::Replicas => "Replicas",
-            Kind::Plan => "Plan",
-            Kind::Fetch => "Fetch",
-            Kind::Data => "Data",
-            Kind::Recovered => "Recovered",
-            Kind::Own => "Own",
-            Kind::SplitOk => "SplitOk",
-            Kind::Free => "Free",
-        }
+        each_kind!(name self)
     }
 
     /// The kind of this name.
