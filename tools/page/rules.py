@@ -1,7 +1,6 @@
 """What the live page says of the rules: of each message and event its section of PROTOCOL, a law and wrong rules."""
 
 import json
-import re
 from pathlib import Path
 from typing import Any
 
@@ -11,7 +10,6 @@ from .markdown import html, inline, sections
 
 TOP = Path(__file__).resolve().parents[2]
 NAMED = TOP / "page" / "live" / "rules.json"
-LAW = re.compile(r"^\| ([^|]*) \| `([\w:]+)` \|", re.M)
 
 
 class Unknown(ValueError):
@@ -25,8 +23,9 @@ def protocol() -> dict[str, tuple[str, str]]:
 
 
 def laws() -> dict[str, str]:
-    """What each law says, by its path, as the tables of PROMISES have it."""
-    return {path: words for words, path in LAW.findall((TOP / "docs" / "PROMISES-TABLES.md").read_text())}
+    """What each law says, by its path, as the table of promises has it."""
+    lines = (TOP / "docs" / "promises.tsv").read_text().splitlines()
+    return {call: promise for _, promise, call, _ in (line.split("\t") for line in lines[1:])}
 
 
 def book() -> dict[str, Any]:

@@ -1,4 +1,4 @@
-"""What docs/RECIPES.md names of copies: each is there, and none is left out that a search finds."""
+"""What docs/RECIPES.md and docs/copies.tsv name of copies: each is there, and none is left out that a search finds."""
 
 import re
 import unittest
@@ -17,15 +17,15 @@ def recipe(name: str) -> str:
     return (TOP / "docs" / "RECIPES.md").read_text().split(f"\n## {name}\n")[1].split("\n## ")[0]
 
 
-def whole_paths(text: str) -> Iterator[Path]:
-    """The files that a text names from the top on, or from crates/ on."""
-    for path in re.findall(r"`([\w.]+(?:/[\w.]+)+\.\w+)`", text):
-        yield TOP / "crates" / path if path.startswith("rc_") else TOP / path
+def copies() -> Iterator[Path]:
+    """The files that have a copy of a limit."""
+    for line in (TOP / "docs" / "copies.tsv").read_text().splitlines()[1:]:
+        yield TOP / line.split("\t")[1]
 
 
 class Recipes(unittest.TestCase):
     def test_each_copy_of_a_limit_has_it(self) -> None:
-        paths = list(whole_paths(recipe("A limit")))
+        paths = list(copies())
         self.assertGreater(len(paths), 20)
         for path in paths:
             self.assertTrue(LIMIT.search(path.read_text()), path)

@@ -7,13 +7,16 @@ use sevunthi_client::seal::{HEAD, Seal};
 use std::collections::BTreeMap;
 use std::path::Path;
 
-/// The examples of the page by their names: in its blocks of code a line with bytes stands behind two spaces.
+/// The examples of the page by their names: in its blocks of code a line with bytes stands behind two spaces. One space
+/// stands between fields.
 fn examples(page: &str) -> BTreeMap<String, Vec<u8>> {
     let (mut examples, mut name) = (BTreeMap::<String, Vec<u8>>::new(), String::new());
     for line in page.split("```").skip(1).step_by(2).flat_map(str::lines).filter(|line| !line.is_empty()) {
         match line.strip_prefix("  ") {
             Some(bytes) => {
-                let bytes = bytes.split(' ').map(|byte| u8::from_str_radix(byte, 16).expect("it is hexadecimal"));
+                let digits = bytes.replace(' ', "").into_bytes();
+                let byte = |two: &[u8]| u8::from_str_radix(std::str::from_utf8(two).ok()?, 16).ok();
+                let bytes = digits.chunks(2).map(|two| byte(two).expect("it is hexadecimal"));
                 examples.entry(name.clone()).or_default().extend(bytes);
             }
             None => name = line.to_string(),

@@ -3,7 +3,7 @@ pub mod Notes
 pub mod Phases
 pub mod Settling
 pub mod TasksOfParts
-pub mod Versions
+pub mod VersionRoom
 pub mod Answering
 pub mod Quiet
 pub mod Repeating

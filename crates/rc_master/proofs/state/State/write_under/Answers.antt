@@ -1,6 +1,6 @@
 use Rattle.std.proofs.Common.{refl}
 use Rattle.rc_master.proofs.Handing.{notes-handed}
-use Rattle.rc_master.proofs.Versions.{next-fits}
+use Rattle.rc_master.proofs.VersionRoom.{next-fits}
 use Rattle.rc_master.proofs.state.State.write_under.Goals as goal
 
 pub new_entry-requires : goal.new_entry-requires
